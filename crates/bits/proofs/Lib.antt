@@ -1,0 +1,5 @@
+pub mod Bits
+pub mod Laws
+pub mod Lists
+pub mod Loops
+pub mod Stops

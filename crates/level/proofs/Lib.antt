@@ -1,0 +1,5 @@
+pub mod Le
+pub mod Spans
+pub mod Total
+pub mod Levels
+pub mod Whole

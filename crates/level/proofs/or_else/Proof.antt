@@ -1,0 +1,19 @@
+-- `level::or_else` meets its contract: the arm knows which variant `a` is. Assumes nothing.
+use borrow.Author.Needs.{needs}
+use Rattle.level.proofs.or_else.Statement.{statement}
+use Rattle.level.proofs.or_else.Tie as tie
+
+enum-known-a : tie.Need-enum-known-a
+enum-known-a c = search needs
+
+enum-told : tie.Need-enum-told
+enum-told c = search needs
+
+returns : tie.Need-returns
+returns c = rw (c .before .a .given .1)
+
+returns-2 : tie.Need-returns-2
+returns-2 c = search needs
+
+pub or-else-spec : {M : Type 1} → statement M
+or-else-spec = tie.close (tie.spec enum-known-a enum-told returns returns-2)

@@ -1,0 +1,4 @@
+pub mod Consts
+pub mod Levels
+pub mod Order
+pub mod Spans

@@ -1,0 +1,6 @@
+-- The laws that the proofs of this crate, and of those above it, cite.
+pub mod Laws
+pub mod Pack
+pub mod Trip
+pub mod Below
+pub mod Sample

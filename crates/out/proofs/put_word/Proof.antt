@@ -1,0 +1,27 @@
+-- `out::put_word` meets its contract. Assumes nothing.
+use Rattle.out.proofs.Laws.{word-in, word-past}
+use borrow.Author.Needs.{needs}
+use Rattle.out.proofs.put_word.Statement.{statement}
+use Rattle.out.proofs.put_word.Tie as tie
+
+mul-out : tie.Need-mul-out
+mul-out c = search needs
+
+slice-write-out : tie.Need-slice-write-out
+slice-write-out c = search needs
+
+add-result : tie.Need-add-result
+add-result c = search needs
+
+same-length : tie.Need-same-length
+same-length c = search needs
+
+returns : tie.Need-returns
+returns c = let a = c .before .args in word-in (a .out .now) (a .at) (a .w) (c .if1 .taken)
+
+returns-2 : tie.Need-returns-2
+returns-2 c = let a = c .before .args in word-past (a .out .now) (a .at) (a .w) (c .if1 .left)
+
+pub put-word-spec : {M : Type 1} → statement M
+put-word-spec =
+    tie.close (tie.spec mul-out slice-write-out add-result same-length returns returns-2)

@@ -1,0 +1,4 @@
+pub mod Kinds
+pub mod Call
+pub mod Numbers
+pub mod Fields

@@ -1,0 +1,3 @@
+-- The words of a burst: what a list of words says.
+pub mod Words
+pub mod Fine
