@@ -1,0 +1,158 @@
+// Admission (admit of ncs.rs): a known boat keeps its slot, an unknown one takes the lowest free slot.
+ghost use mathlib.Core.Path.{_≡_};
+ghost use Prim.Native.Nat.{_%_};
+ghost use Rattle.out.specs.Encode.{Wrote};
+ghost use Rattle.net.specs.State.{alsoAck, indexOf};
+ghost use Rattle.net.specs.Net.{Did};
+ghost use Rattle.admit.specs.Admission.{findCall, seatOf, isFull, slotOf, admitEvents, enterAt, admitBy, leadsTo, viaFor};
+use bits::Found;
+use net::Station;
+
+// Where a boat with some call sits, or would sit.
+pub enum Seat {
+    Known(u8),
+    Free(u8),
+    Full,
+}
+
+fn low(i: usize) -> u8
+    ensures { λ r. ⌜ r ≡ i % 256 ⌝ }
+{
+    (i % 256) as u8
+}
+
+// The least slot whose member has the call with this key.
+fn find_call(s: Station, key: u64) -> Found
+    ensures { λ r. ⌜ r ≡ findCall s key ⌝ }
+{
+    let mut i: usize = 0;
+    while i < 62 {
+        let m = s.members[i];
+        let call = m.call;
+        if bits::has(s.used, i) & (wire::calls::key_of(call) == key) {
+            return Found::At(i);
+        }
+        i += 1;
+    }
+    Found::Nothing
+}
+
+pub fn seat_of(s: Station, call: [u8; 7]) -> Seat
+    ensures { λ r. ⌜ r ≡ seatOf s call ⌝ }
+{
+    match find_call(s, wire::calls::key_of(call)) {
+        Found::At(i) => Seat::Known(low(i)),
+        Found::Nothing => match bits::lowest_free(s.used, 62) {
+            Found::At(i) => Seat::Free(low(i)),
+            Found::Nothing => Seat::Full,
+        },
+    }
+}
+
+pub fn is_full(seat: Seat) -> bool
+    ensures { λ r. ⌜ r ≡ isFull seat ⌝ }
+{
+    match seat {
+        Seat::Known(_) => false,
+        Seat::Free(_) => false,
+        Seat::Full => true,
+    }
+}
+
+// The slot of a seat; 255 for none.
+pub fn slot_of(seat: Seat) -> u8
+    ensures { λ r. ⌜ r ≡ slotOf seat ⌝ }
+{
+    match seat {
+        Seat::Known(i) => i,
+        Seat::Free(i) => i,
+        Seat::Full => 255,
+    }
+}
+
+// Events 4, where there is a relay, and 1.
+fn admit_events(o: &mut [u32], at: usize, slot: u8, via: u8) -> usize
+    ensures { λ r. ⌜ Wrote (now (o .entry)) at (admitEvents slot via) (now (o .exit)) r ⌝ }
+{
+    let direct = via == 63;
+    if direct {
+        return out::put_event(o, at, 1, slot as usize, via);
+    }
+    let next = out::put_event(o, at, 4, slot as usize, via);
+    out::put_event(o, next, 1, slot as usize, via)
+}
+
+// The boat enters at a free slot.
+fn enter(mut s: Station, slot: u8, call: [u8; 7], via: u8, time: f64) -> Station
+    ensures { λ r. ⌜ r ≡ enterAt s slot call via time ⌝ }
+{
+    let i = net::index(slot);
+    let m = roster::new_member(call, via, time);
+    s.members[i] = m;
+    s.used = bits::with(s.used, i);
+    let acks = bits::with(s.round.toack, i);
+    s.round.toack = acks;
+    s
+}
+
+fn known(mut s: Station, slot: u8) -> Station
+    ensures { λ r. ⌜ r ≡ alsoAck s (indexOf slot) ⌝ }
+{
+    let acks = bits::with(s.round.toack, net::index(slot));
+    s.round.toack = acks;
+    s
+}
+
+// The boat takes its seat; via is the relay of a newcomer, 63 for none.
+pub fn admit(
+    s: Station,
+    seat: Seat,
+    call: [u8; 7],
+    via: u8,
+    time: f64,
+    o: &mut [u32],
+    at: &mut usize,
+) -> Station
+    ensures { λ r. ⌜ Did (admitBy seat s call via time) r (now (o .entry)) (now (at .entry)) (now (o .exit)) (now (at .exit)) ⌝ }
+{
+    match seat {
+        Seat::Known(i) => known(s, i),
+        Seat::Free(i) => {
+            *at = admit_events(o, *at, i, via);
+            enter(s, i, call, via, time)
+        }
+        Seat::Full => s,
+    }
+}
+
+// Whether the relays from slot `from` on lead to slot `to`.
+fn leads_to(s: Station, from: u8, to: u8) -> bool
+    ensures { λ r. ⌜ r ≡ leadsTo 62 s from to ⌝ }
+{
+    let mut at = from;
+    let mut n: usize = 0;
+    while n < 62 {
+        if at == to {
+            return true;
+        }
+        if 62 <= at {
+            return false;
+        }
+        let i = net::index(at);
+        let m = s.members[i];
+        at = m.via;
+        n += 1;
+    }
+    false
+}
+
+// The relay of a newcomer at this seat: one that leads back to its own slot is not written.
+pub fn via_for(s: Station, seat: Seat, via: u8) -> u8
+    ensures { λ r. ⌜ r ≡ viaFor s seat via ⌝ }
+{
+    if leads_to(s, via, slot_of(seat)) {
+        63
+    } else {
+        via
+    }
+}

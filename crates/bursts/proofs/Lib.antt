@@ -1,0 +1,6 @@
+pub mod Masks
+pub mod Filling
+pub mod Saying
+pub mod Moves
+pub mod Levels
+pub mod Listing

@@ -1,0 +1,132 @@
+-- `poll_burst`, `acks_burst`, `beacon` and `rx_list_burst` of ncs.rs.
+use mathlib.Core.Path.{_≡_, refl}
+use Prim.Native.Nat.{ℕ, _+_, _*_, _/_, _%_}
+use mathlib.Core.Bool.{Bool, false, not, cond, _&&_, _||_}
+use mathlib.Core.List.{List, [], _∷_, _++_}
+use lib.Dec.{eqb}
+use lib.ListN.{length, getD, set}
+use lib.IntN.{pos}
+use lib.Ieee.{Float, nan, binary64, ofInt}
+use Rattle.bits.specs.Loop.{fold}
+use Rattle.bits.specs.Mask.{hasBit, bothOf, eitherOf}
+use Rattle.level.specs.Consts.{nought}
+use Rattle.wire.specs.Call.{packCall}
+use Rattle.wire.specs.Kinds.{kPoll, kRelay, cBeacon, cAcks, cTree, cRxlist}
+use Rattle.out.specs.Encode.{headWord, waveWord, ctrlWords, chunkWords}
+use Rattle.roster.specs.declared.Member.{Member}
+use Rattle.roster.specs.Members.{isNews, toldNow}
+use Rattle.net.specs.declared.Station.{Station}
+use Rattle.net.specs.declared.Settings.{Settings}
+use Rattle.net.specs.declared.Turn.the-variants.{Sending}
+use Rattle.net.specs.State.{withWait, withRound, withMembers, withToack, withTreenews, withRxdirty, withBeacon, oneList}
+use Rattle.net.specs.Net.{plus, times, waitOf, levelIn, downLevel, slotLen, Said, said}
+use Rattle.bursts.specs.Rows.{seated, leastOf, ackRows, treeRows, listRows, anyHoles, leastReach, leastDirect}
+
+-- the head of a burst, and of one without frames
+abbrev pub headWords : ℕ → ℕ → ℕ → ℕ → List ℕ
+headWords code hi extra level = headWord code hi extra ∷ waveWord level ∷ []
+
+abbrev pub tinyWords : ℕ → ℕ → ℕ → List ℕ
+tinyWords kind extra level = headWords 62 kind extra level
+
+-- the station waits for the end of a sending
+abbrev pub sends : Station → Station
+sends s = withWait s (waitOf Sending (s .wait .deadline))
+
+-- ---- poll_burst
+
+-- K_POLL slot + 64 cap + 1,024 burst; K_RELAY slot + 64 source + 4,096 cap; caps above 15 are sent as 15
+abbrev pub pollExtra : ℕ → ℕ → ℕ → ℕ → ℕ
+pollExtra slot relayfor cap burst =
+    cond (eqb relayfor 63) (slot % 64 + 64 * leastOf cap 15 + 1024 * (burst % 4)) (slot % 64 + 64 * (relayfor % 64) + 4096 * leastOf cap 15)
+
+abbrev pub pollKind : ℕ → ℕ
+pollKind relayfor = cond (eqb relayfor 63) kPoll kRelay
+
+abbrev pub pollLevel : Settings → Member → Bool → ℕ
+pollLevel g m robust = cond robust 0 (downLevel g m)
+
+-- the poll of a slot, whose member is m where there is one; robust: at the floor
+unfoldable pub pollBurst : Settings → Bool → Member → ℕ → ℕ → Bool → List ℕ
+pollBurst g here m slot relayfor robust =
+    cond here
+    (tinyWords (pollKind relayfor) (pollExtra slot relayfor (levelIn g (m .snrup)) (m .burst)) (pollLevel g m robust))
+    (tinyWords (pollKind relayfor) (pollExtra slot relayfor 0 0) 0)
+
+-- P extra: poll slot 5, cap 3, burst 2; relay 5 for 9, cap 3
+pub p-polls : (pollExtra 5 63 3 2 ≡ 2245) × (pollExtra 5 9 3 2 ≡ 12869)
+p-polls = (refl, refl)
+
+-- ---- acks_burst
+
+-- those to acknowledge, and with them those whose relay is news
+abbrev pub acked : Station → ℕ
+acked s = bothOf (s .round .toack) (s .used)
+
+abbrev pub movedIn : Station → ℕ
+movedIn s = bothOf (s .round .treenews) (s .used)
+
+abbrev pub ackedOrMoved : Station → ℕ
+ackedOrMoved s = eitherOf (acked s) (movedIn s)
+
+-- C_ACKS frames of three entries, then C_TREE frames of ten pairs, at the level that the weakest of them can hear
+abbrev pub acksWords : Station → List ℕ
+acksWords s =
+    headWords 0 0 0 (leastReach s (ackedOrMoved s))
+    ++ (chunkWords cAcks 18 (ackRows s (acked s) 62) ++ chunkWords cTree 20 (treeRows s (ackedOrMoved s) (movedIn s)))
+
+unfoldable pub acksBurst : Station → Said
+acksBurst s = said (withRound (sends s) (withTreenews (withToack (s .round) 0) 0)) (acksWords s)
+
+-- ---- beacon
+
+abbrev pub nameBytes : List ℕ → List ℕ
+nameBytes n = getD n 0 0 ∷ getD n 1 0 ∷ getD n 2 0 ∷ getD n 3 0 ∷ getD n 4 0 ∷ getD n 5 0 ∷ []
+
+-- the station's packed call, the net's name, open, the window's slots
+abbrev pub beaconPayload : Settings → List ℕ
+beaconPayload g = (cBeacon ∷ packCall (g .call)) ++ (nameBytes (g .name) ++ (1 ∷ g .windowslots ∷ []))
+
+-- who the beacon lists: the nine lowest members
+unfoldable pub beaconRows : Station → List ℕ
+beaconRows s = ackRows s (s .used) 9
+
+abbrev pub beaconWords : Station → List ℕ
+beaconWords s =
+    headWords 0 0 0 (s .settings .beaconlevel) ++ (ctrlWords (beaconPayload (s .settings)) ++ chunkWords cAcks 18 (beaconRows s))
+
+-- now + dur + turnaround + window_slots * slot_len + 0.0 (no chorus) + reply_slack, of a beacon with this many frames after the first
+abbrev pub windowEnd : Settings → Float → ℕ → Float
+windowEnd g now acks =
+    plus (plus (plus (plus (plus now (getD (g .durations) (acks % 4) nan)) (g .turnaround)) (times (ofInt binary64 (pos (g .windowslots))) (slotLen g))) nought) (g .replyslack)
+
+unfoldable pub beaconOf : Station → Float → Said
+beaconOf s now =
+    said (withRound (sends s) (withBeacon (s .round) 0 (windowEnd (s .settings) now ((length (beaconRows s) + 17) / 18)) (plus now (s .settings .beaconevery))))
+    (beaconWords s)
+
+-- ---- rx_list_burst
+
+-- what the list would say is noted
+abbrev pub tellOf : Bool → Member → Member
+tellOf here m = cond (here && isNews m) (toldNow m) m
+
+abbrev pub tellAt : ℕ → Station → Station
+tellAt i s = withMembers s (set (s .members) i (tellOf (hasBit (s .used) i) (seated s i)))
+
+unfoldable pub tellAll : Station → Station
+tellAll s = fold tellAt 62 0 s
+
+-- a list is sent: relayed traffic or a hole is news, and some entry changed
+unfoldable pub listSent : Station → Bool
+listSent s = not (not (s .round .rxdirty || anyHoles s) || eqb (length (listRows s)) 0)
+
+abbrev pub listTold : Station → Station
+listTold s = tellAll (withRound s (withRxdirty (s .round) false))
+
+abbrev pub listWords : Station → List ℕ
+listWords s = headWords 0 0 0 (leastDirect s) ++ chunkWords cRxlist 21 (listRows s)
+
+-- C_RXLIST frames of seven entries, where there is news; what it would tell is noted all the same
+unfoldable pub rxListBurst : Station → Said
+rxListBurst s = cond (listSent s) (said (oneList (sends (listTold s))) (listWords s)) (said (listTold s) [])

@@ -1,0 +1,112 @@
+-- `reroute` of ncs.rs; and what `relayer_for` and `relay_src_for` go by: who could relay, who needs a relayer, whom each has tried.
+use Prim.Native.Nat.{ℕ}
+use mathlib.Core.Bool.{Bool, not, cond, _&&_, _||_}
+use mathlib.Core.List.{List, [], _∷_, _++_}
+use lib.Dec.{eqb, leb}
+use lib.ListN.{getD, set, replicate}
+use lib.Ieee.{Float, nan, binary32, add}
+use Rattle.bits.specs.Loop.{fold}
+use Rattle.bits.specs.Mask.{hasBit, withoutBit}
+use Rattle.level.specs.declared.Level.{Level}
+use Rattle.level.specs.declared.Level.the-variants.{Unheard, Decibels}
+use Rattle.out.specs.Encode.{eventWord}
+use Rattle.roster.specs.declared.Member.{Member}
+use Rattle.roster.specs.Members.{promotedAt, reroutedTo}
+use Rattle.roster.specs.Relays.{couldRelay, needsRelay, bestHigh, relaySrcFor, promotableAt, isLeaf}
+use Rattle.net.specs.declared.Station.{Station}
+use Rattle.net.specs.State.{withMembers, memberAt, alsoNews}
+use Rattle.net.specs.Net.{isMember, Said, said}
+use Rattle.bursts.specs.declared.reroute.Surveyed.{Surveyed}
+use Rattle.bursts.specs.Rows.{seated, maskWhere}
+
+-- ---- what one look over the members finds
+
+abbrev pub ableAt : Station → ℕ → Bool
+ableAt s i = hasBit (s .used) i && couldRelay (seated s i)
+
+abbrev pub ableOf : Station → ℕ
+ableOf s = maskWhere (ableAt s)
+
+abbrev pub needsAt : Station → ℕ → Bool
+needsAt s i = hasBit (s .used) i && needsRelay (seated s i)
+
+abbrev pub needsOf : Station → ℕ
+needsOf s = maskWhere (needsAt s)
+
+-- the relayers tried for each slot
+abbrev pub triedAt : Station → ℕ → List ℕ → List ℕ
+triedAt s i ts = set ts i (seated s i .tried)
+
+unfoldable pub triedOf : Station → List ℕ
+triedOf s = fold (triedAt s) 62 0 (replicate 62 0)
+
+-- `relay_src_for(slot)`; 63 for none
+unfoldable pub sourceFor : Station → ℕ → ℕ
+sourceFor s slot = relaySrcFor (s .hears) (needsOf s) (ableOf s) (triedOf s) slot (s .settings .relaysnr)
+
+abbrev pub surveyOf : Station → Surveyed
+surveyOf s = record { able = ableOf s; needs = needsOf s; tried = triedOf s }
+
+-- ---- promotion, for all at once
+
+-- thresholds[0] + margin
+abbrev pub floorOf : Station → Float
+floorOf s = add binary32 (getD (s .settings .thresholds) 0 nan) (s .settings .margin)
+
+-- a member that was heard directly at a level, if any
+abbrev pub promotedBy : Level → Member → Member
+promotedBy Unheard m = m
+promotedBy (Decibels snr) m = promotedAt m snr
+
+abbrev pub promoteWith : Level → ℕ → Said → Said
+promoteWith Unheard i x = x
+promoteWith (Decibels snr) i x =
+    said (alsoNews (withMembers (x .station) (set (x .station .members) i (promotedAt (seated (x .station) i) snr))) i)
+    (x .words ++ (eventWord 5 i 63 ∷ []))
+
+unfoldable pub promoteAt : Float → ℕ → Said → Said
+promoteAt floor i x = promoteWith (promotableAt (hasBit (x .station .used) i) (seated (x .station) i) floor) i x
+
+unfoldable pub promoteAll : Station → Said
+promoteAll s = fold (promoteAt (floorOf s)) 62 0 (said s [])
+
+-- ---- the leaves by slot, each seeing the earlier ones' changes
+
+-- leaves, and members never heard directly that keep missing their polls
+abbrev pub leafAt : Station → ℕ → Bool
+leafAt s i = hasBit (s .used) i && isLeaf (seated s i) (s .settings .misslimit)
+
+abbrev pub leavesOf : Station → ℕ
+leavesOf s = maskWhere (leafAt s)
+
+-- the relay is no member or misses too often, or the leaf does
+abbrev pub isDown : ℕ → Member → Member → ℕ → Bool
+isDown used m p limit = not (isMember used (m .via)) || leb limit (p .missed) || leb limit (m .missed)
+
+-- the best that could relay for slot c as the roster now is, c itself and its relay apart; 63 for nobody
+abbrev pub relayFrom : List ℕ → ℕ → ℕ → ℕ → Float → ℕ
+relayFrom hears able via c floor = bestHigh hears (withoutBit (withoutBit able c) via) c floor
+
+abbrev pub newRelay : Station → ℕ → ℕ
+newRelay s c = relayFrom (s .hears) (ableOf s) (seated s c .via) c (s .settings .relaysnr)
+
+abbrev pub moveTo : ℕ → ℕ → Said → Said
+moveTo r c x =
+    cond (eqb r 63) x
+    (said (alsoNews (withMembers (x .station) (set (x .station .members) c (reroutedTo (seated (x .station) c) r))) c)
+    (x .words ++ (eventWord 5 c r ∷ [])))
+
+-- slot c is one of the leaves, and to be moved
+abbrev pub mustMove : ℕ → Station → ℕ → Bool
+mustMove leaves s c =
+    hasBit leaves c && isDown (s .used) (seated s c) (memberAt s (seated s c .via)) (s .settings .misslimit)
+
+unfoldable pub moveAt : ℕ → ℕ → Said → Said
+moveAt leaves c x = cond (mustMove leaves (x .station) c) (moveTo (newRelay (x .station) c) c x) x
+
+-- promotion first; the leaves are those after it
+unfoldable pub moveAll : Said → Said
+moveAll x = fold (moveAt (leavesOf (x .station))) 62 0 x
+
+unfoldable pub rerouteOf : Station → Said
+rerouteOf s = moveAll (promoteAll s)

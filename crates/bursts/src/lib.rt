@@ -1,0 +1,193 @@
+// The bursts of the next decision (poll_burst, acks_burst, beacon, rx_list_burst of ncs.rs).
+ghost use mathlib.Core.Path.{_≡_};
+ghost use mathlib.Core.List.{[], _∷_, _++_};
+ghost use Prim.Native.Nat.{_-_};
+ghost use lib.ListN.{replicate, take};
+ghost use Rattle.out.specs.Encode.{Wrote};
+ghost use Rattle.net.specs.Net.{Did};
+ghost use Rattle.bursts.specs.Bursts.{pollExtra, pollKind, pollLevel, pollBurst, acksBurst, beaconPayload, windowEnd, beaconOf, tellOf, tellAll, rxListBurst};
+use net::Settings;
+use net::Station;
+use roster::Member;
+
+pub mod reroute;
+pub mod rows;
+
+// ---- poll_burst
+
+// Caps above 15 are sent as 15. K_RELAY where the slot is to forward a source's traffic, else K_POLL.
+fn poll_extra(slot: u8, relayfor: u8, cap: u32, burst: u8) -> u32
+    ensures { λ r. ⌜ r ≡ pollExtra slot relayfor cap burst ⌝ }
+{
+    let c = rows::least(cap, 15);
+    let s = slot as u32 % 64;
+    if relayfor == 63 {
+        return s + 64 * c + 1024 * (burst as u32 % 4);
+    }
+    s + 64 * (relayfor as u32 % 64) + 4096 * c
+}
+
+fn poll_kind(relayfor: u8) -> u32
+    ensures { λ r. ⌜ r ≡ pollKind relayfor ⌝ }
+{
+    if relayfor == 63 { 1 } else { 5 }
+}
+
+fn poll_level(g: Settings, m: Member, robust: bool) -> u32
+    ensures { λ r. ⌜ r ≡ pollLevel g m robust ⌝ }
+{
+    if robust { 0 } else { net::down_level(g, m) }
+}
+
+// The poll of a slot, whose member is m where there is one; robust: at the floor.
+pub fn poll_burst(
+    g: Settings,
+    here: bool,
+    m: Member,
+    slot: u8,
+    relayfor: u8,
+    robust: bool,
+    o: &mut [u32],
+    at: usize,
+) -> usize
+    ensures { λ r. ⌜ Wrote (now (o .entry)) at (pollBurst g here m slot relayfor robust) (now (o .exit)) r ⌝ }
+{
+    let kind = poll_kind(relayfor);
+    if here {
+        let snrup = m.snrup;
+        let cap = net::level_for(g, snrup);
+        let lev = poll_level(g, m, robust);
+        return out::put_tiny(o, at, kind, poll_extra(slot, relayfor, cap, m.burst), lev);
+    }
+    out::put_tiny(o, at, kind, poll_extra(slot, relayfor, 0, 0), 0)
+}
+
+// ---- acks_burst
+
+// Slot assignments, and the relay of every leaf among them or moved.
+pub fn acks_burst(mut s: Station, o: &mut [u32], at: &mut usize) -> Station
+    ensures { λ r. ⌜ Did (acksBurst s) r (now (o .entry)) (now (at .entry)) (now (o .exit)) (now (at .exit)) ⌝ }
+{
+    let known = bits::both(s.round.toack, s.used);
+    let moved = bits::both(s.round.treenews, s.used);
+    let all = bits::either(known, moved);
+    let mut acks = [0u8; 372];
+    let n = rows::ack_rows(s, known, 62, &mut acks);
+    let mut tree = [0u8; 372];
+    let k = rows::tree_rows(s, all, moved, &mut tree);
+    let a = out::put_head(o, *at, 0, 0, 0, rows::least_reach(s, all));
+    let b = out::put_chunks(o, a, 5, &acks, n, 18);
+    *at = out::put_chunks(o, b, 8, &tree, k, 20);
+    let w = s.wait;
+    let v = net::sending(w);
+    s.wait = v;
+    s.round.toack = 0;
+    s.round.treenews = 0;
+    s
+}
+
+// ---- beacon
+
+fn beacon_payload(g: Settings) -> [u8; 32]
+    ensures { λ r. ⌜ r ≡ beaconPayload g ++ replicate 18 0 ⌝ }
+{
+    let call = g.call;
+    let c = wire::calls::pack_call(call);
+    let n = g.name;
+    let mut p = [0u8; 32];
+    p[0] = 1;
+    p[1] = c[0];
+    p[2] = c[1];
+    p[3] = c[2];
+    p[4] = c[3];
+    p[5] = c[4];
+    p[6] = n[0];
+    p[7] = n[1];
+    p[8] = n[2];
+    p[9] = n[3];
+    p[10] = n[4];
+    p[11] = n[5];
+    p[12] = 1;
+    p[13] = g.windowslots;
+    p
+}
+
+// When the check-in window of a beacon of 1 + acks frames ends.
+fn window_end(g: Settings, time: f64, acks: usize) -> f64
+    ensures { λ r. ⌜ r ≡ windowEnd g time acks ⌝ }
+{
+    let k = acks % 4;
+    let d = g.durations;
+    let dur = d[k];
+    time + dur + g.turnaround + g.windowslots as f64 * net::slot_len(g) + 0.0 + g.replyslack
+}
+
+// The beacon opens a check-in window. It lists the nine lowest members.
+pub fn beacon(mut s: Station, time: f64, o: &mut [u32], at: &mut usize) -> Station
+    ensures { λ r. ⌜ Did (beaconOf s time) r (now (o .entry)) (now (at .entry)) (now (o .exit)) (now (at .exit)) ⌝ }
+{
+    let g = s.settings;
+    let mut acks = [0u8; 372];
+    let n = rows::ack_rows(s, s.used, 9, &mut acks);
+    let p = beacon_payload(g);
+    let a = out::put_head(o, *at, 0, 0, 0, g.beaconlevel as u32);
+    let b = out::put_ctrl(o, a, &p, 14);
+    *at = out::put_chunks(o, b, 5, &acks, n, 18);
+    let w = s.wait;
+    let v = net::sending(w);
+    s.wait = v;
+    let soon = time + g.beaconevery;
+    let end = window_end(g, time, (n + 17) / 18);
+    s.round.nextbeacon = soon;
+    s.round.windowend = end;
+    s.round.toack = 0;
+    s
+}
+
+// ---- rx_list_burst
+
+fn tell_at(m: Member, here: bool) -> Member
+    ensures { λ r. ⌜ r ≡ tellOf here m ⌝ }
+{
+    if here & roster::is_news(m) {
+        return roster::told(m);
+    }
+    m
+}
+
+// What the list would say is noted.
+fn tell_all(mut s: Station) -> Station
+    ensures { λ r. ⌜ r ≡ tellAll s ⌝ }
+{
+    let mut i: usize = 0;
+    while i < 62 {
+        let m = s.members[i];
+        let k = tell_at(m, bits::has(s.used, i));
+        s.members[i] = k;
+        i += 1;
+    }
+    s
+}
+
+// The end-of-round received list, when it has news; what it would tell is noted all the same.
+pub fn rx_list_burst(mut s: Station, o: &mut [u32], at: &mut usize) -> Station
+    ensures { λ r. ⌜ Did (rxListBurst s) r (now (o .entry)) (now (at .entry)) (now (o .exit)) (now (at .exit)) ⌝ }
+{
+    let mut list = [0u8; 372];
+    let n = rows::list_rows(s, &mut list);
+    let news = s.round.rxdirty | rows::any_holes(s);
+    let lev = rows::least_direct(s);
+    s.round.rxdirty = false;
+    s = tell_all(s);
+    if !news | (n == 0) {
+        return s;
+    }
+    let a = out::put_head(o, *at, 0, 0, 0, lev);
+    *at = out::put_chunks(o, a, 6, &list, n, 21);
+    let w = s.wait;
+    let v = net::sending(w);
+    s.wait = v;
+    let lists = bits::one_more(s.totals.rxlists);
+    s.totals.rxlists = lists;
+    s
+}

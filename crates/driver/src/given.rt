@@ -1,0 +1,149 @@
+// The settings: those of `tape`, and the 182 bytes of `drive`.
+use super::number::f32_at;
+use super::number::f64_at;
+use super::number::nan32_at;
+use super::number::nan64_at;
+use super::number::u32_at;
+use config::Given;
+use net::Settings;
+
+// One of the eleven f64 is a NaN's pattern.
+fn has_nan64(p: &[u8; 255]) -> bool {
+    let mut i: usize = 0;
+    while i < 11 {
+        if nan64_at(p, 8 * i) {
+            return true;
+        }
+        i += 1;
+    }
+    false
+}
+
+// One of the nineteen f32 is.
+fn has_nan32(p: &[u8; 255]) -> bool {
+    let mut i: usize = 0;
+    while i < 19 {
+        if nan32_at(p, 88 + 4 * i) {
+            return true;
+        }
+        i += 1;
+    }
+    false
+}
+
+pub fn has_nan(p: &[u8; 255]) -> bool {
+    has_nan64(p) | has_nan32(p)
+}
+
+fn thresholds(p: &[u8; 255]) -> [f32; 17] {
+    let mut t = [0.0f32; 17];
+    let mut i: usize = 0;
+    while i < 17 {
+        t[i] = f32_at(p, 88 + 4 * i);
+        i += 1;
+    }
+    t
+}
+
+fn durations(p: &[u8; 255]) -> [f64; 4] {
+    [f64_at(p, 56), f64_at(p, 64), f64_at(p, 72), f64_at(p, 80)]
+}
+
+pub fn given(p: &[u8; 255]) -> Given {
+    let four = durations(p);
+    let th = thresholds(p);
+    let nobody = [32u8; 7];
+    let name = [p[175], p[176], p[177], p[178], p[179], p[180]];
+    let call = [p[170], p[171], p[172], p[173], p[174]];
+    let g = Settings {
+        turnaround: f64_at(p, 0),
+        maxburst: f64_at(p, 8),
+        replyslack: f64_at(p, 16),
+        detect: f64_at(p, 24),
+        beaconevery: f64_at(p, 32),
+        quickbeacon: f64_at(p, 40),
+        idleroundgap: f64_at(p, 48),
+        durations: four,
+        thresholds: th,
+        margin: f32_at(p, 156),
+        relaysnr: f32_at(p, 160),
+        misslimit: u32_at(p, 164),
+        beaconlevel: p[168],
+        windowslots: p[169],
+        call: nobody,
+        name: name,
+    };
+    Given {
+        settings: g,
+        call: call,
+    }
+}
+
+// How many cells are lent, of the 64 that the program has.
+pub fn lent_cells(p: &[u8; 255]) -> usize {
+    cells_of(p[181])
+}
+
+fn cells_of(n: u8) -> usize {
+    if n < 64 { n as usize } else { 64 }
+}
+
+// A station for a first start.
+pub fn blank() -> net::Station {
+    net::new(config::settings_of(tape_settings()), 0)
+}
+
+// -20 + 2 * level.
+fn ladder() -> [f32; 17] {
+    [
+        -20.0,
+        -18.0,
+        -16.0,
+        -14.0,
+        -12.0,
+        -10.0,
+        -8.0,
+        -6.0,
+        -4.0,
+        -2.0,
+        0.0,
+        2.0,
+        4.0,
+        6.0,
+        8.0,
+        10.0,
+        12.0,
+    ]
+}
+
+// The settings of `tape`: call `0`, name `PORT`, the rest of NetConfig::new.
+pub fn tape_settings() -> Given {
+    let thresholds = ladder();
+    let durations = [1.0f64; 4];
+    let nobody = [32u8; 7];
+    let name = [b'P', b'O', b'R', b'T', b' ', b' '];
+    let g = Settings {
+        turnaround: 0.3,
+        maxburst: 8.0,
+        replyslack: 1.0,
+        detect: 1.0,
+        beaconevery: 300.0,
+        quickbeacon: 45.0,
+        idleroundgap: 15.0,
+        durations: durations,
+        thresholds: thresholds,
+        margin: 1.0,
+        relaysnr: -8.0,
+        misslimit: 2,
+        beaconlevel: 0,
+        windowslots: 4,
+        call: nobody,
+        name: name,
+    };
+    // 3010936384, the call `0`.
+    let call = wire::calls::bytes_of(3010936384);
+    Given {
+        settings: g,
+        call: call,
+    }
+}

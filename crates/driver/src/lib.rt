@@ -1,0 +1,181 @@
+// What the programs `tape` (document 01, Words) and `drive` share: words in, the station's entry points, lines out.
+ghost use Prim.Native.Nat.{_<_};
+use action::Action;
+use action::Control;
+use net::Station;
+
+pub mod action;
+pub mod command;
+pub mod dump;
+pub mod given;
+pub mod number;
+pub mod print;
+
+fn wide(x: u8) -> u32
+    ensures { λ r. ⌜ r < 256 ⌝ }
+{
+    x as u32
+}
+
+// Word i of b, highest byte first; 0 past the end.
+fn word_at(b: &[u8], i: usize) -> u32 {
+    if b.len() / 4 <= i {
+        return 0;
+    }
+    let j = 4 * i;
+    wide(b[j]) * 16777216 + wide(b[j + 1]) * 65536 + wide(b[j + 2]) * 256 + wide(b[j + 3])
+}
+
+// Keeps a word of the open command. (A burst has 5,569 words at most; words past the 8,192nd make no malformed one well formed.)
+fn push(c: Control, words: &mut [u32; 8192], w: u32) -> Control {
+    let mut k = c;
+    let n = c.words;
+    if n < 8192 {
+        words[n] = w;
+        k.words = n + 1;
+    }
+    k
+}
+
+fn opened(c: Control, command: u32) -> Control {
+    let mut k = c;
+    k.open = command;
+    k.words = 0;
+    k
+}
+
+// Eighths of a second.
+fn timed(c: Control, w: u32) -> Control {
+    let mut k = c;
+    k.now = (w % 268435456) as f64 / 8.0;
+    k
+}
+
+// Quarter decibels plus 800.
+fn leveled(c: Control, w: u32) -> Control {
+    let mut k = c;
+    let q = (w % 2048) as u16;
+    k.level = (q as f32 - 800.0) / 4.0;
+    k
+}
+
+// What asks nothing of the station.
+fn aside(c: Control, a: Action, w: u32, words: &mut [u32; 8192], t: &mut [u8; 65536]) -> Control {
+    match a {
+        Action::Push => push(c, words, w),
+        Action::Open(n) => opened(c, n),
+        Action::Time => timed(c, w),
+        Action::Level => leveled(c, w),
+        Action::Bad => print::word(t, c, 3),
+        Action::Next => c,
+        Action::Sent => c,
+        Action::Close => c,
+        Action::Read => c,
+        Action::Free => c,
+        Action::Roster => c,
+    }
+}
+
+// The station and the program's own values.
+pub struct Ran {
+    pub station: Station,
+    pub control: Control,
+}
+
+// How many words are run: n, but no more than b has, and one more at the end of all.
+fn end_of(b: &[u8], n: usize, last: bool) -> usize {
+    if b.len() <= n {
+        return b.len();
+    }
+    if last { n + 1 } else { n }
+}
+
+// The end of all words is read as a word of kind 14: it ends an open command, and nothing comes after the clock that it sets.
+fn word_or_end(b: &[u8], i: usize, n: usize) -> u32 {
+    if i < n {
+        return word_at(b, i);
+    }
+    0xe000_0000
+}
+
+// The first n words of b, and the end of all words where `last`.
+pub fn feed(
+    s: Station,
+    c: Control,
+    b: &[u8],
+    n: usize,
+    last: bool,
+    lent: &mut [u8; 409600],
+    words: &mut [u32; 8192],
+    out: &mut [u32; 8192],
+    t: &mut [u8; 65536],
+) -> Ran {
+    let mut u = s;
+    let mut k = c;
+    let end = end_of(b, n, last);
+    let mut i: usize = 0;
+    while i < end {
+        let w = word_or_end(b, i, n);
+        if action::ends(w, k) {
+            let r = command::finish(u, k, words, lent, out);
+            let h = r.answer;
+            u = r.station;
+            k = command::settled(k, words, h, r.mask, t, out);
+        }
+        let a = action::action_of(w, k);
+        if action::is_entry(a) {
+            let r = command::entry(u, a, w, k.now, out);
+            let h = r.answer;
+            u = r.station;
+            k = print::answer(t, k, out, h);
+        } else if action::is_shown(a) {
+            k = command::shown(u, k, a, w, lent, t);
+        } else {
+            k = aside(k, a, w, words, t);
+        }
+        i += 1;
+    }
+    Ran {
+        station: u,
+        control: k,
+    }
+}
+
+// A last word that was cut short is malformed.
+fn cut_short(c: Control, cut: bool, t: &mut [u8; 65536]) -> Control {
+    if cut {
+        return print::word(t, c, 3);
+    }
+    c
+}
+
+// Standard input to its end, at most 2^64 - 1 parts of 65,536 bytes.
+fn read_all(s: Station, c: Control, lent: &mut [u8; 409600], t: &mut [u8; 65536]) -> Control {
+    let mut words = [0u32; 8192];
+    let mut out = [0u32; 8192];
+    let mut b = io::large_buffer();
+    let mut u = s;
+    let mut k = c;
+    let mut left: u64 = 18446744073709551615;
+    while 0 < left {
+        let n = io::read_full(0, &mut b);
+        let r = feed(u, k, &b, n / 4, n < 65536, lent, &mut words, &mut out, t);
+        u = r.station;
+        k = r.control;
+        if n < 65536 {
+            return cut_short(k, n % 4 != 0, t);
+        }
+        left -= 1;
+    }
+    k
+}
+
+pub fn run(drive: bool) {
+    let mut lent = [0u8; 409600];
+    let mut t = [0u8; 65536];
+    let g = given::tape_settings();
+    let r = station::start(given::blank(), g, &lent[..64000]);
+    let s = r.station;
+    let k = read_all(s, action::first_control(drive, false), &mut lent, &mut t);
+    text::flush(&t, k.end);
+}

@@ -1,0 +1,57 @@
+// Refusals and events.
+use super::say;
+
+pub fn refusal(t: &mut [u8; 65536], at: usize, n: u32) -> usize {
+    let a = say::number(t, at, b"refused, ", n);
+    match n {
+        1 => text::put_text(t, a, b": clock out of its span"),
+        2 => text::put_text(t, a, b": level out of its span"),
+        3 => text::put_text(t, a, b": words malformed or out of place"),
+        4 => text::put_text(t, a, b": output too short"),
+        5 => text::put_text(t, a, b": a setting out of its span"),
+        6 => text::put_text(t, a, b": no such cell"),
+        7 => text::put_text(t, a, b": store too short"),
+        8 => text::put_text(t, a, b": no such slot"),
+        9 => text::put_text(t, a, b": closing count above 15"),
+        _ => held(t, a, n),
+    }
+}
+
+// What the station holds.
+fn held(t: &mut [u8; 65536], at: usize, n: u32) -> usize {
+    match n {
+        21 => text::put_text(t, at, b": no member in the slot"),
+        22 => text::put_text(t, at, b": no landed message in the cell"),
+        23 => text::put_text(t, at, b": the net is full"),
+        _ => text::put_text(t, at, b": no refusal of the station's"),
+    }
+}
+
+fn message(t: &mut [u8; 65536], at: usize, w: u32) -> usize {
+    let a = say::number(t, at, b"event: message from slot ", w % 64);
+    let b = say::number(t, a, b" in cell ", w / 64 % 128);
+    let c = say::number(t, b, b", number ", w / 8192 % 256);
+    text::put_text(t, c, b" mod 256")
+}
+
+fn with_relay(t: &mut [u8; 65536], at: usize, s: &[u8], w: u32) -> usize {
+    let a = say::number(t, at, b"event: slot ", w % 64);
+    let b = text::put_text(t, a, s);
+    say::relay(t, b, w / 64 % 64)
+}
+
+fn missed(t: &mut [u8; 65536], at: usize, w: u32) -> usize {
+    let a = say::number(t, at, b"event: slot ", w % 64);
+    text::put_text(t, a, b" missed its turn")
+}
+
+// Words of kinds 1 to 5.
+pub fn event(t: &mut [u8; 65536], at: usize, w: u32) -> usize {
+    match w / 268435456 {
+        1 => with_relay(t, at, b" checked in", w),
+        2 => message(t, at, w),
+        3 => missed(t, at, w),
+        4 => with_relay(t, at, b" relayed", w),
+        _ => with_relay(t, at, b" routed", w),
+    }
+}

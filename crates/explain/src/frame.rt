@@ -1,0 +1,165 @@
+// A frame of a burst, from its payload.
+ghost use Prim.Native.Nat.{_<_};
+use super::burst;
+use super::say;
+
+fn at_or_zero(p: &[u8; 255], i: usize) -> u8 {
+    if i < 255 { p[i] } else { 0 }
+}
+
+fn packed(p: &[u8; 255], i: usize) -> [u8; 5] {
+    if 250 < i {
+        return [0, 0, 0, 0, 0];
+    }
+    [p[i], p[i + 1], p[i + 2], p[i + 3], p[i + 4]]
+}
+
+fn beacon(t: &mut [u8; 65536], at: usize, p: &[u8; 255]) -> usize {
+    let a = text::put_text(t, at, b"beacon of ");
+    let b = say::call(t, a, packed(p, 1));
+    let c = text::put_text(t, b, b", net ");
+    let d = name(t, c, p);
+    let e = open(t, d, p[12]);
+    say::byte(t, e, b", check-in slots ", p[13])
+}
+
+fn open(t: &mut [u8; 65536], at: usize, x: u8) -> usize {
+    if x == 0 {
+        return text::put_text(t, at, b", closed");
+    }
+    text::put_text(t, at, b", open")
+}
+
+fn name(t: &mut [u8; 65536], at: usize, p: &[u8; 255]) -> usize {
+    let a = say::shown(t, at, p[6]);
+    let b = say::shown(t, a, p[7]);
+    let c = say::shown(t, b, p[8]);
+    let d = say::shown(t, c, p[9]);
+    let e = say::shown(t, d, p[10]);
+    say::shown(t, e, p[11])
+}
+
+// Six bytes: a slot and its call.
+fn ack(t: &mut [u8; 65536], at: usize, p: &[u8; 255], i: usize) -> usize {
+    let a = say::byte(t, at, b" slot ", at_or_zero(p, i));
+    let b = text::put_text(t, a, b" is ");
+    say::call(t, b, packed(p, if i < 255 { i + 1 } else { i }))
+}
+
+// Three bytes: the slot, the first message that is missing, and which of the eight after it are there.
+fn listed(t: &mut [u8; 65536], at: usize, p: &[u8; 255], i: usize) -> usize {
+    if 252 < i {
+        return at;
+    }
+    let a = say::byte(t, at, b" slot ", p[i]);
+    let b = say::byte(t, a, b" wants ", p[i + 1]);
+    let c = text::put_text(t, b, b" after it ");
+    burst::byte_marks(t, c, p[i + 2])
+}
+
+// Two bytes: a leaf and its relay.
+fn branch(t: &mut [u8; 65536], at: usize, p: &[u8; 255], i: usize) -> usize {
+    if 253 < i {
+        return at;
+    }
+    let a = say::byte(t, at, b" slot ", p[i]);
+    if p[i + 1] == 63 {
+        return text::put_text(t, a, b" direct");
+    }
+    say::byte(t, a, b" by relay ", p[i + 1])
+}
+
+fn entry(t: &mut [u8; 65536], at: usize, kind: u8, p: &[u8; 255], i: usize) -> usize {
+    match kind {
+        5 => ack(t, at, p, i),
+        6 => listed(t, at, p, i),
+        _ => branch(t, at, p, i),
+    }
+}
+
+fn size_of(kind: u8) -> usize
+    ensures { λ r. ⌜ (0 < r) × (r < 7) ⌝ }
+{
+    match kind {
+        5 => 6,
+        6 => 3,
+        _ => 2,
+    }
+}
+
+fn comma(t: &mut [u8; 65536], at: usize, yes: bool) -> usize {
+    if yes {
+        return text::put(t, at, b',');
+    }
+    at
+}
+
+// The entries after the first byte, a comma between two.
+fn entries(t: &mut [u8; 65536], at: usize, s: &[u8], kind: u8, p: &[u8; 255], len: usize) -> usize {
+    let size = size_of(kind);
+    let mut e = text::put_text(t, at, s);
+    let mut i: usize = 1;
+    while i < 255 {
+        if len < i + size {
+            return e;
+        }
+        let c = comma(t, e, 1 < i);
+        e = entry(t, c, kind, p, i);
+        i += size;
+    }
+    e
+}
+
+fn raw(t: &mut [u8; 65536], at: usize, p: &[u8; 255], len: usize) -> usize {
+    let mut e = text::put_text(t, at, b"bytes");
+    let mut i: usize = 0;
+    while i < 255 {
+        if len <= i {
+            return e;
+        }
+        e = spaced(t, e, p[i]);
+        i += 1;
+    }
+    e
+}
+
+fn spaced(t: &mut [u8; 65536], at: usize, b: u8) -> usize {
+    let a = text::put(t, at, b' ');
+    text::put_hex(t, a, b as u64, 2)
+}
+
+fn control(t: &mut [u8; 65536], at: usize, p: &[u8; 255], len: usize) -> usize {
+    let kind = p[0];
+    match kind {
+        1 => {
+            if len < 14 {
+                return raw(t, at, p, len);
+            }
+            beacon(t, at, p)
+        }
+        5 => entries(t, at, b"members:", 5, p, len),
+        6 => entries(t, at, b"received:", 6, p, len),
+        8 => entries(t, at, b"tree:", 8, p, len),
+        _ => raw(t, at, p, len),
+    }
+}
+
+// A frame of len payload bytes.
+pub fn frame(
+    t: &mut [u8; 65536],
+    at: usize,
+    flags: u32,
+    field: u32,
+    p: &[u8; 255],
+    len: usize,
+) -> usize {
+    let a = text::put_text(t, at, b"  frame, ");
+    let b = say::slot(t, a, flags % 64);
+    let c = text::put_text(t, b, b": ");
+    if (flags / 64 % 4 == 2) & (0 < len) {
+        return control(t, c, p, len);
+    }
+    let d = say::number(t, c, b"field ", field);
+    let e = text::put_text(t, d, b", ");
+    raw(t, e, p, len)
+}

@@ -1,0 +1,53 @@
+-- Assumes nothing.
+use borrow.Author.Tests.{eq-eqb, ne-eqb, le-leb, lt-leb}
+use Rattle.frames.proofs.control_kind.Statement.{statement}
+use Rattle.frames.proofs.control_kind.Tie as tie
+
+returns : tie.Need-returns
+returns c = simp (eq-eqb _ _ (c .if1 .taken))
+
+returns-2 : tie.Need-returns-2
+returns-2 c = simp (ne-eqb _ _ (c .before .before .if1 .left), eq-eqb _ _ (c .before .if2 .taken), le-leb _ _ (c .if3 .taken))
+
+returns-3 : tie.Need-returns-3
+returns-3 c = simp (ne-eqb _ _ (c .before .before .if1 .left), eq-eqb _ _ (c .before .if2 .taken), lt-leb _ _ (c .if3 .left))
+
+returns-4 : tie.Need-returns-4
+returns-4 c =
+    simp
+    (ne-eqb _ _ (c .before .before .before .if1 .left), ne-eqb _ _ (c .before .before .if2 .left), eq-eqb _ _ (c .before .if4 .taken), le-leb _ _ (c .if5 .taken))
+
+returns-5 : tie.Need-returns-5
+returns-5 c =
+    simp
+    (ne-eqb _ _ (c .before .before .before .if1 .left), ne-eqb _ _ (c .before .before .if2 .left), eq-eqb _ _ (c .before .if4 .taken), lt-leb _ _ (c .if5 .left))
+
+returns-6 : tie.Need-returns-6
+returns-6 c =
+    simp
+    (ne-eqb _ _ (c .before .before .before .if1 .left), ne-eqb _ _ (c .before .before .if2 .left), ne-eqb _ _ (c .before .if4 .left), eq-eqb _ _ (c .if6 .taken))
+
+returns-7 : tie.Need-returns-7
+returns-7 c =
+    simp (
+      ne-eqb _ _ (c .before .before .before .before .if1 .left),
+      ne-eqb _ _ (c .before .before .before .if2 .left),
+      ne-eqb _ _ (c .before .before .if4 .left),
+      ne-eqb _ _ (c .before .if6 .left),
+      eq-eqb _ _ (c .if7 .taken),
+    )
+
+returns-8 : tie.Need-returns-8
+returns-8 c =
+    simp (
+      ne-eqb _ _ (c .before .before .before .before .if1 .left),
+      ne-eqb _ _ (c .before .before .before .if2 .left),
+      ne-eqb _ _ (c .before .before .if4 .left),
+      ne-eqb _ _ (c .before .if6 .left),
+      ne-eqb _ _ (c .if7 .left),
+    )
+
+pub control-kind-spec : {M : Type 1} → statement M
+control-kind-spec =
+    tie.close
+    (tie.spec returns returns-2 returns-3 returns-4 returns-5 returns-6 returns-7 returns-8)

@@ -1,0 +1,4 @@
+pub mod Reading
+pub mod Pieces
+pub mod Control
+pub mod Frames

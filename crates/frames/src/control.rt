@@ -1,0 +1,337 @@
+// Reception, control frames: a check-in, a report, boats overheard, a relay's children.
+use crate::Air;
+use crate::Frame;
+use crate::Kind;
+use crate::Rx;
+use admit::Seat;
+use net::Station;
+use roster::Member;
+ghost use mathlib.Core.Path.{_≡_};
+ghost use mathlib.Core.Bool.{cond};
+ghost use mathlib.Core.List.{[]};
+ghost use Prim.Native.Nat.{_+_, _<_};
+ghost use lib.ListN.{getD};
+ghost use Rattle.out.specs.Encode.{Wrote};
+ghost use Rattle.net.specs.Net.{Did, said};
+ghost use Rattle.admit.specs.declared.Seat.the-variants.{Free};
+ghost use Rattle.frames.specs.Reading.{reportRx};
+ghost use Rattle.frames.specs.Control.{payloadIn, callAt, checkinMember, checkinFrame, forwardedBy, reportMember, hearing, hearPairs, isPending, relayOf, newcomer, overheardBy, overheardEntry, overheardFrame, kidMember, kidEvents, kidOf, kidsFrame, controlSays};
+
+// Byte j of the payload of the frame of len bytes at `at`; 0 past its end.
+pub fn byte_in(words: &[u32], at: usize, len: u8, j: usize) -> u8
+    ensures { λ r. ⌜ r ≡ getD (payloadIn (now (words .entry)) at len) j 0 ⌝ }
+{
+    if j < len as usize {
+        return words::payload_byte(words, at, j);
+    }
+    0
+}
+
+// The call packed in its five bytes from byte j on.
+fn call_in(words: &[u32], at: usize, len: u8, j: usize) -> [u8; 7]
+    requires { ⌜ j < 256 ⌝ }
+    ensures { λ r. ⌜ r ≡ callAt (payloadIn (now (words .entry)) at len) j ⌝ }
+{
+    wire::calls::unpack_call([
+        byte_in(words, at, len, j),
+        byte_in(words, at, len, j + 1),
+        byte_in(words, at, len, j + 2),
+        byte_in(words, at, len, j + 3),
+        byte_in(words, at, len, j + 4),
+    ])
+}
+
+// ---- report
+
+// A leaf's report, through the relay that was polled.
+pub fn is_forwarded(m: Member, here: bool, a: Air) -> bool
+    ensures { λ r. ⌜ r ≡ forwardedBy a here m ⌝ }
+{
+    here & (m.via != 63) & (m.via == a.polled)
+}
+
+// The report tells of more to come.
+pub fn is_pending(words: &[u32], at: usize, len: u8) -> bool
+    ensures { λ r. ⌜ r ≡ isPending (payloadIn (now (words .entry)) at len) ⌝ }
+{
+    let a = byte_in(words, at, len, 3);
+    let b = byte_in(words, at, len, 4);
+    let c = byte_in(words, at, len, 5);
+    (a != 0) | (b != 0) | (c != 0)
+}
+
+// What it tells of the reply, where it is no forwarded one.
+pub fn report_rx(x: Rx, forwarded: bool, slot: u8, pending: bool) -> Rx
+    ensures { λ r. ⌜ r ≡ reportRx x forwarded slot pending ⌝ }
+{
+    if forwarded {
+        return x;
+    }
+    let mut k = x;
+    k.sender = slot as u32;
+    k.more = x.more | pending;
+    k
+}
+
+// Its boat, which hears us at the level field q.
+pub fn report_member(m: Member, here: bool, forwarded: bool, a: Air, q: u8) -> Member
+    ensures { λ r. ⌜ r ≡ cond here (reportMember a q forwarded m) m ⌝ }
+{
+    if !here {
+        return m;
+    }
+    let k = roster::with_down(m, wire::snr_from_q(q));
+    if forwarded {
+        return roster::with_heard(k, a.time);
+    }
+    k
+}
+
+// Slot r hears slot a at the level field q; keys of 62 and above are dropped.
+fn hear(hears: &mut [u8; 3844], here: bool, r: u8, a: u8, q: u8)
+    ensures { λ _. ⌜ now (hears .exit) ≡ cond here (hearing r a q (now (hears .entry))) (now (hears .entry)) ⌝ }
+{
+    if !here {
+        return;
+    }
+    let slots = (r < 62) & (a < 62);
+    if slots {
+        let k = r as usize * 62 + a as usize;
+        hears[k] = q % 64;
+    }
+}
+
+// The pairs of a report of `slot`: whom it hears, and how well.
+pub fn report_hears(hears: &mut [u8; 3844], here: bool, slot: u8, words: &[u32], at: usize, len: u8)
+    ensures { λ _. ⌜ now (hears .exit) ≡ cond here (hearPairs len (payloadIn (now (words .entry)) at len) slot (now (hears .entry))) (now (hears .entry)) ⌝ }
+{
+    if !here {
+        return;
+    }
+    let n = len as usize;
+    let mut e: usize = 12;
+    while e + 2 <= n {
+        let a = byte_in(words, at, len, e);
+        let q = byte_in(words, at, len, e + 1);
+        hear(hears, true, slot, a, q);
+        e += 2;
+    }
+}
+
+// ---- check-in
+
+fn checkin_member(m: Member, a: Air, words: &[u32], at: usize, len: u8) -> Member
+    ensures { λ r. ⌜ r ≡ checkinMember a len (payloadIn (now (words .entry)) at len) m ⌝ }
+{
+    let down = wire::snr_from_q(byte_in(words, at, len, 6));
+    let h = roster::received(m, a.level, down, a.time);
+    let c = roster::with_caps(h, 7 < len, byte_in(words, at, len, 7));
+    roster::with_version(c, 9 < len, byte_in(words, at, len, 9))
+}
+
+fn checkin(
+    s: Station,
+    a: Air,
+    words: &[u32],
+    at: usize,
+    len: u8,
+    o: &mut [u32],
+    end: &mut usize,
+) -> Station
+    ensures { λ r. ⌜ Did (checkinFrame a len (payloadIn (now (words .entry)) at len) s) r (now (o .entry)) (now (end .entry)) (now (o .exit)) (now (end .exit)) ⌝ }
+{
+    let call = call_in(words, at, len, 1);
+    let seat = admit::seat_of(s, call);
+    let mut t = admit::admit(s, seat, call, 63, a.time, o, end);
+    t.round.activity = true;
+    let slot = admit::slot_of(seat);
+    if slot == 255 {
+        return t;
+    }
+    let i = net::index(slot);
+    let m = t.members[i];
+    let k = checkin_member(m, a, words, at, len);
+    t.members[i] = k;
+    t
+}
+
+// ---- overheard
+
+// The relay of a frame's newcomers: the frame's own boat, where it has no relay itself and is willing.
+fn relay_of(s: Station, slot: u8) -> u8
+    ensures { λ r. ⌜ r ≡ relayOf s slot ⌝ }
+{
+    let m = net::member_at(s, slot);
+    let ok = net::is_member(s.used, slot) & (m.via == 63) & roster::is_willing(m);
+    if ok { slot } else { 63 }
+}
+
+fn new_boat(m: Member, words: &[u32], at: usize, len: u8, e: usize) -> Member
+    requires { ⌜ e < 256 ⌝ }
+    ensures { λ r. ⌜ r ≡ newcomer (payloadIn (now (words .entry)) at len) e m ⌝ }
+{
+    let c = roster::with_caps(m, true, byte_in(words, at, len, e + 6));
+    roster::with_version(c, true, byte_in(words, at, len, e + 7))
+}
+
+// An unknown call enters at the free slot c, and the frame's boat hears it.
+fn entered(
+    s: Station,
+    c: u8,
+    slot: u8,
+    via: u8,
+    a: Air,
+    words: &[u32],
+    at: usize,
+    len: u8,
+    e: usize,
+    o: &mut [u32],
+    end: &mut usize,
+) -> Station
+    requires { ⌜ e < 256 ⌝ }
+    ensures { λ r. ⌜ Did (overheardBy (Free c) a (payloadIn (now (words .entry)) at len) e slot via (said s [])) r (now (o .entry)) (now (end .entry)) (now (o .exit)) (now (end .exit)) ⌝ }
+{
+    let call = call_in(words, at, len, e);
+    let mut t = admit::admit(s, Seat::Free(c), call, via, a.time, o, end);
+    let i = net::index(c);
+    let m = t.members[i];
+    let k = new_boat(m, words, at, len, e);
+    t.members[i] = k;
+    let here = net::is_member(t.used, slot);
+    let q = byte_in(words, at, len, e + 5);
+    hear(&mut t.hears, here, slot, c, q);
+    t
+}
+
+// The entry of eight bytes at e: an unknown call enters, where a slot is free.
+fn overheard_entry(
+    s: Station,
+    slot: u8,
+    via: u8,
+    a: Air,
+    words: &[u32],
+    at: usize,
+    len: u8,
+    e: usize,
+    o: &mut [u32],
+    end: &mut usize,
+) -> Station
+    requires { ⌜ e < 256 ⌝ }
+    ensures { λ r. ⌜ Did (overheardEntry a (payloadIn (now (words .entry)) at len) slot via e (said s [])) r (now (o .entry)) (now (end .entry)) (now (o .exit)) (now (end .exit)) ⌝ }
+{
+    match admit::seat_of(s, call_in(words, at, len, e)) {
+        Seat::Known(_) => s,
+        Seat::Free(c) => entered(s, c, slot, via, a, words, at, len, e, o, end),
+        Seat::Full => s,
+    }
+}
+
+// Stations that a member heard asking in and the control station did not.
+fn overheard(
+    s: Station,
+    slot: u8,
+    a: Air,
+    words: &[u32],
+    at: usize,
+    len: u8,
+    o: &mut [u32],
+    end: &mut usize,
+) -> Station
+    ensures { λ r. ⌜ Did (overheardFrame a len (payloadIn (now (words .entry)) at len) slot s) r (now (o .entry)) (now (end .entry)) (now (o .exit)) (now (end .exit)) ⌝ }
+{
+    let via = relay_of(s, slot);
+    let n = len as usize;
+    let mut t = s;
+    let mut e: usize = 1;
+    while e + 8 <= n {
+        t = overheard_entry(t, slot, via, a, words, at, len, e, o, end);
+        e += 8;
+    }
+    t
+}
+
+// ---- children
+
+fn is_kid(m: Member, here: bool, slot: u8) -> bool
+    ensures { λ r. ⌜ r ≡ kidOf here m slot ⌝ }
+{
+    here & (m.via == slot) & (m.via != 63)
+}
+
+fn kid_member(m: Member, ok: bool, b: u8, a: Air) -> Member
+    ensures { λ r. ⌜ r ≡ cond ok (kidMember a b m) m ⌝ }
+{
+    if !ok {
+        return m;
+    }
+    if 128 <= b {
+        return roster::reached(m, wire::snr_from_q(b), a.time);
+    }
+    roster::missed_one(m)
+}
+
+fn kid_event(ok: bool, b: u8, slot: u8, o: &mut [u32], at: usize) -> usize
+    ensures { λ r. ⌜ Wrote (now (o .entry)) at (cond ok (kidEvents slot b) []) (now (o .exit)) r ⌝ }
+{
+    if !ok {
+        return at;
+    }
+    if 128 <= b {
+        return at;
+    }
+    out::put_missed(o, at, slot as usize)
+}
+
+// The entries of two bytes: which of its leaves the relay reached this turn.
+fn kids(
+    mut s: Station,
+    slot: u8,
+    a: Air,
+    words: &[u32],
+    at: usize,
+    len: u8,
+    o: &mut [u32],
+    end: &mut usize,
+) -> Station
+    ensures { λ r. ⌜ Did (kidsFrame a len (payloadIn (now (words .entry)) at len) slot s) r (now (o .entry)) (now (end .entry)) (now (o .exit)) (now (end .exit)) ⌝ }
+{
+    let n = len as usize;
+    let mut put = *end;
+    let mut e: usize = 1;
+    while e + 2 <= n {
+        let c = byte_in(words, at, len, e);
+        let b = byte_in(words, at, len, e + 1);
+        let i = net::index(c);
+        let m = s.members[i];
+        let ok = is_kid(m, net::is_member(s.used, c), slot);
+        let k = kid_member(m, ok, b, a);
+        s.members[i] = k;
+        put = kid_event(ok, b, c, o, put);
+        e += 2;
+    }
+    *end = put;
+    s
+}
+
+// A control frame that is no report.
+pub fn control(
+    s: Station,
+    kind: Kind,
+    f: Frame,
+    a: Air,
+    words: &[u32],
+    at: usize,
+    o: &mut [u32],
+    end: &mut usize,
+) -> Station
+    ensures { λ r. ⌜ Did (controlSays kind a (f .slot) (f .len) (payloadIn (now (words .entry)) at (f .len)) s) r (now (o .entry)) (now (end .entry)) (now (o .exit)) (now (end .exit)) ⌝ }
+{
+    match kind {
+        Kind::Nothing => s,
+        Kind::Piece => s,
+        Kind::Checkin => checkin(s, a, words, at, f.len, o, end),
+        Kind::Report => s,
+        Kind::Overheard => overheard(s, f.slot, a, words, at, f.len, o, end),
+        Kind::Kids => kids(s, f.slot, a, words, at, f.len, o, end),
+    }
+}

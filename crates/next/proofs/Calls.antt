@@ -1,0 +1,142 @@
+-- The calls of a function one after the other: what each says and leaves, put together. Assumes nothing.
+use mathlib.Core.Path.{_≡_, refl, sym, ap, _∙_}
+use mathlib.Core.Bool.{Bool, true, false, not, cond, _&&_, _||_}
+use mathlib.Core.List.{List, []}
+use Prim.Native.Nat.{ℕ}
+use lib.Dec.{eqb, ltb}
+use lib.ListN.{getD, set}
+use lib.Ieee.{Float, lt}
+use borrow.Author.Tests.{eq-eqb, ne-eqb}
+use Rattle.bits.proofs.Lists.{cond-true, cond-false}
+use Rattle.out.specs.Encode.{Wrote}
+use Rattle.out.proofs.Laws.{then, wrote-none}
+use Rattle.roster.specs.declared.Member.{Member}
+use Rattle.roster.specs.Members.{noMember}
+use Rattle.net.specs.declared.Station.{Station}
+use Rattle.net.specs.declared.Round.{Round}
+use Rattle.net.specs.declared.Totals.{Totals}
+use Rattle.net.specs.declared.Wait.{Wait}
+use Rattle.net.specs.State.{indexOf, withMembers, withWait, withRound, withTotals, withRxsent}
+use Rattle.net.specs.Net.{isMember, isIdle, Said, said, Did}
+use Rattle.bursts.specs.Bursts.{acksBurst, rxListBurst}
+use Rattle.bursts.specs.Reroute.{rerouteOf}
+use Rattle.bursts.proofs.Saying.{did-then, did-as}
+use Rattle.next.specs.declared.Due.{Due}
+use Rattle.next.specs.declared.Act.{Act}
+use Rattle.next.specs.declared.Act.the-variants as act
+use Rattle.next.specs.declared.Late.{Late}
+use Rattle.next.specs.Next.{dueOf, drawn, ncsNext}
+use Rattle.next.specs.Steps.{saidAfter, lateOf, lateWords, lateMember, lateSource, lateWait, lateTotals, lateRound, lateStation, lateSays, actIn, isSeldom, reroutedThen, reroutingOf, listThen, roundThen, seldomOf, pollIf, nextStraight}
+use Rattle.next.proofs.Stages.{next-is}
+
+-- nothing is written
+pub did-none : (s : Station) (l : List ℕ) (i : ℕ) → Did (said s []) s l i l i
+did-none s l i = record { station = refl; wrote = wrote-none l i }
+
+-- a call on the station that another left
+did-on : {d : Said} (f : Station → Said) {t r : Station} {l m n : List ℕ} {i j k : ℕ} → Did d t l i m j → Did (f t) r m j n k → Did (saidAfter (d .words) (f (d .station))) r l i n k
+did-on f p q = did-then p (did-as q (ap f (p .station)))
+
+-- ### Rerouting
+
+abbrev restful : Station → Float → Bool
+restful s now = not (s .round .traffic) && ltb 0 (s .round .number) && lt now (s .round .nextround)
+
+module _ (s : Station) (now : Float) {t : Station} {l m : List ℕ} {i j : ℕ} (h : restful s now ≡ false) (p : Did (rerouteOf s) t l i m j) where
+  pub moved-said : {r : Station} {n : List ℕ} {k : ℕ} → (t .round .treenews ≡ 0 → ⊥) → Did (acksBurst t) r m j n k → Did (reroutingOf s now) r l i n k
+  unfolding reroutingOf
+  moved-said e q =
+      let x = rerouteOf s in
+      let f : eqb (x .station .round .treenews) 0 ≡ false = ap (λ (u : Station). eqb (u .round .treenews) 0) (sym (p .station)) ∙ ne-eqb (t .round .treenews) 0 e in
+      did-as (did-on acksBurst p q)
+      (sym (cond-false (restful s now) (said s []) (reroutedThen x now) h ∙ ap (saidAfter (x .words)) (cond-false _ (said (drawn (x .station) now) []) (acksBurst (x .station)) f)))
+
+  pub round-drawn : {r : Station} → t .round .treenews ≡ 0 → r ≡ drawn t now → Did (reroutingOf s now) r l i m j
+  unfolding reroutingOf
+  round-drawn e q =
+      let x = rerouteOf s in
+      let f : eqb (x .station .round .treenews) 0 ≡ true = ap (λ (u : Station). eqb (u .round .treenews) 0) (sym (p .station)) ∙ eq-eqb (t .round .treenews) 0 e in
+      did-as (did-on (λ u. said (drawn u now) []) p (record { station = q; wrote = wrote-none m j }))
+      (sym (cond-false (restful s now) (said s []) (reroutedThen x now) h ∙ ap (saidAfter (x .words)) (cond-true _ (said (drawn (x .station) now) []) (acksBurst (x .station)) f)))
+
+-- ### The received list
+
+abbrev lookedAt : Station → Bool
+lookedAt s = eqb (s .round .number) 0 || eqb (s .round .rxsent) (s .round .number)
+
+abbrev looked : Station → Station
+looked s = withRound s (withRxsent (s .round) (s .round .number))
+
+module _ (s : Station) (now : Float) {t : Station} {l m : List ℕ} {i j : ℕ} (h : lookedAt s ≡ false) (p : Did (rxListBurst (looked s)) t l i m j) where
+  same-idle : {b : Bool} → isIdle (t .wait .turn) ≡ b → isIdle (rxListBurst (looked s) .station .wait .turn) ≡ b
+  same-idle e = ap (λ (u : Station). isIdle (u .wait .turn)) (sym (p .station)) ∙ e
+
+  pub list-none : {r : Station} {n : List ℕ} {k : ℕ} → isIdle (t .wait .turn) ≡ true → Did (reroutingOf t now) r m j n k → Did (roundThen s now) r l i n k
+  unfolding roundThen
+  list-none e q =
+      let x = rxListBurst (looked s) in
+      did-as (did-on (λ u. reroutingOf u now) p q)
+      (sym (cond-false (lookedAt s) (reroutingOf s now) (listThen x now) h ∙ cond-true _ (saidAfter (x .words) (reroutingOf (x .station) now)) x (same-idle e)))
+
+  pub list-said : isIdle (t .wait .turn) ≡ false → Did (roundThen s now) t l i m j
+  unfolding roundThen
+  list-said e =
+      let x = rxListBurst (looked s) in
+      did-as p
+      (sym (cond-false (lookedAt s) (reroutingOf s now) (listThen x now) h ∙ cond-false _ (saidAfter (x .words) (reroutingOf (x .station) now)) x (same-idle e)))
+
+-- ### The decision
+
+pub not-seldom : (a : Act) (s : Station) (now : Float) → isSeldom a ≡ false → said s [] ≡ seldomOf a s now
+not-seldom act.Wait s now e = refl
+not-seldom act.Beacon s now e = cc
+not-seldom act.Acks s now e = cc
+not-seldom act.Draw s now e = cc
+not-seldom act.Poll s now e = refl
+
+-- the station with the parts that the first stages leave
+abbrev pub laid : Station → ℕ → Member → ℕ → Member → Wait → Totals → Round → Station
+laid s a k b c v u r =
+    withRound (withTotals (withWait (withMembers s (set (set (s .members) a k) b c)) v) u) r
+
+-- what each call of the first stages gives
+pub record Parts (s : Station) (ok : Bool) (now : Float) (d : Due) (l : Late) (a : ℕ) (here : Bool) (k : Member) (b : ℕ) (c : Member) (v : Wait) (u : Totals) (r : Round) (x : Act) : Type 0 where
+  pub due : d ≡ dueOf (s .wait) (s .round .closed) now
+  pub late : l ≡ lateOf d ok
+  pub first : a ≡ indexOf (l .slot)
+  pub member : here ≡ isMember (s .used) (l .slot)
+  pub missed : k ≡ lateMember (getD (s .members) a noMember) l here
+  pub second : b ≡ indexOf (l .relayfor)
+  pub source : c ≡ lateSource (s .hears) (s .used) (getD (set (s .members) a k) b noMember) l
+  pub wait : v ≡ lateWait (s .wait) l
+  pub totals : u ≡ lateTotals (s .totals) l
+  pub round : r ≡ lateRound (s .round) l (s .settings) now
+  pub act : x ≡ actIn (l .quiet) r (s .used) now
+
+module _ (s : Station) (ok : Bool) (now : Float) {d : Due} {l : Late} {a : ℕ} {here : Bool} {k : Member} {b : ℕ} {c : Member} {v : Wait} {u : Totals} {r : Round} {x : Act}
+    (p : Parts s ok now d l a here k b c v u r x) where
+  abbrev lateIn : Late
+  lateIn = lateOf (dueOf (s .wait) (s .round .closed) now) ok
+
+  late-is : l ≡ lateIn
+  late-is = p .late ∙ ap (λ (e : Due). lateOf e ok) (p .due)
+
+  laid-is : laid s a k b c v u r ≡ lateStation s lateIn now
+  laid-is = rw (p .round, p .totals, p .wait, p .source, p .second, p .missed, p .member, p .first, late-is)
+
+  words-are : lateWords l (s .round .closeleft) (s .settings) (getD (s .members) a noMember) here ≡ lateSays s lateIn
+  words-are = rw (p .member, p .first, late-is)
+
+  act-is : x ≡ actIn (lateIn .quiet) (lateStation s lateIn now .round) (s .used) now
+  act-is = rw (p .act, p .round, late-is)
+
+  pub next-said : (t : Station) (o₂ : List ℕ) (i₂ : ℕ) {q : Station} {o o₁ o₃ : List ℕ} {i i₁ i₃ : ℕ} → Wrote o i (lateWords l (s .round .closeleft) (s .settings) (getD (s .members) a noMember) here) o₁ i₁
+      → Did (pollIf x t) q o₂ i₂ o₃ i₃ → Did (seldomOf x (laid s a k b c v u r) now) t o₁ i₁ o₂ i₂
+      → Did (cond ok (said (ncsNext s now .station) (ncsNext s now .words)) (said s [])) q o i o₃ i₃
+  unfolding nextStraight
+  next-said t o₂ i₂ w f e =
+      let g = did-as e (ap (λ (y : Station). seldomOf x y now) laid-is) in
+      let z = did-on (pollIf x) g f in
+      let y = rw act-is at z in
+      let whole : Did (nextStraight s ok now) _ _ _ _ _ = record { station = y .station; wrote = then (rw words-are at w) (y .wrote) } in
+      did-as whole (next-is s ok now)

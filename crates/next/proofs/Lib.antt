@@ -1,0 +1,4 @@
+-- What the bursts keep, that one line through the station comes to the stages of `ncs_next`, and the calls of the code one after the other.
+pub mod Keeps
+pub mod Stages
+pub mod Calls

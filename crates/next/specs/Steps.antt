@@ -1,0 +1,215 @@
+-- ncs_next of ncs.rs as the code goes: one line through the station, with what is due as numbers. The proof shows that it comes to the stages of `Next`.
+use Prim.Native.Nat.{ℕ, _+_, _-_, _%_}
+use mathlib.Core.Bool.{Bool, true, false, not, cond, _&&_, _||_}
+use mathlib.Core.List.{List, [], _∷_, _++_}
+use lib.Dec.{eqb, ltb}
+use lib.Ieee.{Float, lt}
+use Rattle.bits.specs.Mask.{withoutBit, lowestBit}
+use Rattle.bits.specs.Stop.{stop}
+use Rattle.bits.specs.declared.Found.{Found}
+use Rattle.bits.specs.declared.Found.the-variants as found
+use Rattle.level.specs.declared.Clock.the-variants.{Never}
+use Rattle.level.specs.Order.{least}
+use Rattle.wire.specs.Kinds.{kClose}
+use Rattle.out.specs.Encode.{missedWord}
+use Rattle.roster.specs.declared.Member.{Member}
+use Rattle.roster.specs.Members.{missedOne}
+use Rattle.roster.specs.Relays.{turnOver}
+use Rattle.net.specs.declared.Station.{Station}
+use Rattle.net.specs.declared.Settings.{Settings}
+use Rattle.net.specs.declared.Round.{Round}
+use Rattle.net.specs.declared.Totals.{Totals}
+use Rattle.net.specs.declared.Reply.{Reply}
+use Rattle.net.specs.declared.Turn.the-variants.{Waiting}
+use Rattle.net.specs.declared.Wait.{Wait}
+use Rattle.net.specs.State.{memberAt, withMember, withWait, withRound, withTotals, withList, withTxat, withClosing, withActivity, withNextbeacon, withRxsent, withPolls}
+use Rattle.net.specs.Net.{plus, isMember, waitOf, idleWait, isIdle, Said, said}
+use Rattle.bursts.specs.Bursts.{tinyWords, pollBurst, acksBurst, beaconOf, rxListBurst}
+use Rattle.bursts.specs.Reroute.{sourceFor, rerouteOf}
+use Rattle.next.specs.declared.Due.{Due}
+use Rattle.next.specs.declared.Due.the-variants.{Free, Quiet, Close, Again, Missed}
+use Rattle.next.specs.declared.Act.{Act}
+use Rattle.next.specs.declared.Act.the-variants as act
+use Rattle.next.specs.declared.Late.{Late}
+use Rattle.next.specs.Next.{Decision, dueOf, actOf, pollStage, drawn}
+
+-- the station and the words of a decision
+abbrev pub saidOf : Decision → Said
+saidOf d = said (d .station) (d .words)
+
+-- words before those of a burst
+abbrev pub saidAfter : List ℕ → Said → Said
+saidAfter ws x = said (x .station) (ws ++ x .words)
+
+-- ---- what is due, as numbers
+
+abbrev pub noLate : Bool → Bool → Late
+noLate quiet closing =
+    record { slot = 255; relayfor = 63; turnbursts = 0; again = false; missed = false; closing = closing; quiet = quiet }
+
+abbrev pub lateReply : Reply → Bool → Late
+lateReply r again =
+    record { slot = r .slot; relayfor = r .relayfor; turnbursts = r .turnbursts; again = again; missed = not again; closing = false; quiet = again }
+
+abbrev pub lateBy : Due → Late
+lateBy Free = noLate false false
+lateBy Quiet = noLate true false
+lateBy Close = noLate true true
+lateBy (Again r) = lateReply r true
+lateBy (Missed r) = lateReply r false
+
+abbrev pub lateOf : Due → Bool → Late
+lateOf d ok = cond ok (lateBy d) (noLate true false)
+
+-- ---- close and timeout
+
+abbrev pub lateWords : Late → ℕ → Settings → Member → Bool → List ℕ
+lateWords l left g m here =
+    cond (l .closing && ltb 0 left) (tinyWords kClose 0 (g .beaconlevel))
+    (cond (l .again) (pollBurst g here m (l .slot) (l .relayfor) true) (cond (l .missed && here) (missedWord (l .slot) ∷ []) []))
+
+abbrev pub lateMember : Member → Late → Bool → Member
+lateMember m l here = cond (l .missed && here) (missedOne m) m
+
+abbrev pub lateSource : List ℕ → ℕ → Member → Late → Member
+lateSource hears used m l =
+    cond (l .missed && isMember used (l .relayfor)) (turnOver hears used m (l .relayfor) (l .slot)) m
+
+abbrev pub lateWait : Wait → Late → Wait
+lateWait w l =
+    cond (l .again)
+    (waitOf (Waiting (record { slot = l .slot; relayfor = l .relayfor; tries = 1; turnbursts = l .turnbursts })) Never)
+    (cond (l .missed) idleWait w)
+
+abbrev pub lateTotals : Totals → Late → Totals
+lateTotals t l = cond (l .again) (withPolls t (stop (t .polls + 1))) t
+
+abbrev pub closeRound : Round → Float → Round
+closeRound r at = cond (ltb 0 (r .closeleft)) (withTxat (withClosing r (r .closed) (r .closeleft - 1)) at) r
+
+abbrev pub forwardTo : Round → Float → Round
+forwardTo r soon = cond (r .activity) (withNextbeacon (withActivity r false) (least (r .nextbeacon) soon)) r
+
+abbrev pub lateRound : Round → Late → Settings → Float → Round
+lateRound r l g now =
+    cond (l .closing) (closeRound r (plus now (g .maxburst)))
+    (cond (l .quiet || lt now (r .windowend)) r (forwardTo r (plus now (g .quickbeacon))))
+
+-- the member that was polled
+abbrev pub lateFirst : Station → Late → Station
+lateFirst s l =
+    withMember s (l .slot) (lateMember (memberAt s (l .slot)) l (isMember (s .used) (l .slot)))
+
+-- then the one whose traffic it was to forward
+abbrev pub lateMembers : Station → Late → Station
+lateMembers s l =
+    withMember (lateFirst s l) (l .relayfor) (lateSource (s .hears) (s .used) (memberAt (lateFirst s l) (l .relayfor)) l)
+
+abbrev pub lateStation : Station → Late → Float → Station
+lateStation s l now =
+    withRound (withTotals (withWait (lateMembers s l) (lateWait (s .wait) l)) (lateTotals (s .totals) l)) (lateRound (s .round) l (s .settings) now)
+
+-- K_CLOSE, the poll once more, or event 3
+abbrev pub lateSays : Station → Late → List ℕ
+lateSays s l =
+    lateWords l (s .round .closeleft) (s .settings) (memberAt s (l .slot)) (isMember (s .used) (l .slot))
+
+-- ---- what is to be done
+
+abbrev pub actIn : Bool → Round → ℕ → Float → Act
+actIn quiet r used now = cond (quiet || lt now (r .windowend)) act.Wait (actOf r used now)
+
+abbrev pub isSeldom : Act → Bool
+isSeldom act.Wait = false
+isSeldom act.Beacon = true
+isSeldom act.Acks = true
+isSeldom act.Draw = true
+isSeldom act.Poll = false
+
+-- ---- the end of a round, before its poll
+
+abbrev pub reroutedThen : Said → Float → Said
+reroutedThen x now =
+    saidAfter (x .words) (cond (eqb (x .station .round .treenews) 0) (said (drawn (x .station) now) []) (acksBurst (x .station)))
+
+unfoldable pub reroutingOf : Station → Float → Said
+reroutingOf s now =
+    cond (not (s .round .traffic) && ltb 0 (s .round .number) && lt now (s .round .nextround)) (said s []) (reroutedThen (rerouteOf s) now)
+
+abbrev pub listThen : Said → Float → Said
+listThen x now = cond (isIdle (x .station .wait .turn)) (saidAfter (x .words) (reroutingOf (x .station) now)) x
+
+unfoldable pub roundThen : Station → Float → Said
+roundThen s now =
+    cond (eqb (s .round .number) 0 || eqb (s .round .rxsent) (s .round .number)) (reroutingOf s now)
+    (listThen (rxListBurst (withRound s (withRxsent (s .round) (s .round .number)))) now)
+
+abbrev pub seldomOf : Act → Station → Float → Said
+seldomOf act.Wait s now = said s []
+seldomOf act.Beacon s now = beaconOf s now
+seldomOf act.Acks s now = acksBurst s
+seldomOf act.Draw s now = roundThen s now
+seldomOf act.Poll s now = said s []
+
+-- ---- poll
+
+abbrev pub mayPoll : Act → Bool
+mayPoll act.Wait = false
+mayPoll act.Beacon = false
+mayPoll act.Acks = false
+mayPoll act.Draw = true
+mayPoll act.Poll = true
+
+abbrev pub frontBy : Found → ℕ
+frontBy found.Nothing = 255
+frontBy (found.At slot) = slot % 256
+
+-- the slot to be polled, 255 for none
+abbrev pub frontOf : Wait → ℕ → Act → ℕ
+frontOf w list a = cond (not (isIdle (w .turn)) || not (mayPoll a)) 255 (frontBy (lowestBit list))
+
+abbrev pub pollWait : Wait → ℕ → ℕ → Wait
+pollWait w slot source =
+    cond (eqb slot 255) w (waitOf (Waiting (record { slot = slot; relayfor = source; tries = 0; turnbursts = 0 })) (w .deadline))
+
+abbrev pub pollTotals : Totals → ℕ → Totals
+pollTotals t slot = cond (eqb slot 255) t (withPolls t (stop (t .polls + 1)))
+
+abbrev pub pollList : ℕ → ℕ → ℕ
+pollList list slot = cond (eqb slot 255) list (withoutBit list slot)
+
+abbrev pub pollSource : Station → ℕ → ℕ
+pollSource s slot = cond (eqb slot 255) 63 (sourceFor s slot)
+
+abbrev pub pollWords : Station → ℕ → ℕ → List ℕ
+pollWords s slot source =
+    cond (eqb slot 255) [] (pollBurst (s .settings) (isMember (s .used) slot) (memberAt s slot) slot source false)
+
+-- the poll of a slot, 255 for none
+abbrev pub pollSlot : Station → ℕ → Said
+pollSlot s slot =
+    said
+    (withTotals (withRound (withWait s (pollWait (s .wait) slot (pollSource s slot))) (withList (s .round) (pollList (s .round .list) slot))) (pollTotals (s .totals) slot))
+    (pollWords s slot (pollSource s slot))
+
+-- a poll, where nothing is being sent or waited for
+abbrev pub pollIf : Act → Station → Said
+pollIf a s = cond (isIdle (s .wait .turn) && mayPoll a) (saidOf (pollStage s)) (said s [])
+
+-- ---- the decision
+
+abbrev pub pollThen : Act → Said → Said
+pollThen a x = saidAfter (x .words) (pollIf a (x .station))
+
+-- after the timeout: what is to be done, and then the poll
+abbrev pub restOf : Bool → Station → Float → Said
+restOf quiet s now =
+    pollThen (actIn quiet (s .round) (s .used) now) (seldomOf (actIn quiet (s .round) (s .used) now) s now)
+
+-- by what is late
+abbrev pub lateThen : Station → Late → Float → Said
+lateThen s l now = saidAfter (lateSays s l) (restOf (l .quiet) (lateStation s l now) now)
+
+-- where not `ok`, nothing is done
+unfoldable pub nextStraight : Station → Bool → Float → Said
+nextStraight s ok now = lateThen s (lateOf (dueOf (s .wait) (s .round .closed) now) ok) now

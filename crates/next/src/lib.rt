@@ -1,0 +1,531 @@
+// The next decision (ncs_next of ncs.rs), stage by stage in the source's order.
+ghost use mathlib.Core.Path.{_≡_};
+ghost use mathlib.Core.Bool.{false, cond};
+ghost use mathlib.Core.List.{[]};
+ghost use Prim.Native.Nat.{_+_, _%_, _^_};
+ghost use Rattle.bits.specs.Mask.{withBit};
+ghost use Rattle.out.specs.Encode.{Wrote};
+ghost use Rattle.net.specs.State.{withNumber};
+ghost use Rattle.net.specs.Net.{Did, said};
+ghost use Rattle.next.specs.Next.{overdueOf, dueBy, dueOf, listFor, drawn, ncsNext};
+ghost use Rattle.next.specs.Steps.{noLate, lateReply, lateOf, lateWords, lateMember, lateSource, lateWait, lateTotals, closeRound, forwardTo, lateRound, actIn, isSeldom, reroutingOf, roundThen, seldomOf, mayPoll, frontOf, pollWait, pollTotals, pollList, pollSource, pollWords, pollIf};
+use bits::Found;
+use bursts::reroute;
+use level::Clock;
+use net::Reply;
+use net::Round;
+use net::Settings;
+use net::Station;
+use net::Totals;
+use net::Turn;
+use net::Wait;
+use roster::Member;
+use roster::relay;
+
+// Each stage changes parts of the station in place; where not `ok`, nothing changes.
+pub fn ncs_next(mut s: Station, ok: bool, time: f64, o: &mut [u32], at: &mut usize) -> Station
+    ensures { λ r. ⌜ Did (cond ok (said (ncsNext s time .station) (ncsNext s time .words)) (said s [])) r (now (o .entry)) (now (at .entry)) (now (o .exit)) (now (at .exit)) ⌝ }
+{
+    let w = s.wait;
+    let q = s.round;
+    let g = s.settings;
+    let l = late_of(due_of(w, q.closed, time), ok);
+    let i = net::index(l.slot);
+    let m = s.members[i];
+    let here = net::is_member(s.used, l.slot);
+    *at = put_late(o, *at, l, q.closeleft, g, m, here);
+    let k = late_member(m, l, here);
+    s.members[i] = k;
+    let a = net::index(l.relayfor);
+    let b = s.members[a];
+    let c = late_source(&s.hears, s.used, b, l);
+    s.members[a] = c;
+    let v = late_wait(w, l);
+    s.wait = v;
+    let t = s.totals;
+    let u = late_totals(t, l);
+    s.totals = u;
+    let r = late_round(q, l, g, time);
+    s.round = r;
+    let act = act_of(l.quiet, r, s.used, time);
+    if is_seldom(act) {
+        s = seldom(s, act, time, o, at);
+    }
+    poll(s, act, o, at)
+}
+
+// ---- close and timeout
+
+// What the turn asks for at this time.
+pub enum Due {
+    // Nothing is waited for.
+    Free,
+    // A reply or the end of a sending is still waited for.
+    Quiet,
+    // The net is closed.
+    Close,
+    // The first poll had no answer.
+    Again(Reply),
+    // The second had none.
+    Missed(Reply),
+}
+
+fn overdue(r: Reply) -> Due
+    ensures { λ x. ⌜ x ≡ overdueOf r ⌝ }
+{
+    if r.tries == 0 {
+        return Due::Again(r);
+    }
+    Due::Missed(r)
+}
+
+fn due_by(d: Clock, r: Reply, time: f64) -> Due
+    ensures { λ x. ⌜ x ≡ dueBy d r time ⌝ }
+{
+    match d {
+        Clock::Never => Due::Quiet,
+        Clock::At(end) => {
+            if time < end {
+                return Due::Quiet;
+            }
+            overdue(r)
+        }
+    }
+}
+
+fn due_of(w: Wait, closed: bool, time: f64) -> Due
+    ensures { λ r. ⌜ r ≡ dueOf w closed time ⌝ }
+{
+    if closed {
+        return Due::Close;
+    }
+    let turn = w.turn;
+    let d = w.deadline;
+    match turn {
+        Turn::Idle => Due::Free,
+        Turn::Sending => Due::Quiet,
+        Turn::Waiting(r) => due_by(d, r, time),
+    }
+}
+
+// What is due as numbers: the reply that did not come (from slot 255 for none), its first poll or its second, or closing; `quiet`: the
+// decision ends here.
+struct Late {
+    slot: u8,
+    relayfor: u8,
+    turnbursts: u8,
+    again: bool,
+    missed: bool,
+    closing: bool,
+    quiet: bool,
+}
+
+fn no_late(quiet: bool, closing: bool) -> Late
+    ensures { λ r. ⌜ r ≡ noLate quiet closing ⌝ }
+{
+    Late {
+        slot: 255,
+        relayfor: 63,
+        turnbursts: 0,
+        again: false,
+        missed: false,
+        closing: closing,
+        quiet: quiet,
+    }
+}
+
+fn late_reply(r: Reply, again: bool) -> Late
+    ensures { λ x. ⌜ x ≡ lateReply r again ⌝ }
+{
+    Late {
+        slot: r.slot,
+        relayfor: r.relayfor,
+        turnbursts: r.turnbursts,
+        again: again,
+        missed: !again,
+        closing: false,
+        quiet: again,
+    }
+}
+
+// Where not `ok`, nothing is done.
+fn late_of(d: Due, ok: bool) -> Late
+    ensures { λ r. ⌜ r ≡ lateOf d ok ⌝ }
+{
+    if !ok {
+        return no_late(true, false);
+    }
+    match d {
+        Due::Free => no_late(false, false),
+        Due::Quiet => no_late(true, false),
+        Due::Close => no_late(true, true),
+        Due::Again(r) => late_reply(r, true),
+        Due::Missed(r) => late_reply(r, false),
+    }
+}
+
+// K_CLOSE, the poll once more in the most robust waveform, or event 3.
+fn put_late(
+    o: &mut [u32],
+    at: usize,
+    l: Late,
+    left: u32,
+    g: Settings,
+    m: Member,
+    here: bool,
+) -> usize
+    ensures { λ r. ⌜ Wrote (now (o .entry)) at (lateWords l left g m here) (now (o .exit)) r ⌝ }
+{
+    if l.closing & (0 < left) {
+        return out::put_tiny(o, at, 6, 0, g.beaconlevel as u32);
+    }
+    if l.again {
+        return bursts::poll_burst(g, here, m, l.slot, l.relayfor, true, o, at);
+    }
+    if l.missed & here {
+        return out::put_missed(o, at, l.slot as usize);
+    }
+    at
+}
+
+fn late_member(m: Member, l: Late, here: bool) -> Member
+    ensures { λ r. ⌜ r ≡ lateMember m l here ⌝ }
+{
+    if l.missed & here {
+        return roster::missed_one(m);
+    }
+    m
+}
+
+fn late_source(hears: &[u8; 3844], used: u64, m: Member, l: Late) -> Member
+    ensures { λ r. ⌜ r ≡ lateSource (now (hears .entry)) used m l ⌝ }
+{
+    if l.missed & net::is_member(used, l.relayfor) {
+        return relay::turn_over(hears, used, m, l.relayfor, l.slot);
+    }
+    m
+}
+
+fn late_wait(w: Wait, l: Late) -> Wait
+    ensures { λ r. ⌜ r ≡ lateWait w l ⌝ }
+{
+    if l.again {
+        let r = Reply {
+            slot: l.slot,
+            relayfor: l.relayfor,
+            tries: 1,
+            turnbursts: l.turnbursts,
+        };
+        return net::waiting(r, Clock::Never);
+    }
+    if l.missed {
+        return net::idle();
+    }
+    w
+}
+
+fn late_totals(t: Totals, l: Late) -> Totals
+    ensures { λ r. ⌜ r ≡ lateTotals t l ⌝ }
+{
+    let mut k = t;
+    if l.again {
+        k.polls = bits::one_more(t.polls);
+    }
+    k
+}
+
+fn close_round(r: Round, at: f64) -> Round
+    ensures { λ x. ⌜ x ≡ closeRound r at ⌝ }
+{
+    let mut k = r;
+    if 0 < r.closeleft {
+        k.closeleft = r.closeleft - 1;
+        k.txat = at;
+    }
+    k
+}
+
+// ---- window, beacon, acknowledgements
+
+// Something happened in the last check-in window: the next beacon comes soon.
+fn forward(r: Round, soon: f64) -> Round
+    ensures { λ x. ⌜ x ≡ forwardTo r soon ⌝ }
+{
+    let mut k = r;
+    if r.activity {
+        k.activity = false;
+        k.nextbeacon = level::least(r.nextbeacon, soon);
+    }
+    k
+}
+
+// The round after the first stages: closing counts down, and past the window the next beacon may come forward.
+fn late_round(r: Round, l: Late, g: Settings, time: f64) -> Round
+    ensures { λ x. ⌜ x ≡ lateRound r l g time ⌝ }
+{
+    if l.closing {
+        return close_round(r, time + g.maxburst);
+    }
+    if l.quiet | (time < r.windowend) {
+        return r;
+    }
+    forward(r, time + g.quickbeacon)
+}
+
+// What is to be done, in the source's order.
+pub enum Act {
+    Wait,
+    Beacon,
+    Acks,
+    Draw,
+    Poll,
+}
+
+fn act_of(quiet: bool, r: Round, used: u64, time: f64) -> Act
+    ensures { λ x. ⌜ x ≡ actIn quiet r used time ⌝ }
+{
+    if quiet | (time < r.windowend) {
+        return Act::Wait;
+    }
+    if time >= r.nextbeacon {
+        return Act::Beacon;
+    }
+    if (r.toack != 0) | (r.treenews != 0) {
+        return Act::Acks;
+    }
+    if r.list != 0 {
+        return Act::Poll;
+    }
+    if used == 0 {
+        return Act::Wait;
+    }
+    Act::Draw
+}
+
+fn is_seldom(a: Act) -> bool
+    ensures { λ r. ⌜ r ≡ isSeldom a ⌝ }
+{
+    match a {
+        Act::Wait => false,
+        Act::Beacon => true,
+        Act::Acks => true,
+        Act::Draw => true,
+        Act::Poll => false,
+    }
+}
+
+// The stages that go over all members.
+fn seldom(s: Station, a: Act, time: f64, o: &mut [u32], at: &mut usize) -> Station
+    ensures { λ r. ⌜ Did (seldomOf a s time) r (now (o .entry)) (now (at .entry)) (now (o .exit)) (now (at .exit)) ⌝ }
+{
+    match a {
+        Act::Wait => s,
+        Act::Beacon => bursts::beacon(s, time, o, at),
+        Act::Acks => bursts::acks_burst(s, o, at),
+        Act::Draw => round_end(s, time, o, at),
+        Act::Poll => s,
+    }
+}
+
+// ---- received list, reroute, round
+
+// The slots that the new round polls.
+fn draw(s: Station) -> u64
+    ensures { λ r. ⌜ r ≡ listFor s (s .round .number) ⌝ }
+{
+    let limit = s.settings.misslimit;
+    let fourth = s.round.number % 4 == 0;
+    let mut list: u64 = 0;
+    let mut i: usize = 0;
+    while i < 62 {
+        let m = s.members[i];
+        let listed = bits::has(s.used, i) & (m.via == 63) & (fourth | (m.missed < limit));
+        list = with_if(list, listed, i);
+        i += 1;
+    }
+    list
+}
+
+fn with_if(mask: u64, yes: bool, i: usize) -> u64
+    ensures { λ r. ⌜ r ≡ cond yes (withBit mask i) mask ⌝ }
+{
+    if yes { bits::with(mask, i) } else { mask }
+}
+
+fn next_round(r: Round, at: f64) -> Round
+    ensures { λ x. ⌜ x ≡ withNumber r ((r .number + 1) % 2 ^ 32) at false ⌝ }
+{
+    let mut k = r;
+    k.number = std::num::wrapping_add_u32(r.number, 1);
+    k.traffic = false;
+    k.nextround = at;
+    k
+}
+
+fn new_round(mut s: Station, time: f64) -> Station
+    ensures { λ r. ⌜ r ≡ drawn s time ⌝ }
+{
+    let g = s.settings;
+    let r = s.round;
+    let q = next_round(r, time + g.idleroundgap);
+    s.round = q;
+    let rounds = bits::one_more(s.totals.rounds);
+    s.totals.rounds = rounds;
+    let list = draw(s);
+    s.round.list = list;
+    s
+}
+
+fn rerouting(s: Station, time: f64, o: &mut [u32], at: &mut usize) -> Station
+    ensures { λ r. ⌜ Did (reroutingOf s time) r (now (o .entry)) (now (at .entry)) (now (o .exit)) (now (at .exit)) ⌝ }
+{
+    let r = s.round;
+    if !r.traffic & (0 < r.number) & (time < r.nextround) {
+        return s;
+    }
+    let t = reroute::reroute(s, o, at);
+    if t.round.treenews != 0 {
+        return bursts::acks_burst(t, o, at);
+    }
+    new_round(t, time)
+}
+
+// The end of a round: what has arrived is said, if that is news; else a new list is drawn up.
+fn round_end(mut s: Station, time: f64, o: &mut [u32], at: &mut usize) -> Station
+    ensures { λ r. ⌜ Did (roundThen s time) r (now (o .entry)) (now (at .entry)) (now (o .exit)) (now (at .exit)) ⌝ }
+{
+    let n = s.round.number;
+    if (n == 0) | (s.round.rxsent == n) {
+        return rerouting(s, time, o, at);
+    }
+    s.round.rxsent = n;
+    let t = bursts::rx_list_burst(s, o, at);
+    let w = t.wait;
+    if net::is_idle(w) {
+        return rerouting(t, time, o, at);
+    }
+    t
+}
+
+// ---- poll
+
+fn may_poll(a: Act) -> bool
+    ensures { λ r. ⌜ r ≡ mayPoll a ⌝ }
+{
+    match a {
+        Act::Wait => false,
+        Act::Beacon => false,
+        Act::Acks => false,
+        Act::Draw => true,
+        Act::Poll => true,
+    }
+}
+
+fn low(i: usize) -> u8
+    ensures { λ r. ⌜ r ≡ i % 256 ⌝ }
+{
+    (i % 256) as u8
+}
+
+// The slot to be polled, where nothing is being sent or waited for; 255 for none.
+fn front(w: Wait, list: u64, a: Act) -> u8
+    ensures { λ r. ⌜ r ≡ frontOf w list a ⌝ }
+{
+    if !net::is_idle(w) | !may_poll(a) {
+        return 255;
+    }
+    match bits::lowest(list) {
+        Found::At(slot) => low(slot),
+        Found::Nothing => 255,
+    }
+}
+
+fn poll_wait(w: Wait, slot: u8, relayfor: u8) -> Wait
+    ensures { λ r. ⌜ r ≡ pollWait w slot relayfor ⌝ }
+{
+    if slot == 255 {
+        return w;
+    }
+    let deadline = w.deadline;
+    let r = Reply {
+        slot: slot,
+        relayfor: relayfor,
+        tries: 0,
+        turnbursts: 0,
+    };
+    net::waiting(r, deadline)
+}
+
+fn poll_totals(t: Totals, slot: u8) -> Totals
+    ensures { λ r. ⌜ r ≡ pollTotals t slot ⌝ }
+{
+    let mut k = t;
+    if slot != 255 {
+        k.polls = bits::one_more(t.polls);
+    }
+    k
+}
+
+fn poll_list(list: u64, slot: u8) -> u64
+    ensures { λ r. ⌜ r ≡ pollList list slot ⌝ }
+{
+    if slot == 255 {
+        return list;
+    }
+    bits::without(list, slot as usize)
+}
+
+// The source whose traffic the polled slot is best placed to forward; 63 for none.
+fn source_for(s: Station, slot: u8) -> u8
+    ensures { λ r. ⌜ r ≡ pollSource s slot ⌝ }
+{
+    if slot == 255 {
+        return 63;
+    }
+    let v = reroute::survey(s);
+    relay::relay_src_for(
+        &s.hears,
+        v.needs,
+        v.able,
+        &v.tried,
+        slot,
+        s.settings.relaysnr,
+    )
+}
+
+fn put_poll(s: Station, slot: u8, relayfor: u8, o: &mut [u32], at: usize) -> usize
+    ensures { λ r. ⌜ Wrote (now (o .entry)) at (pollWords s slot relayfor) (now (o .exit)) r ⌝ }
+{
+    if slot == 255 {
+        return at;
+    }
+    let g = s.settings;
+    let m = net::member_at(s, slot);
+    bursts::poll_burst(
+        g,
+        net::is_member(s.used, slot),
+        m,
+        slot,
+        relayfor,
+        false,
+        o,
+        at,
+    )
+}
+
+fn poll(mut s: Station, act: Act, o: &mut [u32], at: &mut usize) -> Station
+    ensures { λ r. ⌜ Did (pollIf act s) r (now (o .entry)) (now (at .entry)) (now (o .exit)) (now (at .exit)) ⌝ }
+{
+    let x = s.wait;
+    let slot = front(x, s.round.list, act);
+    let source = source_for(s, slot);
+    *at = put_poll(s, slot, source, o, *at);
+    let y = poll_wait(x, slot, source);
+    s.wait = y;
+    let z = s.totals;
+    let p = poll_totals(z, slot);
+    s.totals = p;
+    let list = poll_list(s.round.list, slot);
+    s.round.list = list;
+    s
+}

@@ -1,0 +1,5 @@
+pub mod Endings
+pub mod Counts
+pub mod Turns
+pub mod Each
+pub mod Whole

@@ -1,0 +1,16 @@
+-- Assumes nothing.
+use borrow.Author.Needs.{needs}
+use Rattle.rx.proofs.ending.end_totals.Statement.{statement}
+use Rattle.rx.proofs.ending.end_totals.Tie as tie
+
+one-more-requires : tie.Need-one-more-requires
+one-more-requires c κs = search needs
+
+returns : tie.Need-returns
+returns c = rw (c .before .if1 .taken, ← c .one-more .ensures)
+
+returns-2 : tie.Need-returns-2
+returns-2 c = rw (c .if1 .left)
+
+pub end-totals-spec : {M : Type 1} → statement M
+end-totals-spec = tie.close (tie.spec one-more-requires returns returns-2)

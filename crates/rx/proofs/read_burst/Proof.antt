@@ -1,0 +1,312 @@
+-- Assumes nothing.
+use mathlib.Core.Path.{sym, ap, _∙_}
+use Rattle.out.proofs.Laws.{wrote-length}
+use Rattle.frames.specs.declared.Rx.{Rx}
+use native.Mathlib.Omega.{arith}
+use Prim.Native.Nat.{_-_}
+use borrow.Author.Needs.{needs}
+use Rattle.net.proofs.Laws.{index-lt}
+use Rattle.rx.proofs.Turns.{Going, going-start, fits, fewer, read-done}
+use Rattle.rx.proofs.Each.{cell-lt, report-word, room-now, turn-piece, turn-report, turn-other}
+use Rattle.rx.proofs.read_burst.Statement.{statement}
+use Rattle.rx.proofs.read_burst.Tie as tie
+
+abbrev Inv-loop : tie.InvT-loop
+Inv-loop h a words n lent₀ o₀ at mask s₀ x₀ lent o s x = Going a words n s₀ lent₀ o₀ lent o s x
+
+abbrev μ-loop : tie.MeasureT-loop
+μ-loop h a words n lent₀ o₀ at mask s₀ x₀ lent o s x = n - x .frame
+
+first-rx-requires : tie.Need-first-rx-requires Inv-loop μ-loop
+first-rx-requires c κs = search needs
+
+loop-holds : tie.Need-loop-holds Inv-loop μ-loop
+loop-holds c = going-start _ _ _ _ _ _ _ (c .first-rx .ensures) (λ h. c .before .before .before .before .pre h .0)
+
+frame-at-requires : tie.Need-frame-at-requires Inv-loop μ-loop
+frame-at-requires c κs = search needs
+
+kind-of-requires : tie.Need-kind-of-requires Inv-loop μ-loop
+kind-of-requires c κs = search needs
+
+is-piece-requires : tie.Need-is-piece-requires Inv-loop μ-loop
+is-piece-requires c κs = search needs
+
+index-requires : tie.Need-index-requires Inv-loop μ-loop
+index-requires c κs = search needs
+
+mul-m : tie.Need-mul-m Inv-loop μ-loop
+mul-m c = omega (arith, rw (← c .index .ensures) at (index-lt (c .before .before .before .before .frame-at .result .slot)))
+
+element-copy-out-m : tie.Need-element-copy-out-m Inv-loop μ-loop
+element-copy-out-m c = omega (arith, rw (← c .index .ensures) at (index-lt (c .before .before .before .before .frame-at .result .slot)))
+
+is-member-requires : tie.Need-is-member-requires Inv-loop μ-loop
+is-member-requires c κs = search needs
+
+piece-of-requires : tie.Need-piece-of-requires Inv-loop μ-loop
+piece-of-requires c κs = search needs
+
+place-of-requires : tie.Need-place-of-requires Inv-loop μ-loop
+place-of-requires c κs = search needs
+
+mul-before : tie.Need-mul-before Inv-loop μ-loop
+mul-before c = omega (arith, cell-lt _ _ _ _ _ _ _ _ (c .before .piece-of .ensures) (c .place-of .ensures))
+
+element-copy-out-before : tie.Need-element-copy-out-before Inv-loop μ-loop
+element-copy-out-before c = omega (arith, cell-lt _ _ _ _ _ _ _ _ (c .before .piece-of .ensures) (c .place-of .ensures))
+
+take-requires : tie.Need-take-requires Inv-loop μ-loop
+take-requires c κs = room-now (c .before .before .before .before .before .before .before .before .before .before .before .before .before .before .before .before .loop .inv) (c .before .before .before .before .before .before .before .before .before .before .before .before .before .before .if1 .taken) (c .before .before .before .before .before .before .before .before .before .before .before .before .before .frame-at .result) (c .before .before .before .before .before .before .before .before .before .before .before .before .before .frame-at .ensures) (c .before .before .before .before .before .before .before .before .before .before .before .before .kind-of .result) (c .before .before .before .before .before .before .before .before .before .before .before .before .kind-of .ensures) _ _ _ _ _ _ _ (c .before .before .before .piece-of .ensures) (c .before .before .before .before .before .before .before .before .before .before .before .before .before .before .before .before .before .before .before .before .before .pre (omega arith) .1)
+
+mul-after : tie.Need-mul-after Inv-loop μ-loop
+mul-after c = omega (arith, cell-lt _ _ _ _ _ _ _ _ (c .before .before .before .before .before .before .before .piece-of .ensures) (c .before .before .before .before .before .before .place-of .ensures))
+
+element-set-from-after : tie.Need-element-set-from-after Inv-loop μ-loop
+element-set-from-after c = omega (arith, cell-lt _ _ _ _ _ _ _ _ (c .before .before .before .before .before .before .before .piece-of .ensures) (c .before .before .before .before .before .before .place-of .ensures))
+
+mul-owner-after : tie.Need-mul-owner-after Inv-loop μ-loop
+mul-owner-after c = omega (arith, cell-lt _ _ _ _ _ _ _ _ (c .before .before .before .before .before .before .before .piece-of .ensures) (c .before .before .before .before .before .before .place-of .ensures))
+
+element-copy-out-owner-after : tie.Need-element-copy-out-owner-after Inv-loop μ-loop
+element-copy-out-owner-after c = omega (arith, cell-lt _ _ _ _ _ _ _ _ (c .before .before .before .before .before .before .before .piece-of .ensures) (c .before .before .before .before .before .before .place-of .ensures))
+
+owner-after-requires : tie.Need-owner-after-requires Inv-loop μ-loop
+owner-after-requires c κs = search needs
+
+mul-s : tie.Need-mul-s Inv-loop μ-loop
+mul-s c = omega (arith, cell-lt _ _ _ _ _ _ _ _ (c .before .before .before .before .before .before .before .before .before .piece-of .ensures) (c .before .before .before .before .before .before .before .before .place-of .ensures))
+
+element-write-s : tie.Need-element-write-s Inv-loop μ-loop
+element-write-s c = omega (arith, cell-lt _ _ _ _ _ _ _ _ (c .before .before .before .before .before .before .before .before .before .piece-of .ensures) (c .before .before .before .before .before .before .before .before .place-of .ensures))
+
+changed-requires : tie.Need-changed-requires Inv-loop μ-loop
+changed-requires c κs = search needs
+
+with-if-requires : tie.Need-with-if-requires Inv-loop μ-loop
+with-if-requires c κs = search needs
+
+has-landed-requires : tie.Need-has-landed-requires Inv-loop μ-loop
+has-landed-requires c κs = search needs
+
+with-if-requires-2 : tie.Need-with-if-requires-2 Inv-loop μ-loop
+with-if-requires-2 c κs = search needs
+
+member-after-requires : tie.Need-member-after-requires Inv-loop μ-loop
+member-after-requires c κs = search needs
+
+mul-k : tie.Need-mul-k Inv-loop μ-loop
+mul-k c = omega (arith, rw (← c .before .before .before .before .before .before .before .before .before .before .before .before .before .before .before .before .before .before .before .before .index .ensures) at (index-lt (c .before .before .before .before .before .before .before .before .before .before .before .before .before .before .before .before .before .before .before .before .before .before .before .before .frame-at .result .slot)))
+
+element-set-from-k : tie.Need-element-set-from-k Inv-loop μ-loop
+element-set-from-k c = omega (arith, rw (← c .before .before .before .before .before .before .before .before .before .before .before .before .before .before .before .before .before .before .before .before .index .ensures) at (index-lt (c .before .before .before .before .before .before .before .before .before .before .before .before .before .before .before .before .before .before .before .before .before .before .before .before .frame-at .result .slot)))
+
+is-relayed-requires : tie.Need-is-relayed-requires Inv-loop μ-loop
+is-relayed-requires c κs = search needs
+
+round-after-requires : tie.Need-round-after-requires Inv-loop μ-loop
+round-after-requires c κs = search needs
+
+totals-after-requires : tie.Need-totals-after-requires Inv-loop μ-loop
+totals-after-requires c κs = search needs
+
+landed-events-requires : tie.Need-landed-events-requires Inv-loop μ-loop
+landed-events-requires c κs = search needs
+
+lost-requires : tie.Need-lost-requires Inv-loop μ-loop
+lost-requires c κs = search needs
+
+with-if-requires-3 : tie.Need-with-if-requires-3 Inv-loop μ-loop
+with-if-requires-3 c κs = search needs
+
+next-frame-requires : tie.Need-next-frame-requires Inv-loop μ-loop
+next-frame-requires c κs = fits (c .before .before .before .before .before .before .before .before .before .before .before .before .before .before .before .before .before .before .before .before .before .before .before .before .before .before .before .before .before .before .before .before .before .before .before .before .before .before .loop .inv) (c .before .before .before .before .before .before .before .before .before .before .before .before .before .before .before .before .before .before .before .before .before .before .before .before .before .before .before .before .before .before .before .before .before .before .before .before .if1 .taken) (c .before .before .before .before .before .before .before .before .before .before .before .before .before .before .before .before .before .before .before .before .before .before .before .before .before .before .before .before .before .before .before .before .before .before .before .frame-at .result) (c .before .before .before .before .before .before .before .before .before .before .before .before .before .before .before .before .before .before .before .before .before .before .before .before .before .before .before .before .before .before .before .before .before .before .before .frame-at .ensures) (c .before .before .before .before .before .before .before .before .before .before .before .before .before .before .before .before .before .before .before .before .before .before .before .before .before .before .before .before .before .before .before .before .before .before .before .before .before .before .before .before .before .before .before .good .1 .1 .1 .0 .0)
+
+loop-less : tie.Need-loop-less Inv-loop μ-loop
+loop-less c = fewer (ap (λ (k : Rx). k .frame) (c .next-frame .ensures)) (c .before .before .before .before .before .before .before .before .before .before .before .before .before .before .before .before .before .before .before .before .before .before .before .before .before .before .before .before .before .before .before .before .before .before .before .before .before .if1 .taken)
+
+loop-again : tie.Need-loop-again Inv-loop μ-loop
+loop-again c =
+    turn-piece (c .before .before .before .before .before .before .before .before .before .before .before .before .before .before .before .before .before .before .before .before .before .before .before .before .before .before .before .before .before .before .before .before .before .before .before .before .before .before .before .loop .inv) (c .before .before .before .before .before .before .before .before .before .before .before .before .before .before .before .before .before .before .before .before .before .before .before .before .before .before .before .before .before .before .before .before .before .before .before .before .before .if1 .taken) (c .before .before .before .before .before .before .before .before .before .before .before .before .before .before .before .before .before .before .before .before .before .before .before .before .before .before .before .before .before .before .before .before .before .before .before .before .frame-at .result) (c .before .before .before .before .before .before .before .before .before .before .before .before .before .before .before .before .before .before .before .before .before .before .before .before .before .before .before .before .before .before .before .before .before .before .before .before .frame-at .ensures) (c .before .before .before .before .before .before .before .before .before .before .before .before .before .before .before .before .before .before .before .before .before .before .before .before .before .before .before .before .before .before .before .before .before .before .before .kind-of .result) (c .before .before .before .before .before .before .before .before .before .before .before .before .before .before .before .before .before .before .before .before .before .before .before .before .before .before .before .before .before .before .before .before .before .before .before .kind-of .ensures) (sym (c .before .before .before .before .before .before .before .before .before .before .before .before .before .before .before .before .before .before .before .before .before .before .before .before .before .before .before .before .before .before .before .before .before .before .is-piece .ensures) ∙ c .before .before .before .before .before .before .before .before .before .before .before .before .before .before .before .before .before .before .before .before .before .before .before .before .before .before .before .before .before .before .before .before .before .if2 .taken)
+    (c .before .before .before .before .before .before .before .before .before .before .before .before .before .before .before .before .before .before .before .before .before .before .before .before .before .before .before .before .before .before .before .before .index .ensures)
+    (c .before .before .before .before .before .before .before .before .before .before .before .before .before .before .before .before .before .before .before .before .before .before .before .before .before .before .before .before .before .is-member .ensures)
+    (c .before .before .before .before .before .before .before .before .before .before .before .before .before .before .before .before .before .before .before .before .before .before .before .before .before .before .piece-of .ensures)
+    (c .before .before .before .before .before .before .before .before .before .before .before .before .before .before .before .before .before .before .before .before .before .before .before .before .before .place-of .ensures)
+    (c .before .before .before .before .before .before .before .before .before .before .before .before .before .before .before .before .before .before .before .before .before .before .take .ensures)
+    (c .before .before .before .before .before .before .before .before .before .before .before .before .before .before .before .before .before .owner-after .ensures)
+    (rw (c .before .before .before .before .before .before .before .before .before .before .before .before .before .before .before .before .changed .ensures) at (c .before .before .before .before .before .before .before .before .before .before .before .before .before .before .before .with-if .ensures))
+    (rw (c .before .before .before .before .before .before .before .before .before .before .before .before .before .before .has-landed .ensures) at (c .before .before .before .before .before .before .before .before .before .before .before .before .before .with-if2 .ensures))
+    (c .before .before .before .before .before .before .before .before .before .before .before .before .member-after .ensures)
+    (c .before .before .before .before .before .before .before .before .before .before .before .is-relayed .ensures)
+    (c .before .before .before .before .before .before .before .before .before .round-after .ensures)
+    (c .before .before .before .before .before .before .before .totals-after .ensures)
+    (c .before .before .before .before .before .landed-events .ensures)
+    (rw (c .before .before .lost .ensures) at (c .before .with-if3 .ensures))
+    (c .before .before .before .before .before .before .before .before .before .before .before .before .before .before .before .before .before .before .before .before .before .before .take .kept .1 .1 .1 .1 .1 .0)
+    (c .next-frame .ensures)
+
+is-report-requires : tie.Need-is-report-requires Inv-loop μ-loop
+is-report-requires c κs = search needs
+
+byte-in-requires : tie.Need-byte-in-requires Inv-loop μ-loop
+byte-in-requires c κs = search needs
+
+is-member-requires-2 : tie.Need-is-member-requires-2 Inv-loop μ-loop
+is-member-requires-2 c κs = search needs
+
+index-requires-2 : tie.Need-index-requires-2 Inv-loop μ-loop
+index-requires-2 c κs = search needs
+
+mul-m-2 : tie.Need-mul-m-2 Inv-loop μ-loop
+mul-m-2 c = omega (arith, rw (← c .index2 .ensures) at (index-lt (c .before .before .byte-in .result)))
+
+element-copy-out-m-2 : tie.Need-element-copy-out-m-2 Inv-loop μ-loop
+element-copy-out-m-2 c = omega (arith, rw (← c .index2 .ensures) at (index-lt (c .before .before .byte-in .result)))
+
+is-forwarded-requires : tie.Need-is-forwarded-requires Inv-loop μ-loop
+is-forwarded-requires c κs = search needs
+
+byte-in-requires-2 : tie.Need-byte-in-requires-2 Inv-loop μ-loop
+byte-in-requires-2 c κs = search needs
+
+report-member-requires : tie.Need-report-member-requires Inv-loop μ-loop
+report-member-requires c κs = search needs
+
+mul-k-2 : tie.Need-mul-k-2 Inv-loop μ-loop
+mul-k-2 c = omega (arith, rw (← c .before .before .before .before .index2 .ensures) at (index-lt (c .before .before .before .before .before .before .byte-in .result)))
+
+element-set-from-k-2 : tie.Need-element-set-from-k-2 Inv-loop μ-loop
+element-set-from-k-2 c = omega (arith, rw (← c .before .before .before .before .index2 .ensures) at (index-lt (c .before .before .before .before .before .before .byte-in .result)))
+
+report-hears-requires : tie.Need-report-hears-requires Inv-loop μ-loop
+report-hears-requires c κs = search needs
+
+is-pending-requires : tie.Need-is-pending-requires Inv-loop μ-loop
+is-pending-requires c κs = search needs
+
+report-rx-requires : tie.Need-report-rx-requires Inv-loop μ-loop
+report-rx-requires c κs = search needs
+
+next-frame-requires-2 : tie.Need-next-frame-requires-2 Inv-loop μ-loop
+next-frame-requires-2 c κs =
+    let r = report-word (c .before .before .before .before .before .before .before .before .before .before .before .before .before .before .before .before .before .before .before .loop .x) (c .before .before .before .before .before .before .is-forwarded .result) (c .before .before .before .before .before .before .before .before .before .before .byte-in .result) (c .before .is-pending .result) (c .report-rx .ensures) in
+    rw (r .0, r .1) (fits (c .before .before .before .before .before .before .before .before .before .before .before .before .before .before .before .before .before .before .before .loop .inv) (c .before .before .before .before .before .before .before .before .before .before .before .before .before .before .before .before .before .if1 .taken) (c .before .before .before .before .before .before .before .before .before .before .before .before .before .before .before .before .frame-at .result) (c .before .before .before .before .before .before .before .before .before .before .before .before .before .before .before .before .frame-at .ensures) (c .before .before .before .before .before .before .before .before .before .before .before .before .before .before .before .before .before .before .before .before .before .before .before .before .good .1 .1 .1 .0 .0))
+
+loop-less-2 : tie.Need-loop-less-2 Inv-loop μ-loop
+loop-less-2 c =
+    let r = report-word (c .before .before .before .before .before .before .before .before .before .before .before .before .before .before .before .before .before .before .before .before .loop .x) (c .before .before .before .before .before .before .before .is-forwarded .result) (c .before .before .before .before .before .before .before .before .before .before .before .byte-in .result) (c .before .before .is-pending .result) (c .before .report-rx .ensures) in
+    fewer (ap (λ (k : Rx). k .frame) (c .next-frame2 .ensures) ∙ (rw (r .1))) (c .before .before .before .before .before .before .before .before .before .before .before .before .before .before .before .before .before .before .if1 .taken)
+
+loop-again-2 : tie.Need-loop-again-2 Inv-loop μ-loop
+loop-again-2 c =
+    let r = report-word (c .before .before .before .before .before .before .before .before .before .before .before .before .before .before .before .before .before .before .before .before .loop .x) (c .before .before .before .before .before .before .before .is-forwarded .result) (c .before .before .before .before .before .before .before .before .before .before .before .byte-in .result) (c .before .before .is-pending .result) (c .before .report-rx .ensures) in
+    turn-report (c .before .before .before .before .before .before .before .before .before .before .before .before .before .before .before .before .before .before .before .before .loop .inv) (c .before .before .before .before .before .before .before .before .before .before .before .before .before .before .before .before .before .before .if1 .taken) (c .before .before .before .before .before .before .before .before .before .before .before .before .before .before .before .before .before .frame-at .result) (c .before .before .before .before .before .before .before .before .before .before .before .before .before .before .before .before .before .frame-at .ensures) (c .before .before .before .before .before .before .before .before .before .before .before .before .before .before .before .before .kind-of .result) (c .before .before .before .before .before .before .before .before .before .before .before .before .before .before .before .before .kind-of .ensures) (sym (c .before .before .before .before .before .before .before .before .before .before .before .before .before .is-report .ensures) ∙ c .before .before .before .before .before .before .before .before .before .before .before .before .if3 .taken)
+    (c .before .before .before .before .before .before .before .before .before .before .before .byte-in .ensures)
+    (c .before .before .before .before .before .before .before .before .before .before .is-member2 .ensures)
+    (c .before .before .before .before .before .before .before .before .before .index2 .ensures)
+    (c .before .before .before .before .before .before .before .is-forwarded .ensures)
+    (c .before .before .before .before .before .before .byte-in2 .ensures)
+    (c .before .before .before .before .before .report-member .ensures)
+    (c .before .before .before .report-hears .ensures)
+    (c .before .before .is-pending .ensures)
+    (c .before .report-rx .ensures)
+    (r .0)
+    (r .1)
+    (r .2)
+    (c .next-frame2 .ensures)
+
+control-requires : tie.Need-control-requires Inv-loop μ-loop
+control-requires c κs = search needs
+
+next-frame-requires-3 : tie.Need-next-frame-requires-3 Inv-loop μ-loop
+next-frame-requires-3 c κs = fits (c .before .before .before .before .before .before .before .before .before .before .before .before .before .loop .inv) (c .before .before .before .before .before .before .before .before .before .before .before .if1 .taken) (c .before .before .before .before .before .before .before .before .before .before .frame-at .result) (c .before .before .before .before .before .before .before .before .before .before .frame-at .ensures) (c .before .before .before .before .before .before .before .before .before .before .before .before .before .before .before .before .before .before .good .1 .1 .1 .0 .0)
+
+loop-less-3 : tie.Need-loop-less-3 Inv-loop μ-loop
+loop-less-3 c = fewer (ap (λ (k : Rx). k .frame) (c .next-frame3 .ensures)) (c .before .before .before .before .before .before .before .before .before .before .before .before .if1 .taken)
+
+loop-again-3 : tie.Need-loop-again-3 Inv-loop μ-loop
+loop-again-3 c =
+    turn-other (c .before .before .before .before .before .before .before .before .before .before .before .before .before .before .loop .inv) (c .before .before .before .before .before .before .before .before .before .before .before .before .if1 .taken) (c .before .before .before .before .before .before .before .before .before .before .before .frame-at .result) (c .before .before .before .before .before .before .before .before .before .before .before .frame-at .ensures) (c .before .before .before .before .before .before .before .before .before .before .kind-of .result) (c .before .before .before .before .before .before .before .before .before .before .kind-of .ensures) (sym (c .before .before .before .before .before .before .before .before .before .is-piece .ensures) ∙ c .before .before .before .before .before .before .before .before .if2 .left) (sym (c .before .before .before .before .before .before .before .is-report .ensures) ∙ c .before .before .before .before .before .before .if3 .left)
+    (c .before .before .before .control .ensures)
+    (c .next-frame3 .ensures)
+
+finish-requires : tie.Need-finish-requires Inv-loop μ-loop
+finish-requires c κs = search needs
+
+same-length : tie.Need-same-length Inv-loop μ-loop
+same-length c = c .before .before .before .before .before .before .before .loop .inv .size
+
+same-length-2 : tie.Need-same-length-2 Inv-loop μ-loop
+same-length-2 c = wrote-length (c .before .before .finish .ensures .wrote) ∙ wrote-length (c .before .before .before .before .before .before .before .loop .inv .wrote)
+
+returns : tie.Need-returns Inv-loop μ-loop
+returns c = read-done (c .before .before .before .before .before .before .before .loop .inv) (c .before .before .before .before .before .before .before .before .before .before .before .before .args .h) (c .before .before .before .before .before .if1 .left) (c .before .before .finish .ensures)
+
+pub read-burst-spec : {M : Type 1} → statement M
+read-burst-spec =
+    tie.close
+    (tie.spec
+    Inv-loop
+    μ-loop
+    first-rx-requires
+    loop-holds
+    frame-at-requires
+    kind-of-requires
+    is-piece-requires
+    index-requires
+    mul-m
+    element-copy-out-m
+    is-member-requires
+    piece-of-requires
+    place-of-requires
+    mul-before
+    element-copy-out-before
+    take-requires
+    mul-after
+    element-set-from-after
+    mul-owner-after
+    element-copy-out-owner-after
+    owner-after-requires
+    mul-s
+    element-write-s
+    changed-requires
+    with-if-requires
+    has-landed-requires
+    with-if-requires-2
+    member-after-requires
+    mul-k
+    element-set-from-k
+    is-relayed-requires
+    round-after-requires
+    totals-after-requires
+    landed-events-requires
+    lost-requires
+    with-if-requires-3
+    next-frame-requires
+    loop-less
+    loop-again
+    is-report-requires
+    byte-in-requires
+    is-member-requires-2
+    index-requires-2
+    mul-m-2
+    element-copy-out-m-2
+    is-forwarded-requires
+    byte-in-requires-2
+    report-member-requires
+    mul-k-2
+    element-set-from-k-2
+    report-hears-requires
+    is-pending-requires
+    report-rx-requires
+    next-frame-requires-2
+    loop-less-2
+    loop-again-2
+    control-requires
+    next-frame-requires-3
+    loop-less-3
+    loop-again-3
+    finish-requires
+    same-length
+    same-length-2
+    returns)

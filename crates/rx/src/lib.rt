@@ -1,0 +1,187 @@
+// Reception (ncs_rx of ncs.rs): a tiny burst, or the frames one after the other, and then the reply.
+ghost use mathlib.Core.Path.{_≡_};
+ghost use mathlib.Core.Bool.{true};
+ghost use Prim.Native.Nat.{_*_, _<_, _≤_};
+ghost use lib.ListN.{length};
+ghost use Rattle.inbox.specs.Sizes.{cellSize};
+ghost use Rattle.words.specs.declared.Shape.the-variants.{Frames};
+ghost use Rattle.words.specs.Words.{parse, shapeOf};
+ghost use Rattle.rx.specs.Reception.{headFor, airBy, manyOf, isPiece, isReport, RxDid, burstRead, rxOf};
+use frames::Air;
+use frames::Kind;
+use frames::control;
+use frames::pieces;
+use net::Station;
+use net::Wait;
+use stream::table;
+use words::Head;
+
+pub mod ending;
+
+// A burst of n frames, which the words are, where `ok`; else nothing changes.
+pub fn ncs_rx(
+    mut s: Station,
+    ok: bool,
+    words: &[u32],
+    n: usize,
+    level: f32,
+    time: f64,
+    lent: &mut [u8],
+    o: &mut [u32],
+    at: &mut usize,
+    mask: &mut u64,
+) -> Station
+    requires { ⌜ (ok ≡ true → (shapeOf (parse (now words)) ≡ Frames n) × (cellSize * s .count ≤ length (now lent))) ⌝ }
+    ensures { λ r. ⌜ RxDid (rxOf ok (now (words .entry)) s level time (now (lent .entry))) r (now (lent .exit)) (now (o .entry)) (now (o .exit)) (now (at .exit)) (now (mask .exit)) ⌝ }
+{
+    let h = head_or(words, ok);
+    let w = s.wait;
+    let g = s.settings;
+    let a = air_of(w, s.used, h, level, time);
+    let v = ending::busy_wait(w, h, g, time);
+    s.wait = v;
+    read_burst(s, h, a, words, many_of(h, n), lent, o, at, mask)
+}
+
+// The n frames of the burst that the words are, and then the end. A piece and a report touch one member, in place; the other control
+// frames are rarer.
+fn read_burst(
+    mut s: Station,
+    h: Head,
+    a: Air,
+    words: &[u32],
+    n: usize,
+    lent: &mut [u8],
+    o: &mut [u32],
+    at: &mut usize,
+    mask: &mut u64,
+) -> Station
+    requires { ⌜ (0 < n → (shapeOf (parse (now words)) ≡ Frames n) × (cellSize * s .count ≤ length (now lent))) ⌝ }
+    ensures { λ r. ⌜ RxDid (burstRead a h n (now (words .entry)) s (now (lent .entry))) r (now (lent .exit)) (now (o .entry)) (now (o .exit)) (now (at .exit)) (now (mask .exit)) ⌝ }
+{
+    let mut x = frames::first_rx();
+    while x.frame < n {
+        let f = frames::frame_at(words, x.word);
+        let kind = frames::kind_of(words, x.word, f);
+        if is_piece(kind) {
+            let i = net::index(f.slot);
+            let m = s.members[i];
+            let up = m.up;
+            let here = net::is_member(s.used, f.slot);
+            let p = pieces::piece_of(
+                up,
+                here,
+                f.slot,
+                f.field,
+                &s.owners,
+                s.busy,
+                s.landed,
+                s.count,
+            );
+            let room = p.room;
+            let c = table::place_of(room);
+            let before = s.cells[c];
+            let d = pieces::take(p, before, words, x.word, f.len, lent);
+            let after = d.cell;
+            let kept = d.kept;
+            let lands = d.landed;
+            s.cells[c] = after;
+            s.owners[c] = pieces::owner_after(s.owners[c], d, p);
+            s.busy = pieces::with_if(s.busy, table::changed(kept), c);
+            s.landed = pieces::with_if(s.landed, table::has_landed(lands), c);
+            let k = pieces::member_after(m, d, p, a);
+            s.members[i] = k;
+            let relayed = pieces::is_relayed(d, p, a, s.used);
+            let r = s.round;
+            let q = pieces::round_after(r, d, relayed);
+            s.round = q;
+            let t = s.totals;
+            let u = pieces::totals_after(t, relayed);
+            s.totals = u;
+            x.at = pieces::landed_events(o, x.at, d, p, c, relayed, a.polled);
+            x.unkept = pieces::with_if(x.unkept, table::lost(kept), x.frame);
+            x = frames::next_frame(x, f);
+            continue;
+        }
+        if is_report(kind) {
+            let slot = control::byte_in(words, x.word, f.len, 1);
+            let here = net::is_member(s.used, slot);
+            let i = net::index(slot);
+            let m = s.members[i];
+            let forwarded = control::is_forwarded(m, here, a);
+            let q = control::byte_in(words, x.word, f.len, 2);
+            let k = control::report_member(m, here, forwarded, a, q);
+            s.members[i] = k;
+            control::report_hears(&mut s.hears, here, slot, words, x.word, f.len);
+            let pending = control::is_pending(words, x.word, f.len);
+            x = control::report_rx(x, forwarded, slot, pending);
+            x = frames::next_frame(x, f);
+            continue;
+        }
+        let mut end = x.at;
+        s = control::control(s, kind, f, a, words, x.word, o, &mut end);
+        x.at = end;
+        x = frames::next_frame(x, f);
+    }
+    *mask = x.unkept;
+    ending::finish(s, x, h, a, o, at)
+}
+
+// The head; of a refused burst that of a tiny one that says nothing.
+fn head_or(words: &[u32], ok: bool) -> Head
+    ensures { λ r. ⌜ r ≡ headFor ok (now (words .entry)) ⌝ }
+{
+    if ok {
+        if 0 < words.len() {
+            return words::head_of(words[0]);
+        }
+    }
+    words::head_of(0x87c0_0000)
+}
+
+fn air_of(w: Wait, used: u64, h: Head, level: f32, time: f64) -> Air
+    ensures { λ r. ⌜ r ≡ airBy (w .turn) used h level time ⌝ }
+{
+    let aside = ending::is_aside(h);
+    let slot = net::polled_slot(w);
+    Air {
+        level: level,
+        time: time,
+        aside: aside,
+        polled: if aside { 255 } else { slot },
+        start: used,
+    }
+}
+
+// Of a tiny burst no frame is read.
+fn many_of(h: Head, n: usize) -> usize
+    ensures { λ r. ⌜ r ≡ manyOf h n ⌝ }
+{
+    if h.code == wire::TINY { 0 } else { n }
+}
+
+fn is_piece(kind: Kind) -> bool
+    ensures { λ r. ⌜ r ≡ isPiece kind ⌝ }
+{
+    match kind {
+        Kind::Nothing => false,
+        Kind::Piece => true,
+        Kind::Checkin => false,
+        Kind::Report => false,
+        Kind::Overheard => false,
+        Kind::Kids => false,
+    }
+}
+
+fn is_report(kind: Kind) -> bool
+    ensures { λ r. ⌜ r ≡ isReport kind ⌝ }
+{
+    match kind {
+        Kind::Nothing => false,
+        Kind::Piece => false,
+        Kind::Checkin => false,
+        Kind::Report => true,
+        Kind::Overheard => false,
+        Kind::Kids => false,
+    }
+}
