@@ -1,0 +1,54 @@
+-- Assumes nothing.
+use Prim.Native.Nat.{_-_}
+use native.Mathlib.Omega.{arith}
+use Rattle.limits.proofs.edge.scattered.Statement.{statement}
+use Rattle.limits.proofs.edge.scattered.Tie as tie
+
+abbrev Inv-loop : tie.InvT-loop
+Inv-loop w₀ n e₀ k₀ w e k = Unit
+
+abbrev μ-loop : tie.MeasureT-loop
+μ-loop w₀ n e₀ k₀ w e k = n - k
+
+head-requires : tie.Need-head-requires Inv-loop μ-loop
+head-requires c κs = tt
+
+loop-holds : tie.Need-loop-holds Inv-loop μ-loop
+loop-holds c = tt
+
+mul-piece : tie.Need-mul-piece Inv-loop μ-loop
+mul-piece c = omega arith
+
+add-piece : tie.Need-add-piece Inv-loop μ-loop
+add-piece c = omega arith
+
+piece-requires : tie.Need-piece-requires Inv-loop μ-loop
+piece-requires c κs = tt
+
+add-k : tie.Need-add-k Inv-loop μ-loop
+add-k c = omega arith
+
+loop-less : tie.Need-loop-less Inv-loop μ-loop
+loop-less c = omega arith
+
+loop-again : tie.Need-loop-again Inv-loop μ-loop
+loop-again c = tt
+
+returns : tie.Need-returns Inv-loop μ-loop
+returns c = tt
+
+pub scattered-spec : {M : Type 1} → statement M
+scattered-spec =
+    tie.close
+    (tie.spec
+    Inv-loop
+    μ-loop
+    head-requires
+    loop-holds
+    mul-piece
+    add-piece
+    piece-requires
+    add-k
+    loop-less
+    loop-again
+    returns)

@@ -1,0 +1,30 @@
+-- Relays of relays arise: three boats admitted directly, each with the one before for its relay. Definitions run. Assumes nothing.
+use mathlib.Core.Path.{_≡_, refl}
+use Prim.Native.Nat.{ℕ}
+use mathlib.Core.List.{List, [], _∷_}
+use lib.Ieee.{ofBits}
+use Rattle.level.specs.Consts.{nought}
+use Rattle.bits.specs.Loop.{first}
+use Rattle.bits.specs.Mask.{hasBit, withBit, lowestFree}
+use Rattle.wire.specs.Call.{digit, char, trimStart, trimEnd, unpacked, shifted}
+use Rattle.admit.specs.Admission.{seatOf, findCall, leadsTo}
+use Rattle.station.specs.Entries.{admitOf, admitRefusal}
+use Rattle.net.specs.declared.Station.{Station}
+use Rattle.net.specs.declared.Settings.{Settings}
+use Rattle.net.specs.Net.{isMember, newStation}
+use Rattle.promise.specs.Calls.{Call, admission, after, net, step, outcome}
+use Rattle.promise.specs.Links.{root, via, link}
+
+abbrev pub three : List Call
+three =
+    admission (0 ∷ 0 ∷ 0 ∷ 0 ∷ 1 ∷ []) 63 nought 8192
+    ∷ admission (0 ∷ 0 ∷ 0 ∷ 0 ∷ 2 ∷ []) 0 nought 8192
+    ∷ admission (0 ∷ 0 ∷ 0 ∷ 0 ∷ 3 ∷ []) 1 nought 8192
+    ∷ []
+
+abbrev pub line : Settings → List ℕ → Station
+line g store = after three (net (newStation g 1) store) .station
+
+pub chain : (g : Settings) (store : List ℕ) → (link (line g store) 2 ≡ via 1) × (link (line g store) 1 ≡ via 0) × (link (line g store) 0 ≡ root)
+unfolding after step outcome newStation admitOf admitRefusal isMember hasBit withBit seatOf findCall first lowestFree leadsTo digit char trimStart trimEnd unpacked shifted ofBits
+chain g store = (refl, refl, refl)

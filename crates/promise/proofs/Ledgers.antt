@@ -1,0 +1,179 @@
+-- The book alone: what a piece covers, what is covered whole; and of one cell, that it lands exactly where all is covered. Assumes nothing.
+use mathlib.Core.Path.{_≡_, refl, sym, ap, _∙_, subst}
+use mathlib.Core.Bool.{Bool, true, false, not, cond, _&&_}
+use mathlib.Core.List.{List, [], _∷_}
+use mathlib.Core.Logic.{_⊎_, inl, inr, ⊎-elim}
+use Prim.Native.Nat.{ℕ, zero, suc, _+_, _-_, _*_, _%_, _≤_, _<_, zero-le}
+use native.Mathlib.Omega.{arith}
+use lib.ListN.{length, getD, take, drop, length-drop, replicate, getD-replicate, length-replicate}
+use lib.Seq.{getD-take, getD-drop, length-take-le, ext-getD}
+use lib.Dec.{leb, ltb, eqb}
+use borrow.Author.Tests.{leb-true, leb-false, ltb-true, eqb-true, lt-ltb, le-leb, eq-eqb}
+use Rattle.bits.proofs.Lists.{cases, le-or-lt, eq-or-not, and-true, never-both}
+use Rattle.inbox.specs.Cells.{Held, held, offset, size, accept}
+use Rattle.inbox.specs.declared.cell.Cell.{Cell}
+use Rattle.inbox.specs.declared.keep.Kept.the-variants.{Needless}
+use Rattle.inbox.specs.Keeping.{keptOf}
+use Rattle.inbox.specs.Messages.{empty, emptyCell, announced, landed, framed, Cut}
+use Rattle.inbox.specs.Stores.{bodySize, bodyOf}
+use Rattle.inbox.proofs.Joined.{AtPlace, Inv, More, accept-inv}
+use Rattle.inbox.proofs.Rule.{needless-same, kept-room}
+use Rattle.promise.specs.Book.{Ledger, same, inside, cover, alsoHanded, allBelow}
+
+-- ---- a test of every number below n
+
+all-step : (n : ℕ) (p : ℕ → Bool) → allBelow (suc n) p ≡ p n && allBelow n p
+unfolding allBelow
+all-step n p = refl
+
+pub all-of : (n : ℕ) (p : ℕ → Bool) → ((i : ℕ) → i < n → p i ≡ true) → allBelow n p ≡ true
+all-of zero p h = unfold allBelow in refl
+all-of (suc n) p h = all-step n p ∙ rw (h n (omega arith)) (all-of n p (λ i a. h i (omega arith)))
+
+pub of-all : (n : ℕ) (p : ℕ → Bool) → allBelow n p ≡ true → (i : ℕ) → i < n → p i ≡ true
+of-all zero p h i a = absurd (omega arith)
+of-all (suc n) p h i a =
+    let q = and-true (p n) (allBelow n p) (sym (all-step n p) ∙ h) in
+    ⊎-elim (λ z. ap p z ∙ q .0)
+    (λ z. of-all n p (q .1) i (⊎-elim (λ w. absurd (z (omega arith))) (λ w. w) (le-or-lt n i))) (eq-or-not i n)
+
+pub none-below : (n : ℕ) → false ≡ allBelow (2 + n) (λ i. false)
+none-below n =
+    ⊎-elim (λ t. absurd (never-both false (of-all (2 + n) (λ i. false) t 0 (omega arith)) refl)) (λ t. sym t)
+    (cases (allBelow (2 + n) (λ i. false)))
+
+-- ---- what a piece covers
+
+pub same-true : (s k a b : ℕ) → same s k a b ≡ true → (s ≡ a) × (k ≡ b)
+same-true s k a b t = let q = and-true (eqb s a) (eqb k b) t in (eqb-true _ _ (q .0), eqb-true _ _ (q .1))
+
+pub same-self : (s k : ℕ) → same s k s k ≡ true
+same-self s k = rw (eq-eqb s s refl) (eq-eqb k k refl)
+
+pub cover-other : (s k o n : ℕ) (f : ℕ → ℕ → ℕ → Bool) (a b : ℕ) → same s k a b ≡ false → cover s k o n f a b ≡ f a b
+unfolding cover
+cover-other s k o n f a b t = ap {B = ℕ → Bool} (λ (u : Bool) (i : ℕ). cond (u && inside o n i) true (f a b i)) t
+
+pub cover-same : (s k o n : ℕ) (f : ℕ → ℕ → ℕ → Bool) → cover s k o n f s k ≡ (λ i. cond (inside o n i) true (f s k i))
+unfolding cover
+cover-same s k o n f = ap {B = ℕ → Bool} (λ (u : Bool) (i : ℕ). cond (u && inside o n i) true (f s k i)) (same-self s k)
+
+pub inside-true : (o n i : ℕ) → inside o n i ≡ true → (o ≤ i) × (i < o + n)
+inside-true o n i t = let q = and-true (leb o i) (ltb i (o + n)) t in (leb-true _ _ (q .0), ltb-true _ _ (q .1))
+
+pub inside-of : (o n i : ℕ) → o ≤ i → i < o + n → inside o n i ≡ true
+inside-of o n i a b = rw (le-leb o i a) (lt-ltb i (o + n) b)
+
+-- a piece whose bytes are all covered covers nothing new
+pub cover-nothing : (s k o n : ℕ) (f : ℕ → ℕ → ℕ → Bool) → ((i : ℕ) → o ≤ i → i < o + n → f s k i ≡ true) → cover s k o n f ≡ f
+unfolding cover
+cover-nothing s k o n f h = λ j a b i. at a b i (same s k a b && inside o n i) refl j
+  where
+    at : (a b i : ℕ) (t : Bool) → same s k a b && inside o n i ≡ t → cond t true (f a b i) ≡ f a b i
+    at a b i false e = refl
+    at a b i true e =
+        let w = and-true (same s k a b) (inside o n i) e in
+        let q = same-true s k a b (w .0) in
+        let r = inside-true o n i (w .1) in
+        sym (ap (λ (x : ℕ). f a x i) (sym (q .1)) ∙ ap (λ (x : ℕ). f x k i) (sym (q .0)) ∙ h i (r .0) (r .1))
+
+pub handed-other : (s k : ℕ) (f : ℕ → ℕ → Bool) (a b : ℕ) → same s k a b ≡ false → alsoHanded s k f a b ≡ f a b
+unfolding alsoHanded
+handed-other s k f a b t = rw t
+
+pub handed-self : (s k : ℕ) (f : ℕ → ℕ → Bool) → alsoHanded s k f s k ≡ true
+unfolding alsoHanded
+handed-self s k f = rw (same-self s k)
+
+-- ---- one cell: it lands exactly where every byte is covered, with the bytes that were sent
+
+abbrev pub Cov : (ℕ → Bool) → ℕ → Type 0
+Cov f i = f i ≡ true
+
+module _ (body : List ℕ) (f : ℕ → Bool) (h : Held) (v : Inv (framed body) (Cov f) h) where
+  fresh-end : f (h .cell .joined) ≡ true → ⊥
+  fresh-end c =
+      ⊎-elim (λ b. omega arith) (λ p. let q = v .1 (p .0) (p .1) (omega arith) in omega arith)
+      (v .0 .all (h .cell .joined) c)
+
+  says-of : 2 ≤ h .cell .joined → announced (h .bytes) ≡ length body
+  says-of a = let b₀ = v .0 .same 0 (omega arith) in let b₁ = v .0 .same 1 (omega arith) in omega arith
+
+  whole-of : landed h ≡ true → h .cell .joined ≡ 2 + length body
+  whole-of e =
+      let t = and-true (leb 2 (h .cell .joined)) _ e in
+      let a : 2 ≤ h .cell .joined = leb-true _ _ (t .0) in
+      let b : 2 + announced (h .bytes) ≤ h .cell .joined = leb-true _ _ (t .1) in
+      let n = says-of a in
+      let w = v .0 .within in
+      omega arith
+
+  bytes-at : landed h ≡ true → (i : ℕ) → i < length body → getD (take (length body) (drop 2 (h .bytes))) i 0 ≡ getD body i 0
+  bytes-at e i a =
+      let w = whole-of e in
+      let q : 2 + i ≡ suc (suc i) = omega arith in
+      getD-take (length body) (drop 2 (h .bytes)) i 0 a
+      ∙ getD-drop 2 (h .bytes) i 0
+      ∙ v .0 .same (2 + i) (omega arith)
+      ∙ ap (λ (x : ℕ). getD (framed body) x 0) q
+
+  -- what is read of a landed message
+  pub landed-bytes : landed h ≡ true → bodyOf (h .bytes) ≡ body
+  landed-bytes e =
+      let w = whole-of e in
+      let r = v .0 .room in
+      let m = v .0 .small in
+      let n : length (take (length body) (drop 2 (h .bytes))) ≡ length body =
+      length-take-le _ _ (omega (arith, length-drop 2 (h .bytes))) in
+      let u : announced (h .bytes) ≡ length body = says-of (omega arith) in
+      let s : bodySize (h .bytes) ≡ length body = simp (le-leb (announced (h .bytes)) 2046 (omega arith)) u in
+      ap (λ (x : ℕ). take x (drop 2 (h .bytes))) s
+      ∙ ext-getD 0 (take (length body) (drop 2 (h .bytes))) body n (λ i a. bytes-at e i (omega arith))
+
+  pub landed-is : landed h ≡ allBelow (2 + length body) f
+  landed-is =
+      ⊎-elim (λ e. let w = whole-of e in e ∙ sym (all-of (2 + length body) f (λ i a. v .0 .below i (omega arith))))
+      (λ e. e ∙ sym (⊎-elim (λ t. absurd (never-both (landed h) (full t) e)) (λ t. t) (cases (allBelow (2 + length body) f))))
+      (cases (landed h))
+    where
+      full : allBelow (2 + length body) f ≡ true → landed h ≡ true
+      full t =
+          let c : 2 + length body ≤ h .cell .joined =
+          ⊎-elim (λ b. b) (λ b. absurd (fresh-end (of-all (2 + length body) f t (h .cell .joined) b))) (le-or-lt (2 + length body) (h .cell .joined)) in
+          let two : 2 ≤ h .cell .joined = omega arith in
+          let n = says-of two in
+          ap (λ (t : Bool). t && leb (2 + announced (h .bytes)) (h .cell .joined)) (le-leb _ _ two) ∙ le-leb (2 + announced (h .bytes)) (h .cell .joined) (omega arith)
+
+-- a cell that has just been taken
+pub empty-inv : (body bs : List ℕ) (f : ℕ → Bool) → length body ≤ 2046 → 6144 ≤ length bs → ((i : ℕ) → f i ≡ false) → Inv (framed body) (Cov f) (empty bs)
+empty-inv body bs f small room off = (
+  record {
+    small = omega arith;
+    room = room;
+    offs = refl;
+    lens = refl;
+    within = zero-le;
+    same = λ i a. absurd (omega arith);
+    below = λ i a. absurd (omega arith);
+    waits = λ k a b. absurd (none-waits k a b);
+    all = λ i c. absurd (never-both (f i) c (off i));
+  },
+  λ k a b. absurd (none-waits k a b),
+)
+  where
+    none-waits : (k : ℕ) → k < 16 → 0 < offset (empty bs .cell) k + size (empty bs .cell) k → ⊥
+    none-waits k a b = let z = getD-replicate {A = ℕ} 16 k 0 0 a in omega arith
+
+-- a piece that changes nothing has all its bytes covered
+pub needless-covered : (F : List ℕ) (f : ℕ → Bool) (x : Cell) (bs : List ℕ) → Inv F (Cov f) (held x bs) → (number o : ℕ) (p : List ℕ) (room : Bool) → Cut F o p
+    → keptOf false number o (length p) room x ≡ Needless → (i : ℕ) → o ≤ i → i < o + length p → f i ≡ true
+needless-covered F f x bs v number o p room cut q i a b =
+    let w = accept-inv F (Cov f) (held x bs) (v .0) (v .1) o p cut (kept-room number o room x bs p (inr q)) in
+    let u : Inv F (More (Cov f) o (length p)) (held x bs) = subst (Inv F (More (Cov f) o (length p))) (needless-same number o room x bs p q) w in
+    ⊎-elim (λ c. v .0 .below i c) (λ c. at-place c) (u .0 .all i (inr (a, b)))
+  where
+    at-place : AtPlace (held x bs) i → f i ≡ true
+    at-place c =
+        ⊎-elim (λ e. v .0 .below i (omega (arith, c .3)))
+        (λ e. v .0 .waits (c .0) (c .1) e .covered i (c .2) (c .3))
+        (le-or-lt (offset x (c .0) + size x (c .0)) (x .joined))

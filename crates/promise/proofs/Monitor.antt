@@ -1,0 +1,187 @@
+-- A monitor of what the calls return. It knows the slots of the list that have not had a turn yet, and the turn that runs.
+-- A trace that it accepts keeps the promise on turns; it asks for more (polls in list order, one turn at a time), so that it
+-- is easy to follow along with the station. Assumes nothing.
+use mathlib.Core.Path.{_≡_, refl, sym, _∙_, subst}
+use mathlib.Core.Logic.{_⊎_, inl, inr}
+use Prim.Native.Nat.{ℕ, suc, _+_, _≤_}
+use native.Mathlib.Omega.{arith}
+use mathlib.Core.Bool.{Bool, true, false, cond, _&&_}
+use mathlib.Core.List.{List, [], _∷_, _++_}
+use lib.Dec.{T, eqb, eqb-refl}
+use Rattle.promise.specs.Turns.{In, Ev, drew, over, poll, ack, other, has, View, emptyView, begins, view, begun, Spread, pollsTill, acksTill, OneTurn, At, TurnsHold}
+
+-- each slot once
+abbrev pub NoDup : List ℕ → Type 0
+NoDup [] = Unit {0}
+NoDup (x ∷ l) = (In x l → ⊥) × NoDup l
+
+pub data Run : Type 0 where
+  rest : Run
+  turn : (slot polls acks : ℕ) → Run
+
+abbrev pub Acc : List ℕ → Run → List Ev → Type 0
+Acc left r [] = Unit {0}
+Acc [] rest (drew l ∷ es) = NoDup l × Acc l rest es
+Acc (x ∷ left) rest (drew l ∷ es) = ⊥
+Acc left (turn s p a) (drew l ∷ es) = ⊥
+Acc left rest (over x ∷ es) = ⊥
+Acc left (turn s p a) (over x ∷ es) = (x ≡ s) × Acc left rest es
+Acc [] rest (poll x ∷ es) = ⊥
+Acc (y ∷ left) rest (poll x ∷ es) = (x ≡ y) × Acc left (turn x 1 0) es
+Acc left (turn s p a) (poll x ∷ es) = (x ≡ s) × (suc p ≤ 5) × Acc left (turn s (suc p) a) es
+Acc left rest (ack x ∷ es) = ⊥
+Acc left (turn s p a) (ack x ∷ es) = (x ≡ s) × (suc a ≤ 4) × Acc left (turn s p (suc a)) es
+Acc left r (other ∷ es) = Acc left r es
+
+T-eq : (b : Bool) → T b → b ≡ true
+T-eq true t = refl
+T-eq false t = absurd t
+
+eqb-eq : (x y : ℕ) → x ≡ y → eqb x y ≡ true
+eqb-eq x y e = T-eq (eqb x y) (subst (λ (k : ℕ). T (eqb x k)) e (eqb-refl x))
+
+-- ---- the counts
+
+few : (left : List ℕ) (s p a : ℕ) (es : List Ev) → p ≤ 5 → a ≤ 4 → Acc left (turn s p a) es → (p + pollsTill s es ≤ 5) × (a + acksTill s es ≤ 4)
+few left s p a [] hp ha c = omega arith
+few left s p a (drew l ∷ es) hp ha c = absurd c
+few left s p a (over x ∷ es) hp ha c = rw (eqb-eq x s (c .0)) (omega arith)
+few left s p a (poll x ∷ es) hp ha c = rw (eqb-eq x s (c .0)) (let h = few left s (suc p) a es (c .1) ha (c .2) in omega arith)
+few left s p a (ack x ∷ es) hp ha c = rw (eqb-eq x s (c .0)) (let h = few left s p (suc a) es hp (c .1) (c .2) in omega arith)
+few left s p a (other ∷ es) hp ha c = few left s p a es hp ha c
+
+-- ---- the view that goes with the monitor
+
+abbrev slots : Run → List ℕ
+slots rest = []
+slots (turn s p a) = s ∷ []
+
+abbrev seen : List ℕ → Run → View
+seen l r = record { list = l; run = slots r }
+
+has-in : (x : ℕ) (l : List ℕ) → In x l → T (has x l)
+has-in x [] h = h
+has-in x (y ∷ l) (inl e) = rw (eqb-eq x y e) tt
+has-in x (y ∷ l) (inr h) = step (eqb x y) (has-in x l h)
+  where
+    step : (b : Bool) → T (has x l) → T (cond b true (has x l))
+    step true t = tt
+    step false t = t
+
+-- what is left is on the list, once
+pub record Left (l left : List ℕ) : Type 0 where
+  on : (x : ℕ) → In x left → T (has x l)
+  once : NoDup left
+
+whole : (l : List ℕ) → NoDup l → Left l l
+whole l n = record { on = λ x h. has-in x l h; once = n }
+
+fewer : (l left : List ℕ) (y : ℕ) → Left l (y ∷ left) → Left l left
+fewer l left y h = record { on = λ x m. h .on x (inr m); once = h .once .1 }
+
+head-on : (l left : List ℕ) (x y : ℕ) → Left l (y ∷ left) → x ≡ y → has x l ≡ true
+head-on l left x y h e = T-eq (has x l) (h .on x (inl e))
+
+-- ---- no second turn before all have had one
+
+abbrev Phase : List ℕ → List ℕ → List ℕ → Type 0
+Phase l had left =
+    ((t : ℕ) → In t l → In t had) ⊎ (((t : ℕ) → In t l → In t had ⊎ In t left) × ((x : ℕ) → In x had → In x left → ⊥))
+
+ended : (l had : List ℕ) → Phase l had [] → (t : ℕ) → In t l → In t had
+ended l had (inl f) t m = f t m
+ended l had (inr (c, a)) t m = step (c t m)
+  where
+    step : In t had ⊎ ⊥ → In t had
+    step (inl h) = h
+    step (inr h) = absurd h
+
+phase-poll : (l had left : List ℕ) (x y : ℕ) → x ≡ y → NoDup (y ∷ left) → Phase l had (y ∷ left)
+    → (In x had → (t : ℕ) → In t l → (t ≡ x → ⊥) → In t had) × Phase l (x ∷ had) left
+phase-poll l had left x y e n (inl f) = (λ h t m d. f t m, inl (λ t m. inr (f t m)))
+phase-poll l had left x y e n (inr (c, a)) = (λ h t m d. absurd (a x h (inl e)), inr (λ t m. cover t (c t m), apart))
+  where
+    cover : (t : ℕ) → In t had ⊎ ((t ≡ y) ⊎ In t left) → In t (x ∷ had) ⊎ In t left
+    cover t (inl h) = inl (inr h)
+    cover t (inr (inl p)) = inl (inl (p ∙ sym e))
+    cover t (inr (inr h)) = inr h
+
+    apart : (z : ℕ) → In z (x ∷ had) → In z left → ⊥
+    apart z (inl p) m = n .0 (subst (λ (k : ℕ). In k left) (p ∙ e) m)
+    apart z (inr h) m = a z h (inr m)
+
+and-false : (b : Bool) → (b && false) ≡ false
+and-false true = refl
+and-false false = refl
+
+-- a poll in a turn that runs begins none
+again : (list : List ℕ) (s n a x : ℕ) → x ≡ s → begins (seen list (turn s n a)) x ≡ false
+again list s n a x e = rw (eqb-eq x s e) (and-false (has x list))
+
+spread : (l had : List ℕ) (list left : List ℕ) (r : Run) (es : List Ev) → Left list left → Acc left r es → Phase l had left → Spread l had (begun (seen list r) es)
+spread l had list left r [] v c p = tt
+spread l had list [] rest (drew m ∷ es) v c p = spread l had m m rest es (whole m (c .0)) (c .1) (inl (ended l had p))
+spread l had list (x ∷ left) rest (drew m ∷ es) v c p = absurd c
+spread l had list left (turn s n a) (drew m ∷ es) v c p = absurd c
+spread l had list left rest (over x ∷ es) v c p = absurd c
+spread l had list left (turn s n a) (over x ∷ es) v c p = rw (eqb-eq x s (c .0)) (spread l had list left rest es v (c .1) p)
+spread l had list [] rest (poll x ∷ es) v c p = absurd c
+spread l had list (y ∷ left) rest (poll x ∷ es) v c p =
+    rw (head-on list left x y v (c .0))
+    (let h = phase-poll l had left x y (c .0) (v .once) p in
+    (h .0, spread l (x ∷ had) list left (turn x 1 0) es (fewer list left y v) (c .1) (h .1)))
+spread l had list left (turn s n a) (poll x ∷ es) v c p =
+    rw (again list s n a x (c .0)) (spread l had list left (turn s (suc n) a) es v (c .2) p)
+spread l had list left rest (ack x ∷ es) v c p = absurd c
+spread l had list left (turn s n a) (ack x ∷ es) v c p = spread l had list left (turn s n (suc a)) es v (c .2) p
+spread l had list left r (other ∷ es) v c p = spread l had list left r es v c p
+
+-- ---- an accepted trace keeps the promise
+
+abbrev On : Run → List ℕ → Type 0
+On rest l = Unit {0}
+On (turn s p a) l = T (has s l)
+
+has-one : (x s : ℕ) → x ≡ s → T (has x (s ∷ []))
+has-one x s e = rw (eqb-eq x s e) tt
+
+begun-turn : (list left : List ℕ) (x : ℕ) (es : List Ev) → Acc left (turn x 1 0) es → OneTurn (seen list rest) x es
+begun-turn list left x es c =
+    let h = few left x 1 0 es (omega arith) (omega arith) c in
+    record { alone = refl; polls = omega arith; acks = omega arith }
+
+hold : (list left : List ℕ) (r : Run) (es : List Ev) → Left list left → On r list → Acc left r es → TurnsHold (seen list r) es
+hold list left r [] v o c = tt
+hold list [] rest (drew m ∷ es) v o c =
+    (spread m [] m m rest es (whole m (c .0)) (c .1) (inr (λ t h. inr h, λ x h u. h)), hold m m rest es (whole m (c .0)) tt (c .1))
+hold list (x ∷ left) rest (drew m ∷ es) v o c = absurd c
+hold list left (turn s n a) (drew m ∷ es) v o c = absurd c
+hold list left rest (over x ∷ es) v o c = absurd c
+hold list left (turn s n a) (over x ∷ es) v o c = (has-one x s (c .0), rw (eqb-eq x s (c .0)) (hold list left rest es v tt (c .1)))
+hold list [] rest (poll x ∷ es) v o c = absurd c
+hold list (y ∷ left) rest (poll x ∷ es) v o c =
+    let e = head-on list left x y v (c .0) in (
+      (subst T (sym e) tt, λ b. begun-turn list left x es (c .1)),
+      rw e (hold list left (turn x 1 0) es (fewer list left y v) (subst T (sym e) tt) (c .1)),
+    )
+hold list left (turn s n a) (poll x ∷ es) v o c =
+    let e = again list s n a x (c .0) in (
+      (subst (λ (k : ℕ). T (has k list)) (sym (c .0)) o, λ b. absurd (subst T e b)),
+      rw e (hold list left (turn s (suc n) a) es v o (c .2)),
+    )
+hold list left rest (ack x ∷ es) v o c = absurd c
+hold list left (turn s n a) (ack x ∷ es) v o c = (has-one x s (c .0), hold list left (turn s n (suc a)) es v o (c .2))
+hold list left r (other ∷ es) v o c = (tt, hold list left r es v o c)
+
+pub accepted : (es : List Ev) → Acc [] rest es → TurnsHold emptyView es
+accepted es c = hold [] [] rest es (record { on = λ x h. absurd h; once = tt }) tt c
+
+-- ---- the promise at one event of a trace
+
+abbrev pub views : View → List Ev → View
+views v [] = v
+views v (e ∷ es) = views (view v e) es
+
+pub holds-at : (v : View) (pre : List Ev) (e : Ev) (es : List Ev) → TurnsHold v (pre ++ (e ∷ es)) → At (views v pre) e es
+holds-at v [] e es h = h .0
+holds-at v (x ∷ pre) e es h = holds-at (view v x) pre e es (h .1)

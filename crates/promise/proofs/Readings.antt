@@ -1,0 +1,281 @@
+-- One frame of a reception, read: a boat's piece does what the book says of it, and any other frame leaves every message alone. Assumes nothing.
+use mathlib.Core.Path.{_≡_, refl, sym, ap, _∙_, subst}
+use mathlib.Core.Bool.{Bool, true, false, not, cond, _&&_}
+use mathlib.Core.Option.{Option, none, some}
+use mathlib.Core.List.{List, [], _∷_, _++_}
+use mathlib.Core.Logic.{⊎-elim}
+use Prim.Native.Nat.{ℕ, zero, suc, _+_, _/_, _%_, _≤_, _<_}
+use native.Mathlib.Omega.{arith}
+use lib.ListN.{length, getD, set, length-set}
+use lib.Seq.{getD-set-same, getD-set-other}
+use lib.Dec.{eqb}
+use borrow.Author.Tests.{eq-eqb, ne-eqb, eqb-true}
+use Rattle.bits.specs.Mask.{hasBit, withBit}
+use Rattle.bits.proofs.Laws.{with-same, with-other}
+use Rattle.bits.proofs.Lists.{cond-keeps, cond-true, cond-false, cases, le-or-lt, eq-or-not, never-both, and-true}
+use Rattle.wire.specs.Kinds.{tUp, tCtrl}
+use Rattle.words.specs.Words.{Heard, lost, heard}
+use Rattle.out.specs.Encode.{eventWord, messageWord}
+use Rattle.stream.specs.declared.window.Window.{Window}
+use Rattle.stream.specs.Window.{landOf, freshOf}
+use Rattle.stream.specs.Table.{Table, Accepted, accept, hasLanded}
+use Rattle.roster.specs.declared.Member.{Member}
+use Rattle.roster.specs.Members.{noMember, withHeard, withDirect, landedOne}
+use Rattle.net.specs.declared.Station.{Station}
+use Rattle.net.specs.State.{indexOf, memberAt, withMember, withTable, tableOf}
+use Rattle.net.specs.Net.{isMember}
+use Rattle.net.proofs.Laws.{index-lt, index-is, member-lt, member-none}
+use Rattle.frames.specs.declared.Air.{Air}
+use Rattle.frames.specs.Reading.{Reading}
+use Rattle.frames.specs.Pieces.{isAsideLeaf, heardMember, sizeOf, pieceMember, isRelayed, pieceEvents, trafficIf, relayIf, unkeptAt, keptPiece, takenPiece, pieceFrame}
+use Rattle.frames.specs.Frames.{readFrame, controlFrame}
+use Rattle.promise.specs.Book.{Sent, Message, Ledger, Event, Entered, nothing, bookPiece, isBoats, bookFrame, alsoOne, eventsIn, FrameOk, PieceOk}
+use Rattle.promise.proofs.Ties.{View, Tie}
+use Rattle.promise.proofs.Pieces.{Still, Lands, Joint, windowsAfter, viewAfter, eventFor, Good, piece-good}
+use Rattle.promise.proofs.Quiet.{windowIn, windowAt, Keeps, kept-self, viewOf, view-is, kept-view}
+use Rattle.promise.proofs.Events.{events-none, append-quiet, events-append, relayed-word, message-word}
+use Rattle.promise.proofs.QuietRx.{Untouched, untouched, control-untouched}
+
+-- ---- the station after a kept piece
+
+heard-up : (a : Air) (m : Member) (slot : ℕ) → heardMember a m slot .up ≡ m .up
+heard-up a m slot = cond-keeps (λ (x : Member). x .up ≡ m .up) (isAsideLeaf a m slot) _ _ (λ _. refl) (λ _. refl)
+
+piece-up : (a : Air) (m : Member) (slot : ℕ) (r : Accepted) → pieceMember a m slot r .up ≡ cond (hasLanded (r .landed)) (landOf (m .up) (r .number)) (m .up)
+piece-up a m slot r = at (hasLanded (r .landed))
+  where
+    at : (b : Bool) → cond b (landedOne (heardMember a m slot) (r .number) (sizeOf (r .landed))) (heardMember a m slot) .up ≡ cond b (landOf (m .up) (r .number)) (m .up)
+    at true = ap (λ (w : Window). landOf w (r .number)) (heard-up a m slot)
+    at false = heard-up a m slot
+
+module _ (used : ℕ) (ms : List Member) (slot : ℕ) (m : Member) (b : Bool) (k : ℕ) (here : isMember used slot ≡ true) (long : length ms ≡ 62)
+    (up : m .up ≡ cond b (landOf (getD ms (indexOf slot) noMember .up) k) (getD ms (indexOf slot) noMember .up)) where
+  same-b : (t : Bool) (w : Window) → cond t (landOf w k) w ≡ cond (t && true) (landOf w k) w
+  same-b true w = refl
+  same-b false w = refl
+
+  other-b : (t : Bool) (w : Window) → w ≡ cond (t && false) (landOf w k) w
+  other-b true w = refl
+  other-b false w = refl
+
+  at-slot : windowIn used ms slot ≡ getD ms (indexOf slot) noMember .up
+  at-slot = ap (λ (t : Bool). cond t (getD ms (indexOf slot) noMember .up) freshOf) here
+
+  is-slot : windowIn used (set ms (indexOf slot) m) slot ≡ windowsAfter (windowIn used ms) slot b k slot
+  is-slot =
+      let n = index-lt slot in
+      ap (λ (t : Bool). cond t (getD (set ms (indexOf slot) m) (indexOf slot) noMember .up) freshOf) here
+      ∙ ap (λ (y : Member). y .up) (getD-set-same ms (indexOf slot) m noMember (omega arith))
+      ∙ up
+      ∙ same-b b (getD ms (indexOf slot) noMember .up)
+      ∙ ap (λ (w : Window). cond (b && true) (landOf w k) w) (sym at-slot)
+      ∙ ap (λ (t : Bool). cond (b && t) (landOf (windowIn used ms slot) k) (windowIn used ms slot)) (sym (eq-eqb slot slot refl))
+
+  not-slot : (i : ℕ) → (i ≡ slot → ⊥) → windowIn used (set ms (indexOf slot) m) i ≡ windowIn used ms i
+  not-slot i z =
+      ⊎-elim (λ a.
+      ap (λ (t : Bool). cond t (getD (set ms (indexOf slot) m) (indexOf i) noMember .up) freshOf) (member-none used i a)
+      ∙ sym (ap (λ (t : Bool). cond t (getD ms (indexOf i) noMember .up) freshOf) (member-none used i a)))
+      (λ a.
+      ap (λ (y : Member). cond (isMember used i) (y .up) freshOf)
+      (getD-set-other ms (indexOf slot) (indexOf i) m noMember
+      (λ e. z (sym (index-is i a) ∙ e ∙ index-is slot (member-lt used slot here)))))
+      (le-or-lt 62 i)
+
+  pub windows-after : (i : ℕ) → windowIn used (set ms (indexOf slot) m) i ≡ windowsAfter (windowIn used ms) slot b k i
+  windows-after i =
+      ⊎-elim (λ q. ap (windowIn used (set ms (indexOf slot) m)) q ∙ is-slot ∙ ap (windowsAfter (windowIn used ms) slot b k) (sym q))
+      (λ z.
+      not-slot i z
+      ∙ other-b b (windowIn used ms i)
+      ∙ ap (λ (t : Bool). cond (b && t) (landOf (windowIn used ms i) k) (windowIn used ms i)) (sym (ne-eqb slot i (λ q. z (sym q)))))
+      (eq-or-not i slot)
+
+traffic-kept : (b : Bool) (s₀ s : Station) → Keeps s₀ s → Keeps s₀ (trafficIf b s)
+traffic-kept true s₀ s k = k
+traffic-kept false s₀ s k = k
+
+relay-kept : (b : Bool) (s₀ s : Station) → Keeps s₀ s → Keeps s₀ (relayIf b s)
+relay-kept true s₀ s k = k
+relay-kept false s₀ s k = k
+
+module _ (a : Air) (slot : ℕ) (r : Accepted) (x : Reading) (here : isMember (x .station .used) slot ≡ true) (long : length (x .station .members) ≡ 62) where
+  base : Station
+  base = withMember (withTable (x .station) (r .table)) slot (pieceMember a (memberAt (x .station) slot) slot r)
+
+  base-kept : Keeps base (keptPiece a slot r x .station)
+  unfolding base
+  base-kept = relay-kept (isRelayed a (x .station) slot r) base _ (traffic-kept (hasLanded (r .landed)) base _ (kept-self base))
+
+  pub piece-view : viewOf (keptPiece a slot r x .station) (r .store) ≡ viewAfter (viewOf (x .station) (x .store)) slot r
+  unfolding base
+  piece-view =
+      kept-view base (keptPiece a slot r x .station) (r .store) base-kept
+      ∙ view-is (tableOf base) (r .table) (r .store) (r .store) (windowAt base) (windowsAfter (windowAt (x .station)) slot (hasLanded (r .landed)) (r .number))
+      refl refl
+      (windows-after (x .station .used) (x .station .members) slot (pieceMember a (memberAt (x .station) slot) slot r) (hasLanded (r .landed)) (r .number) here long
+      (piece-up a (memberAt (x .station) slot) slot r))
+
+  pub piece-long : length (keptPiece a slot r x .station .members) ≡ 62
+  unfolding base
+  piece-long = base-kept .long ∙ length-set (x .station .members) (indexOf slot) _ ∙ long
+
+-- its events
+piece-events : (a : Air) (s : Station) (slot : ℕ) (r : Accepted) → slot < 64 → (hasLanded (r .landed) ≡ true → r .cell < 64)
+    → eventsIn (pieceEvents a s slot r) ≡ alsoOne (eventFor slot r) []
+piece-events a s slot r low fit = at (hasLanded (r .landed)) refl
+  where
+    word : List ℕ
+    word = messageWord slot (r .cell) (r .number) ∷ []
+
+    one : Event
+    one = record { slot = slot; cell = r .cell; number = r .number % 256 }
+
+    said : r .cell < 64 → eventsIn word ≡ one ∷ []
+    said f = message-word slot (r .cell) (r .number) [] low f ∙ ap (λ (l : List Event). one ∷ l) events-none
+
+    at : (b : Bool) → hasLanded (r .landed) ≡ b
+        → eventsIn (cond b (cond (isRelayed a s slot r) (eventWord 4 slot (a .polled) ∷ word) word) []) ≡ alsoOne (cond b (some one) none) []
+    at true q =
+        cond-keeps (λ (ws : List ℕ). eventsIn ws ≡ one ∷ []) (isRelayed a s slot r) (eventWord 4 slot (a .polled) ∷ word) word
+        (λ _. relayed-word slot (a .polled) word ∙ said (fit q)) (λ _. said (fit q))
+    at false q = events-none
+
+joint-fit : (M : Sent) (l : Ledger) (v : View) (l′ : Ledger) (slot : ℕ) (r : Accepted) (out : Option Message) (e : ℕ → Option Message)
+    → Joint M l v l′ (eventFor slot r) out e → hasLanded (r .landed) ≡ true → r .cell < 64
+joint-fit M l v l′ slot r out e j q =
+    go out (subst (λ (b : Bool). Joint M l v l′ (cond b (some (record { slot = slot; cell = r .cell; number = r .number % 256 })) none) out e) q j)
+  where
+    go : (o : Option Message) → Joint M l v l′ (some (record { slot = slot; cell = r .cell; number = r .number % 256 })) o e → r .cell < 64
+    go none j = absurd j
+    go (some m) j = j .fit
+
+-- ---- one frame
+
+-- what reading a frame comes to: from x to y, with the entry n in the book
+pub record Read (M : Sent) (l : Ledger) (e : ℕ → Option Message) (x y : Reading) (n : Entered) : Type 0 where
+  pub event : Option Event
+  pub joint : Joint M l (viewOf (y .station) (y .store)) (n .ledger) event (n .out) e
+  pub events : eventsIn (y .words) ≡ eventsIn (x .words) ++ alsoOne event []
+  pub long : length (y .station .members) ≡ 62
+
+module _ (M : Sent) (small : (s k : ℕ) → length (M s k) ≤ 2046) (a : Air) (x : Reading) (l : Ledger) (e : ℕ → Option Message)
+    (tie : Tie M (viewOf (x .station) (x .store)) l e) (long : length (x .station .members) ≡ 62) where
+  quiet-read : (y : Reading) → Untouched x y → Read M l e x y (nothing l)
+  quiet-read y u =
+      record {
+        event = none;
+        joint = record {
+          tie = subst (λ (v : View). Tie M v l e)
+              (sym (ap (viewOf (y .station)) (u .store) ∙ kept-view (x .station) (y .station) (x .store) (u .station))) tie;
+          handed = refl;
+        };
+        events = u .events;
+        long = u .station .long ∙ long;
+      }
+
+  module _ (slot field k : ℕ) (p : List ℕ) (low : slot < 64) (here : isMember (x .station .used) slot ≡ true) (ok : PieceOk M l slot k field p) where
+    abbrev r : Accepted
+    r = accept (tableOf (x .station)) (memberAt (x .station) slot .up) (x .store) slot field p
+
+    window-here : windowAt (x .station) slot ≡ memberAt (x .station) slot .up
+    window-here = ap (λ (t : Bool). cond t (memberAt (x .station) slot .up) freshOf) here
+
+    good : Good M l e (viewOf (x .station) (x .store)) slot r (cond (r .lost) (nothing l) (bookPiece M slot k (field % 65536) (length p) l))
+    good =
+        subst (λ (w : Window).
+        let q = accept (tableOf (x .station)) w (x .store) slot field p in
+        Good M l e (viewOf (x .station) (x .store)) slot q (cond (q .lost) (nothing l) (bookPiece M slot k (field % 65536) (length p) l)))
+        window-here (piece-good M small (viewOf (x .station) (x .store)) l e tie slot k field p ok)
+
+    kept-read : r .lost ≡ false → Read M l e x (keptPiece a slot r x) (bookPiece M slot k (field % 65536) (length p) l)
+    kept-read q =
+        let g : Good M l e (viewOf (x .station) (x .store)) slot r (bookPiece M slot k (field % 65536) (length p) l) =
+        subst (λ (b : Bool). Good M l e (viewOf (x .station) (x .store)) slot r (cond b (nothing l) (bookPiece M slot k (field % 65536) (length p) l))) q good in
+        record {
+          event = eventFor slot r;
+          joint = subst (λ (v : View). Joint M l v (bookPiece M slot k (field % 65536) (length p) l .ledger) (eventFor slot r) (bookPiece M slot k (field % 65536) (length p) l .out) e)
+              (sym (piece-view a slot r x here long)) g;
+          events = events-append (x .words) (pieceEvents a (x .station) slot r)
+              ∙ ap (λ (es : List Event). eventsIn (x .words) ++ es)
+              (piece-events a (x .station) slot r low (joint-fit M l _ _ slot r (bookPiece M slot k (field % 65536) (length p) l .out) e g));
+          long = piece-long a slot r x here long;
+        }
+
+    -- marked or not, by whether it was kept
+    taken-read : x .frame < 64 → hasBit (x .unkept) (x .frame) ≡ false
+        → Read M l e x (takenPiece a slot r x) (cond (not (hasBit (takenPiece a slot r x .unkept) (x .frame))) (bookPiece M slot k (field % 65536) (length p) l) (nothing l))
+    taken-read few clear =
+        cond-keeps (λ (y : Reading). Read M l e x y (cond (not (hasBit (y .unkept) (x .frame))) (bookPiece M slot k (field % 65536) (length p) l) (nothing l)))
+        (r .lost) (unkeptAt x) (keptPiece a slot r x)
+        (λ q.
+        subst (λ (t : Bool). Read M l e x (unkeptAt x) (cond (not t) (bookPiece M slot k (field % 65536) (length p) l) (nothing l)))
+        (sym (with-same (x .unkept) (x .frame) few))
+        (record { event = none; joint = record { tie = tie; handed = refl }; events = untouched x .events; long = long }))
+        (λ q.
+        subst (λ (t : Bool). Read M l e x (keptPiece a slot r x) (cond (not t) (bookPiece M slot k (field % 65536) (length p) l) (nothing l)))
+        (sym clear) (kept-read q))
+
+  -- the frame f, whose number is k; u and b are the book's answers for it
+  module _ (k : ℕ) (few : x .frame < 64) (clear : hasBit (x .unkept) (x .frame) ≡ false) where
+    control-read : (slot : ℕ) (p : List ℕ) → Untouched x (controlFrame a slot p x)
+    control-read slot p =
+        cond-keeps (Untouched x) (eqb (length p) 0) x _ (λ _. untouched x) (λ _. control-untouched a slot (getD p 0 0) (length p) p x)
+
+    abbrev entry : ℕ → ℕ → List ℕ → Bool → Bool → Reading → Entered
+    entry flags field p up member y =
+        cond (up && member && not (hasBit (y .unkept) (x .frame))) (bookPiece M (flags % 64) k (field % 65536) (length p) l) (nothing l)
+
+    up-read : (flags field : ℕ) (p : List ℕ) → (isMember (x .station .used) (flags % 64) ≡ true → PieceOk M l (flags % 64) k field p)
+        → Read M l e x (pieceFrame a (flags % 64) field p x) (entry flags field p true (isMember (x .station .used) (flags % 64)) (pieceFrame a (flags % 64) field p x))
+    unfolding pieceFrame
+    up-read flags field p ok = at (isMember (x .station .used) (flags % 64)) refl
+      where
+        q : Accepted
+        q = accept (tableOf (x .station)) (memberAt (x .station) (flags % 64) .up) (x .store) (flags % 64) field p
+
+        at : (b : Bool) → isMember (x .station .used) (flags % 64) ≡ b
+            → Read M l e x (cond b (takenPiece a (flags % 64) q x) x) (entry flags field p true b (cond b (takenPiece a (flags % 64) q x) x))
+        at true h = taken-read (flags % 64) field k p (omega arith) h (ok h) few clear
+        at false h = quiet-read x (untouched x)
+
+    pub frame-read : (f : Heard) → FrameOk M l f k (x .station .used)
+        → Read M l e x (readFrame a f x) (bookFrame M f k (x .station .used) (hasBit (readFrame a f x .unkept) (x .frame)) l)
+    unfolding readFrame bookFrame
+    frame-read lost ok = quiet-read x (untouched x)
+    frame-read (heard flags field p) ok = at (eqb (flags / 64) tUp) refl
+      where
+        member : Bool
+        member = isMember (x .station .used) (flags % 64)
+
+        result : Bool → Reading
+        result b = cond b (pieceFrame a (flags % 64) field p x) (cond (eqb (flags / 64) tCtrl) (controlFrame a (flags % 64) p x) x)
+
+        at : (b : Bool) → eqb (flags / 64) tUp ≡ b → Read M l e x (result b) (entry flags field p b member (result b))
+        at true h = up-read flags field p (λ m. ok (ap (λ (t : Bool). t && member) h ∙ m))
+        at false h = quiet-read _ (cond-keeps (Untouched x) (eqb (flags / 64) tCtrl) _ x (λ _. control-read (flags % 64) p) (λ _. untouched x))
+
+-- ---- the running values: frame, members seen, and the marks of the other frames
+
+pub record Runs (x y : Reading) : Type 0 where
+  pub frame : y .frame ≡ x .frame
+  pub seen : y .seen ≡ x .seen
+  pub other : (i : ℕ) → (i ≡ x .frame → ⊥) → hasBit (y .unkept) i ≡ hasBit (x .unkept) i
+
+untouched-runs : (x y : Reading) → Untouched x y → Runs x y
+untouched-runs x y u = record { frame = u .frame; seen = u .seen; other = λ i z. ap (λ (n : ℕ). hasBit n i) (u .unkept) }
+
+pub frame-runs : (a : Air) (f : Heard) (x : Reading) → Runs x (readFrame a f x)
+unfolding readFrame pieceFrame
+frame-runs a lost x = untouched-runs x x (untouched x)
+frame-runs a (heard flags field p) x =
+    cond-keeps (Runs x) (eqb (flags / 64) tUp) _ _
+    (λ _. cond-keeps (Runs x) (isMember (x .station .used) (flags % 64)) _ x
+    (λ _. cond-keeps (Runs x) (accept (tableOf (x .station)) (memberAt (x .station) (flags % 64) .up) (x .store) (flags % 64) field p .lost) _ _
+    (λ _. record { frame = refl; seen = refl; other = λ i z. with-other (x .unkept) (x .frame) i (λ q. z (sym q)) })
+    (λ _. record { frame = refl; seen = refl; other = λ i z. refl }))
+    (λ _. untouched-runs x x (untouched x)))
+    (λ _. cond-keeps (Runs x) (eqb (flags / 64) tCtrl) _ x
+    (λ _. untouched-runs x _
+    (cond-keeps (Untouched x) (eqb (length p) 0) x _ (λ _. untouched x) (λ _. control-untouched a (flags % 64) (getD p 0 0) (length p) p x)))
+    (λ _. untouched-runs x x (untouched x)))

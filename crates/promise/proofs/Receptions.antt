@@ -1,0 +1,230 @@
+-- The frames of a reception, one after the other: its events 2 and the messages handed over pair off. Assumes nothing.
+use mathlib.Core.Path.{_≡_, refl, sym, ap, _∙_, subst}
+use mathlib.Core.Bool.{Bool, true, false, not, cond, _&&_}
+use mathlib.Core.Option.{Option, none, some}
+use mathlib.Core.List.{List, [], _∷_, _++_, append-assoc}
+use mathlib.Core.Logic.{⊎-elim}
+use Prim.Native.Nat.{ℕ, zero, suc, _+_, _%_, _≤_, _<_}
+use native.Mathlib.Omega.{arith}
+use lib.ListN.{length, getD, length-append}
+use lib.Dec.{eqb}
+use Rattle.bits.specs.Mask.{hasBit}
+use Rattle.bits.proofs.Lists.{le-or-lt, never-both}
+use Rattle.words.specs.Words.{Heard}
+use Rattle.net.specs.declared.Station.{Station}
+use Rattle.frames.specs.declared.Air.{Air}
+use Rattle.frames.specs.Reading.{Reading}
+use Rattle.frames.specs.Frames.{readFrame, frameStep, readFrames}
+use Rattle.promise.specs.Book.{Sent, Message, Ledger, Event, Handed, same, alsoHanded, Entered, bookFrame, bookFrames, alsoOne, enter, enterAll, eventsIn, FrameOk, FramesOk, Pairs, Later, Rising, Once}
+use Rattle.promise.proofs.Ledgers.{same-true, same-self, handed-self, handed-other}
+use Rattle.promise.proofs.Ties.{View, Tie}
+use Rattle.promise.proofs.Pieces.{Still, Lands, Joint}
+use Rattle.promise.proofs.Quiet.{viewOf}
+use Rattle.promise.proofs.QuietRx.{untouched}
+use Rattle.promise.proofs.Readings.{Read, Runs, frame-runs, frame-read}
+
+-- ---- the messages handed over, in order
+
+abbrev pub allHanded : List Message → (ℕ → ℕ → Bool) → ℕ → ℕ → Bool
+allHanded [] f = f
+allHanded (m ∷ ms) f = allHanded ms (alsoHanded (m .slot) (m .number) f)
+
+pub once-append : (ms xs : List Message) (f : ℕ → ℕ → Bool) → Once ms f → Once xs (allHanded ms f) → Once (ms ++ xs) f
+once-append [] xs f o p = p
+once-append (m ∷ ms) xs f o p = (o .0, once-append ms xs (alsoHanded (m .slot) (m .number) f) (o .1) p)
+
+pub record Received (M : Sent) (es : List Event) (ms : List Message) (v : View) (l : Ledger) (f : ℕ → ℕ → Bool) (e : ℕ → Option Message) : Type 0 where
+  pub tie : Tie M v l (enterAll es ms e)
+  pub pairs : Pairs es ms e
+  pub rising : Rising ms
+  pub once : Once ms f
+  pub after : l .handed ≡ allHanded ms f
+
+-- not handed over with m is not handed over before, and is not m
+before : (s k : ℕ) (f : ℕ → ℕ → Bool) (a b : ℕ) → alsoHanded s k f a b ≡ false → (f a b ≡ false) × (same s k a b ≡ false)
+before s k f a b q = at (same s k a b) refl
+  where
+    at : (t : Bool) → same s k a b ≡ t → (f a b ≡ false) × (same s k a b ≡ false)
+    at true e =
+        let r = same-true s k a b e in
+        absurd (never-both (alsoHanded s k f a b) (ap (λ (x : ℕ). alsoHanded s k f x b) (sym (r .0)) ∙ ap (alsoHanded s k f s) (sym (r .1)) ∙ handed-self s k f) q)
+    at false e = (sym (handed-other s k f a b e) ∙ q, e)
+
+later-of : (m : Message) (xs : List Message) (f : ℕ → ℕ → Bool) → Once xs f
+    → ((x : Message) → f (x .slot) (x .number) ≡ false → m .slot ≡ x .slot → m .number % 256 ≡ x .number % 256 → m .number < x .number)
+    → Later m xs
+later-of m [] f o h = tt
+later-of m (x ∷ xs) f o h = (
+  h x (o .0),
+  later-of m xs (alsoHanded (x .slot) (x .number) f) (o .1) (λ y q. h y (before (x .slot) (x .number) f (y .slot) (y .number) q .0)),
+)
+
+-- the book's entries after a frame
+abbrev entryAfter : Option Event → Option Message → (ℕ → Option Message) → ℕ → Option Message
+entryAfter none none e = e
+entryAfter none (some m) e = e
+entryAfter (some x) none e = e
+entryAfter (some x) (some m) e = enter (x .cell) (some m) e
+
+joint-tie : (M : Sent) (l : Ledger) (e : ℕ → Option Message) (x : Option Event) (n : Option Message) (v : View) (l′ : Ledger)
+    → Joint M l v l′ x n e → Tie M v l′ (entryAfter x n e)
+joint-tie M l e none none v l′ j = j .tie
+joint-tie M l e none (some m) v l′ j = absurd j
+joint-tie M l e (some x) none v l′ j = absurd j
+joint-tie M l e (some x) (some m) v l′ j = j .tie
+
+combine : (M : Sent) (l : Ledger) (e : ℕ → Option Message) (x : Option Event) (n : Option Message) (v₁ : View) (l₁ : Ledger)
+    → Joint M l v₁ l₁ x n e → (es : List Event) (ms : List Message) (v₂ : View) (l₂ : Ledger)
+    → Received M es ms v₂ l₂ (l₁ .handed) (entryAfter x n e)
+    → Received M (alsoOne x es) (alsoOne n ms) v₂ l₂ (l .handed) e
+combine M l e none none v₁ l₁ j es ms v₂ l₂ r =
+    subst (λ (f : ℕ → ℕ → Bool). Received M es ms v₂ l₂ f e) (j .handed) r
+combine M l e none (some m) v₁ l₁ j es ms v₂ l₂ r = absurd j
+combine M l e (some v) none v₁ l₁ j es ms v₂ l₂ r = absurd j
+combine M l e (some v) (some m) v₁ l₁ j es ms v₂ l₂ x =
+    let o : Once ms (alsoHanded (m .slot) (m .number) (l .handed)) = subst (Once ms) (j .handed) (x .once) in
+    record {
+      tie = x .tie;
+      pairs = (j .names, j .bare, x .pairs);
+      rising = (later-of m ms (alsoHanded (m .slot) (m .number) (l .handed)) o lower, x .rising);
+      once = (j .new, o);
+      after = x .after ∙ ap (allHanded ms) (j .handed);
+    }
+  where
+    -- what is not handed over yet is at most 127 below m; so if it is alike it is above
+    lower : (x : Message) → alsoHanded (m .slot) (m .number) (l .handed) (x .slot) (x .number) ≡ false
+        → m .slot ≡ x .slot → m .number % 256 ≡ x .number % 256 → m .number < x .number
+    lower x q p i =
+        let b = before (m .slot) (m .number) (l .handed) (x .slot) (x .number) q in
+        let n = j .near (x .number) (ap (λ (y : ℕ). l .handed y (x .number)) p ∙ b .0) in
+        ⊎-elim (λ a.
+        let z : m .number ≡ x .number = omega arith in
+        absurd (never-both (same (m .slot) (m .number) (x .slot) (x .number))
+        (ap (λ (y : ℕ). same (m .slot) (m .number) y (x .number)) (sym p) ∙ ap (same (m .slot) (m .number) (m .slot)) (sym z) ∙ same-self (m .slot) (m .number)) (b .1)))
+        (λ a. a) (le-or-lt (x .number) (m .number))
+
+-- ---- the running values
+
+-- as frame i is read: i frames were seen, and none from it on is marked
+pub record Ready (x : Reading) (i : ℕ) : Type 0 where
+  pub frame : x .frame ≡ i
+  pub seen : length (x .seen) ≡ i
+  pub clear : (j : ℕ) → i ≤ j → hasBit (x .unkept) j ≡ false
+
+one-more : (l : List ℕ) (u : ℕ) → length (l ++ (u ∷ [])) ≡ length l + 1
+one-more l u = length-append l (u ∷ [])
+
+get-front : (l r : List ℕ) (j : ℕ) → j < length l → getD (l ++ r) j 0 ≡ getD l j 0
+get-front [] r j h = absurd (omega arith)
+get-front (x ∷ l) r zero h = refl
+get-front (x ∷ l) r (suc j) h = get-front l r j (omega arith)
+
+get-last : (l : List ℕ) (u : ℕ) → getD (l ++ (u ∷ [])) (length l) 0 ≡ u
+get-last [] u = refl
+get-last (x ∷ l) u = get-last l u
+
+module _ (a : Air) where
+  step-seen : (f : Heard) (x : Reading) → frameStep a f x .seen ≡ x .seen ++ (x .station .used ∷ [])
+  unfolding frameStep
+  step-seen f x = ap (λ (l : List ℕ). l ++ (x .station .used ∷ [])) (frame-runs a f x .seen)
+
+  step-frame : (f : Heard) (x : Reading) → frameStep a f x .frame ≡ x .frame + 1
+  unfolding frameStep
+  step-frame f x = ap (λ (n : ℕ). n + 1) (frame-runs a f x .frame)
+
+  step-other : (f : Heard) (x : Reading) (j : ℕ) → (j ≡ x .frame → ⊥) → hasBit (frameStep a f x .unkept) j ≡ hasBit (x .unkept) j
+  unfolding frameStep
+  step-other f x j z = frame-runs a f x .other j z
+
+  step-ready : (f : Heard) (x : Reading) (i : ℕ) → Ready x i → Ready (frameStep a f x) (i + 1)
+  step-ready f x i r =
+      let p = r .frame in
+      let q = r .seen in
+      record {
+        frame = step-frame f x ∙ ap (λ (n : ℕ). n + 1) (r .frame);
+        seen = ap length (step-seen f x) ∙ one-more (x .seen) (x .station .used) ∙ ap (λ (n : ℕ). n + 1) (r .seen);
+        clear = λ j h. step-other f x j (λ e. omega arith) ∙ r .clear j (omega arith);
+      }
+
+  seen-stays : (fs : List Heard) (x : Reading) (j : ℕ) → j < length (x .seen) → getD (readFrames a fs x .seen) j 0 ≡ getD (x .seen) j 0
+  unfolding readFrames
+  seen-stays [] x j h = refl
+  seen-stays (f ∷ fs) x j h =
+      let n = one-more (x .seen) (x .station .used) in
+      let m : length (frameStep a f x .seen) ≡ length (x .seen ++ (x .station .used ∷ [])) = ap length (step-seen f x) in
+      seen-stays fs (frameStep a f x) j (omega arith)
+      ∙ ap (λ (l : List ℕ). getD l j 0) (step-seen f x)
+      ∙ get-front (x .seen) (x .station .used ∷ []) j h
+
+  mask-stays : (fs : List Heard) (x : Reading) (j : ℕ) → j < x .frame → hasBit (readFrames a fs x .unkept) j ≡ hasBit (x .unkept) j
+  unfolding readFrames
+  mask-stays [] x j h = refl
+  mask-stays (f ∷ fs) x j h =
+      let n = step-frame f x in
+      mask-stays fs (frameStep a f x) j (omega arith) ∙ step-other f x j (λ e. omega arith)
+
+-- ---- all of them
+
+pub record Reads (M : Sent) (l : Ledger) (e : ℕ → Option Message) (x y : Reading) (h : Handed) : Type 0 where
+  pub events : List Event
+  pub words : eventsIn (y .words) ≡ eventsIn (x .words) ++ events
+  pub got : Received M events (h .out) (viewOf (y .station) (y .store)) (h .ledger) (l .handed) e
+  pub long : length (y .station .members) ≡ 62
+
+join-one : (x : Option Event) (es : List Event) → alsoOne x [] ++ es ≡ alsoOne x es
+join-one none es = refl
+join-one (some v) es = refl
+
+words-join : (first : List Event) (x : Option Event) (es mid last : List Event) → last ≡ mid ++ es → mid ≡ first ++ alsoOne x [] → last ≡ first ++ alsoOne x es
+words-join first x es mid last p q =
+    p
+    ∙ ap (λ (w : List Event). w ++ es) q
+    ∙ append-assoc first (alsoOne x []) es
+    ∙ ap (λ (w : List Event). first ++ w) (join-one x es)
+
+module _ (M : Sent) (small : (s k : ℕ) → length (M s k) ≤ 2046) (a : Air) (numbers : List ℕ) where
+  -- one frame, with the book's answers for it
+  step-read : (f : Heard) (x : Reading) (i : ℕ) (l : Ledger) (e : ℕ → Option Message) → Ready x i → i < 64 → Tie M (viewOf (x .station) (x .store)) l e
+      → length (x .station .members) ≡ 62 → (u : ℕ) (b : Bool) → x .station .used ≡ u → hasBit (frameStep a f x .unkept) i ≡ b → FrameOk M l f (getD numbers i 0) u
+      → Read M l e x (frameStep a f x) (bookFrame M f (getD numbers i 0) u b l)
+  unfolding frameStep
+  step-read f x i l e r few tie long u b p q ok =
+      let g = frame-read M small a x l e tie long (getD numbers i 0) (subst (λ (y : ℕ). y < 64) (sym (r .frame)) few)
+      (r .clear (x .frame) (subst (λ (y : ℕ). i ≤ y) (sym (r .frame)) (omega arith))) f (subst (FrameOk M l f (getD numbers i 0)) (sym p) ok) in
+      let t : hasBit (readFrame a f x .unkept) (x .frame) ≡ b = ap (hasBit (readFrame a f x .unkept)) (r .frame) ∙ q in
+      let w : Read M l e x (readFrame a f x) (bookFrame M f (getD numbers i 0) u b l) =
+      subst (λ (y : ℕ). Read M l e x (readFrame a f x) (bookFrame M f (getD numbers i 0) y b l)) p
+      (subst (λ (y : Bool). Read M l e x (readFrame a f x) (bookFrame M f (getD numbers i 0) (x .station .used) y l)) t g) in
+      record { event = w .event; joint = w .joint; events = w .events; long = w .long }
+
+  pub frames-read : (fs : List Heard) (x : Reading) (i : ℕ) (l : Ledger) (e : ℕ → Option Message) → Ready x i → i + length fs ≤ 64
+      → Tie M (viewOf (x .station) (x .store)) l e → length (x .station .members) ≡ 62
+      → FramesOk M fs i numbers (readFrames a fs x .seen) (readFrames a fs x .unkept) l
+      → Reads M l e x (readFrames a fs x) (bookFrames M fs i numbers (readFrames a fs x .seen) (readFrames a fs x .unkept) l)
+  unfolding readFrames bookFrames
+  frames-read [] x i l e r few tie long ok =
+      record { events = []; words = untouched x .events; got = record { tie = tie; pairs = tt; rising = tt; once = tt; after = refl }; long = long }
+  frames-read (f ∷ fs) x i l e r few tie long ok =
+      let y = readFrames a fs (frameStep a f x) in
+      let x′ = frameStep a f x in
+      let r′ = step-ready a f x i r in
+      let m : length (x′ .seen) ≡ i + 1 = r′ .seen in
+      let c : x′ .frame ≡ i + 1 = r′ .frame in
+      let p : x .station .used ≡ getD (y .seen) i 0 =
+      sym (seen-stays a fs x′ i (omega arith)
+      ∙ ap (λ (s : List ℕ). getD s i 0) (step-seen a f x)
+      ∙ ap (λ (j : ℕ). getD (x .seen ++ (x .station .used ∷ [])) j 0) (sym (r .seen))
+      ∙ get-last (x .seen) (x .station .used)) in
+      let q : hasBit (x′ .unkept) i ≡ hasBit (y .unkept) i = sym (mask-stays a fs x′ i (omega arith)) in
+      let n = bookFrame M f (getD numbers i 0) (getD (y .seen) i 0) (hasBit (y .unkept) i) l in
+      let g : Read M l e x x′ n = step-read f x i l e r (omega arith) tie long (getD (y .seen) i 0) (hasBit (y .unkept) i) p q (ok .0) in
+      let h = bookFrames M fs (i + 1) numbers (y .seen) (y .unkept) (n .ledger) in
+      let z = frames-read fs x′ (i + 1) (n .ledger) (entryAfter (g .event) (n .out) e) r′ (omega arith)
+      (joint-tie M l e (g .event) (n .out) (viewOf (x′ .station) (x′ .store)) (n .ledger) (g .joint)) (g .long) (ok .1) in
+      record {
+        events = alsoOne (g .event) (z .events);
+        words = words-join (eventsIn (x .words)) (g .event) (z .events) (eventsIn (x′ .words)) (eventsIn (y .words)) (z .words) (g .events);
+        got = combine M l e (g .event) (n .out) (viewOf (x′ .station) (x′ .store)) (n .ledger) (g .joint) (z .events) (h .out)
+            (viewOf (y .station) (y .store)) (h .ledger) (z .got);
+        long = z .long;
+      }

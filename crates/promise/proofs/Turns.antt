@@ -1,0 +1,170 @@
+-- Item 3 of document 01, lists and turns: every call is accepted by the monitor, so the promise holds of every list of calls. Assumes nothing.
+use mathlib.Core.Path.{_≡_, refl, sym, ap, _∙_, subst}
+use Prim.Native.Nat.{ℕ, _/_}
+use mathlib.Core.Bool.{Bool, true, false, cond}
+use mathlib.Core.List.{List, [], _∷_, _++_, append-assoc, append-nil}
+use lib.Dec.{eqb}
+use lib.Ieee.{Float}
+use lib.ListN.{length}
+use Rattle.wire.specs.Call.{unpackCall}
+use Rattle.words.specs.Words.{Burst, Parsed, malformed, parsed, parse}
+use Rattle.config.specs.declared.Given.{Given}
+use Rattle.config.specs.Checks.{settingsOf}
+use Rattle.stream.specs.Table.{freedTable, cellCount}
+use Rattle.net.specs.declared.Station.{Station}
+use Rattle.net.specs.declared.Settings.{Settings}
+use Rattle.net.specs.declared.Turn.{Turn}
+use Rattle.net.specs.declared.Turn.the-variants.{Idle, Sending, Waiting}
+use Rattle.net.specs.declared.Wait.{Wait}
+use Rattle.net.specs.State.{withRound, withClosing, withTable, tableOf}
+use Rattle.net.specs.Net.{newStation, doneBy, onTxDone}
+use Rattle.roster.specs.declared.Member.{Member}
+use Rattle.admit.specs.Admission.{seatOf, isFull, viaFor}
+use Rattle.next.specs.Next.{ncsNext}
+use Rattle.rx.specs.Reception.{ncsRx}
+use Rattle.station.specs.Entries.{Outcome, refused, done, unless, startRefusal, startOf, admitted, admitOf, receiveBy, receiveRefusal, receiveOf, nextOf, sentOf, closeOf, freeOf, readRefusal, check1, admitRefusal, nextRefusal, closeRefusal, cellRefusal}
+use Rattle.promise.specs.Calls.{lentTo, Call, admission, reception, decision, sending, closing, reading, freeing, Net, outcome, step, started}
+use Rattle.promise.specs.Turns.{Ev, burstsIn, slotsIn, overIf, drewIf, overBy, events, trace, emptyView, TurnsHold}
+use Rattle.promise.proofs.Monitor.{Run, rest, turn, Acc, accepted}
+use Rattle.promise.proofs.TurnsWords.{Quiet, quiet-none}
+use Rattle.promise.proofs.TurnsLists.{Low, low-none, list-none}
+use Rattle.promise.proofs.TurnsKeeps.{admit-calm}
+use Rattle.promise.proofs.TurnsNext.{Rel, Fine, fine-none, fine-next}
+use Rattle.promise.proofs.TurnsRx as rx
+
+-- ### Refused or not
+
+-- the events of a call that left o, with what stands before its burst and after it
+abbrev said : Outcome → List Ev → List Ev → List Ev
+said o xs ys = cond (cond (eqb (o .refusal) 0) false true) [] (xs ++ (burstsIn (o .words) ++ ys))
+
+fine-unless : (left : List ℕ) (r : Run) (n : ℕ) (s : Station) (store : List ℕ) (o : Outcome) (xs ys : List Ev)
+    → Fine left r (o .station) (said o xs ys) → Fine left r s [] → Fine left r (unless n s store o .station) (said (unless n s store o) xs ys)
+fine-unless left r n s store o xs ys f g = go (eqb n 0) refl
+  where
+    go : (b : Bool) → eqb n 0 ≡ b → Fine left r (cond b o (refused n s store) .station) (said (cond b o (refused n s store)) xs ys)
+    go true q = f
+    go false q = subst (λ (b : Bool). Fine left r s (cond (cond b false true) [] (xs ++ (burstsIn [] ++ ys)))) (sym q) g
+
+-- a call that returns no burst
+fine-quiet : (left : List ℕ) (r : Run) (n : ℕ) (s t : Station) (store old ws : List ℕ) → Quiet ws → Fine left r t [] → Fine left r s []
+    → Fine left r (unless n s store (done t old ws) .station) (said (unless n s store (done t old ws)) [] [])
+fine-quiet left r n s t store old ws q f g =
+    fine-unless left r n s store (done t old ws) [] [] (subst (λ (es : List Ev). Fine left r t (es ++ [])) (sym q) f) g
+
+-- ### Each call
+
+done-turn : (y : Turn) (v : Wait) (g : Settings) (here : Bool) (m : Member) (t : Float) (r : Run) → v .turn ≡ y → Rel r y → Rel r (doneBy y v g here m t .turn)
+done-turn Idle v g here m t r q e = subst (Rel r) (sym q) e
+done-turn Sending v g here m t rest q e = tt
+done-turn Sending v g here m t (turn x p a) q e = absurd e
+done-turn (Waiting p) v g here m t r q e = e
+
+regroup : (xs ys zs : List Ev) → xs ++ (ys ++ zs) ≡ (xs ++ ys) ++ (zs ++ [])
+regroup xs ys zs = simp (append-assoc, append-nil)
+
+module _ (r : Run) (n : Net) (e : Rel r (n .station .wait .turn)) (l : Low (n .station .round .list)) where
+  abbrev s : Station
+  s = n .station
+
+  abbrev left : List ℕ
+  left = slotsIn (n .station .round .list)
+
+  same : Fine left r s []
+  same = fine-none r s e l
+
+  fine-admit : (packed : List ℕ) (relay : ℕ) (now : Float) (room : ℕ)
+      → Fine left r (admitOf s packed relay now room .station) (said (admitOf s packed relay now room) [] [])
+  unfolding admitOf
+  fine-admit packed relay now room =
+      let call = unpackCall packed in
+      let seat = seatOf s call in
+      let c = admit-calm seat s call (viaFor s seat relay) now in
+      let t = admitted s call relay now .station in
+      fine-quiet left r (admitRefusal room now (s .used) relay (isFull seat)) s t [] [] (admitted s call relay now .words) (c .quiet)
+      (subst (λ (m : ℕ). Fine (slotsIn m) r t []) (c .list) (fine-none r t (subst (λ y. Rel r (y .turn)) (sym (c .wait)) e) (subst Low (sym (c .list)) l))) same
+
+  receive-by : (b : Parsed Burst) (n : ℕ) (snr now : Float) (store : List ℕ)
+      → Fine left r (unless n s store (receiveBy b s snr now store) .station) (said (unless n s store (receiveBy b s snr now store)) [] (overBy b (λ b. ncsRx s b snr now store)))
+  receive-by malformed n snr now store = fine-unless left r n s store (refused 3 s store) [] [] same same
+  receive-by (parsed b) n snr now store =
+      fine-unless left r n s store (receiveBy (parsed b) s snr now store) [] (overIf (ncsRx s b snr now store .over)) (rx.fine-rx s b snr now store r e l .fine) same
+
+  fine-receive : (words : List ℕ) (snr now : Float) (store : List ℕ) (room : ℕ)
+      → Fine left r (receiveOf s words snr now store room .station) (said (receiveOf s words snr now store room) [] (overBy (parse words) (λ b. ncsRx s b snr now store)))
+  unfolding receiveOf
+  fine-receive words snr now store room = receive-by (parse words) (receiveRefusal room (length store) (s .count) now snr (parse words)) snr now store
+
+  fine-decide : (now : Float) (room : ℕ)
+      → Fine left r (nextOf s now room .station) (said (nextOf s now room) (overIf (ncsNext s now .over) ++ drewIf (ncsNext s now .drew)) [])
+  unfolding nextOf
+  fine-decide now room =
+      let d = ncsNext s now in
+      fine-unless left r (nextRefusal now room) s [] (done (d .station) [] (d .words)) (overIf (d .over) ++ drewIf (d .drew)) []
+      (subst (λ (es : List Ev). Fine left r (d .station) es) (regroup (overIf (d .over)) (drewIf (d .drew)) (burstsIn (d .words))) (fine-next s now r e l)) same
+
+  fine-sending : (now : Float) → Fine left r (sentOf s now .station) (said (sentOf s now) [] [])
+  unfolding sentOf onTxDone
+  fine-sending now =
+      fine-quiet left r (check1 now 0) s (onTxDone s now) [] [] [] quiet-none
+      (fine-none r (onTxDone s now) (done-turn (s .wait .turn) (s .wait) _ _ _ now r refl e) l) same
+
+  fine-closing : (count : ℕ) → Fine left r (closeOf s count .station) (said (closeOf s count) [] [])
+  unfolding closeOf
+  fine-closing count =
+      let t = withRound s (withClosing (s .round) true count) in
+      fine-quiet left r (closeRefusal count) s t [] [] [] quiet-none (fine-none r t e l) same
+
+  fine-reading : (n : ℕ) (store : List ℕ) → Fine left r (unless n s store (done s store []) .station) (said (unless n s store (done s store [])) [] [])
+  fine-reading n store = fine-quiet left r n s s store store [] quiet-none same same
+
+  fine-freeing : (cell : ℕ) → Fine left r (freeOf s cell .station) (said (freeOf s cell) [] [])
+  unfolding freeOf
+  fine-freeing cell =
+      let t = withTable s (freedTable (tableOf s) cell) in
+      fine-quiet left r (cellRefusal (s .count) (s .landed) cell) s t [] [] [] quiet-none (fine-none r t e l) same
+
+  fine-call : (c : Call) → Fine left r (outcome c n .station) (events c n)
+  unfolding outcome events
+  fine-call (admission packed relay now room) = fine-admit packed relay now room
+  fine-call (reception words snr now lent room numbers) = fine-receive words snr now (lentTo lent (n .store)) room
+  fine-call (decision now room) = fine-decide now room
+  fine-call (sending now) = fine-sending now
+  fine-call (closing count) = fine-closing count
+  fine-call (reading cell lent) = fine-reading (readRefusal (length (lentTo lent (n .store))) (s .count) (s .landed) cell) (n .store)
+  fine-call (freeing cell) = fine-freeing cell
+
+-- ### Every list of calls
+
+calls : (cs : List Call) (n : Net) (r : Run) → Rel r (n .station .wait .turn) → Low (n .station .round .list) → Acc (slotsIn (n .station .round .list)) r (trace cs n)
+unfolding trace step
+calls [] n r e l = tt
+calls (c ∷ cs) n r e l =
+    let f = fine-call r n e l c in
+    f .keeps (trace cs (step c n)) (calls cs (step c n) (f .run) (f .rel) (f .low))
+
+-- ### A start
+
+start-is : (s : Station) (g : Given) (store : List ℕ) → startRefusal g (length store) ≡ 0
+    → startOf s g store .station ≡ newStation (settingsOf g) (cellCount (length store / 6400))
+unfolding startOf
+start-is s g store z = ap (λ (n : ℕ). unless n s store (done (newStation (settingsOf g) (cellCount (length store / 6400))) store []) .station) z
+
+new-turn : (g : Settings) (count : ℕ) → Rel rest (newStation g count .wait .turn)
+unfolding newStation
+new-turn g count = tt
+
+new-list : (g : Settings) (count : ℕ) → newStation g count .round .list ≡ 0
+unfolding newStation
+new-list g count = refl
+
+-- From a start that is not refused on, over every list of calls: from the drawing up of a list on no slot begins a second turn until each other slot on it
+-- has had one, and each turn has at most five polls and four acknowledgements.
+pub turns : (s : Station) (g : Given) (store : List ℕ) → startRefusal g (length store) ≡ 0 → (cs : List Call) → TurnsHold emptyView (trace cs (started s g store))
+turns s g store z cs =
+    let n = started s g store in
+    let e = start-is s g store z in
+    let i : n .station .round .list ≡ 0 = ap (λ (t : Station). t .round .list) e ∙ new-list (settingsOf g) (cellCount (length store / 6400)) in
+    accepted (trace cs n)
+    (subst (λ (l : List ℕ). Acc l rest (trace cs n)) (list-none (n .station .round .list) i)
+    (calls cs n rest (subst (λ (t : Station). Rel rest (t .wait .turn)) (sym e) (new-turn (settingsOf g) (cellCount (length store / 6400)))) (subst Low (sym i) low-none)))

@@ -1,0 +1,5 @@
+pub mod Calls
+pub mod Links
+pub mod Turns
+pub mod Book
+pub mod Promise
