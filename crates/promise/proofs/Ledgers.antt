@@ -1,24 +1,24 @@
 -- The book alone: what a piece covers, what is covered whole; and of one cell, that it lands exactly where all is covered. Assumes nothing.
 use mathlib.Core.Path.{_≡_, refl, sym, ap, _∙_, subst}
-use mathlib.Core.Bool.{Bool, true, false, not, cond, _&&_}
-use mathlib.Core.List.{List, [], _∷_}
-use mathlib.Core.Logic.{_⊎_, inl, inr, ⊎-elim}
-use Prim.Native.Nat.{ℕ, zero, suc, _+_, _-_, _*_, _%_, _≤_, _<_, zero-le}
+use mathlib.Core.Bool.{Bool, true, false, cond, _&&_}
+use mathlib.Core.List.{List}
+use mathlib.Core.Logic.{_⊎_, inr, ⊎-elim}
+use Prim.Native.Nat.{ℕ, zero, suc, _+_, _-_, _≤_, _<_, zero-le}
 use native.Mathlib.Omega.{arith}
-use lib.ListN.{length, getD, take, drop, length-drop, replicate, getD-replicate, length-replicate}
+use lib.ListN.{length, getD, take, drop, length-drop, getD-replicate}
 use lib.Seq.{getD-take, getD-drop, length-take-le, ext-getD}
 use lib.Dec.{leb, ltb, eqb}
-use borrow.Author.Tests.{leb-true, leb-false, ltb-true, eqb-true, lt-ltb, le-leb, eq-eqb}
+use borrow.Author.Tests.{leb-true, ltb-true, eqb-true, lt-ltb, le-leb, eq-eqb}
 use Rattle.bits.proofs.Lists.{cases, le-or-lt, eq-or-not, and-true, never-both}
-use Rattle.inbox.specs.Cells.{Held, held, offset, size, accept}
+use Rattle.inbox.specs.Cells.{Held, held, offset, size}
 use Rattle.inbox.specs.declared.cell.Cell.{Cell}
 use Rattle.inbox.specs.declared.keep.Kept.the-variants.{Needless}
 use Rattle.inbox.specs.Keeping.{keptOf}
-use Rattle.inbox.specs.Messages.{empty, emptyCell, announced, landed, framed, Cut}
+use Rattle.inbox.specs.Messages.{empty, announced, landed, framed, Cut}
 use Rattle.inbox.specs.Stores.{bodySize, bodyOf}
 use Rattle.inbox.proofs.Joined.{AtPlace, Inv, More, accept-inv}
 use Rattle.inbox.proofs.Rule.{needless-same, kept-room}
-use Rattle.promise.specs.Book.{Ledger, same, inside, cover, alsoHanded, allBelow}
+use Rattle.promise.specs.Book.{same, inside, cover, alsoHanded, allBelow}
 
 -- ---- a test of every number below n
 

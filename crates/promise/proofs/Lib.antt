@@ -22,4 +22,5 @@ pub mod QuietRx
 pub mod Readings
 pub mod Receptions
 pub mod Messages
+pub mod Sounds
 pub mod Item3

@@ -1,35 +1,33 @@
 -- Item 3 of document 01, the messages: every call keeps the tie, so what is promised holds of every list of calls. Assumes nothing.
 use mathlib.Core.Path.{_≡_, refl, sym, ap, _∙_, subst}
-use mathlib.Core.Bool.{Bool, true, false, not, cond, _&&_, _||_}
-use mathlib.Core.Option.{Option, none, some}
+use mathlib.Core.Bool.{Bool, true, false, cond, _&&_, _||_}
+use mathlib.Core.Option.{Option, none}
 use mathlib.Core.List.{List, [], _∷_, _++_, append-nil}
 use mathlib.Core.Logic.{⊎-elim}
-use Prim.Native.Nat.{ℕ, zero, suc, _+_, _*_, _/_, _%_, _≤_, _<_}
+use Prim.Native.Nat.{ℕ, _+_, _*_, _/_, _≤_, _<_}
 use native.Mathlib.Omega.{arith}
 use lib.ListN.{length, getD, replicate, length-replicate}
 use lib.Dec.{eqb, ltb, leb}
 use lib.Ieee.{Float}
-use borrow.Author.Tests.{eqb-true, ltb-true, ltb-false, leb-true, leb-false, eq-eqb, ne-eqb, lt-ltb, le-ltb, le-leb, lt-leb}
-use Rattle.bits.specs.Mask.{hasBit, withoutBit}
+use borrow.Author.Tests.{eqb-true, ltb-false, eq-eqb, ne-eqb, le-ltb, lt-leb}
+use Rattle.bits.specs.Mask.{hasBit}
 use Rattle.bits.proofs.Laws.{has-none, without-same, without-other}
-use Rattle.bits.proofs.Lists.{cond-keeps, cond-true, cond-false, cases, le-or-lt, eq-or-not, never-both, or-false}
+use Rattle.bits.proofs.Lists.{cond-keeps, cond-true, cond-false, eq-or-not, never-both}
 use Rattle.wire.specs.Kinds.{tiny, kIdle}
 use Rattle.wire.specs.Call.{unpackCall}
-use Rattle.words.specs.Words.{Heard, Burst, Parsed, malformed, parsed, parse}
+use Rattle.words.specs.Words.{Burst, Parsed, malformed, parsed, parse}
 use Rattle.words.proofs.Fine.{parse-fine}
-use Rattle.inbox.specs.Cells.{Held}
-use Rattle.inbox.specs.Stores.{cellOf, bodyOf, messageOf}
 use Rattle.stream.specs.declared.window.Window.{Window}
 use Rattle.stream.specs.Window.{handedOf, freshOf}
 use Rattle.stream.specs.Table.{Table, freedTable, cellCount}
 use Rattle.stream.proofs.Rooms.{cells-most}
-use Rattle.stream.proofs.Tables.{Tidy, start-tidy, freed-tidy}
+use Rattle.stream.proofs.Tables.{start-tidy, freed-tidy}
 use Rattle.stream.proofs.Windows.{Sound, sound-fresh, fresh-none}
-use Rattle.roster.specs.Members.{newMember, noMember}
+use Rattle.roster.specs.Members.{newMember}
 use Rattle.level.specs.Consts.{nought}
 use Rattle.net.specs.declared.Station.{Station}
 use Rattle.net.specs.declared.Settings.{Settings}
-use Rattle.net.specs.State.{tableOf, withTable, withWait, indexOf}
+use Rattle.net.specs.State.{tableOf, withTable, withWait}
 use Rattle.net.specs.Net.{isMember, newStation, blankCall, onTxDone}
 use Rattle.admit.specs.Admission.{seatOf, isFull, viaFor}
 use Rattle.frames.specs.Reading.{Reading}
@@ -39,16 +37,16 @@ use Rattle.rx.specs.Ending.{busyWait, idleEnd, replyEnd, nothingMore, Ended}
 use Rattle.rx.specs.Reception.{Received, airOf, firstReading, receivedOf, ncsRx}
 use Rattle.config.specs.declared.Given.{Given}
 use Rattle.config.specs.Checks.{settingsOk, settingsOf}
-use Rattle.station.specs.Entries.{Outcome, refused, done, unless, receivedAs, receiveBy, receiveRefusal, receiveOf, admitRefusal, admitOf, admitted, nextRefusal, nextOf, sentOf, check1, closeRefusal, closeOf, startRefusal, startOf, cellRefusal, check22, readRefusal, readingOf, freeOf}
+use Rattle.station.specs.Entries.{Outcome, refused, done, receivedAs, receiveBy, receiveRefusal, receiveOf, admitRefusal, admitOf, nextRefusal, nextOf, sentOf, check1, closeRefusal, closeOf, startRefusal, startOf, cellRefusal, check22, readRefusal, readingOf, freeOf}
 use Rattle.promise.specs.Calls.{Lent, handed, another, Call, admission, reception, decision, sending, closing, reading, freeing, Net, net, lentTo, outcome, isRefused, storeAfter, step, started}
-use Rattle.promise.specs.Book.{Sent, Message, Ledger, Book, emptyBook, Handed, Event, Answers, answersOf, seenBy, framesBy, bookFrames, bookedIn, bookDone, bookCall, outDone, outOf, allBelow, enter, enterAll, eventsIn, FramesOk, LentOk, CallOk, CallsOk, Paired, Once, ReadsAs, At, Holds, handedIn, Messages, MessagesKept}
+use Rattle.promise.specs.Book.{Sent, Message, Ledger, Book, emptyBook, Handed, Event, answersOf, seenBy, framesBy, bookFrames, bookDone, bookCall, outDone, outOf, enter, enterAll, eventsIn, FramesOk, LentOk, CallOk, CallsOk, Paired, Once, ReadsAs, At, Holds, handedIn, MessagesKept}
 use Rattle.promise.proofs.Ledgers.{none-below}
-use Rattle.promise.proofs.Ties.{View, Use, Vacant, Comes, Whole, useOf, useAt, heldAt, FineAt, entryOf, Tie, not-vacant, not-whole, use-vacant}
-use Rattle.promise.proofs.Quiet.{windowIn, windowAt, Keeps, kept-self, viewOf, view-is, kept-view}
+use Rattle.promise.proofs.Ties.{View, Use, Vacant, Comes, useOf, useAt, heldAt, FineAt, entryOf, Tie, not-vacant, not-whole, use-vacant}
+use Rattle.promise.proofs.Quiet.{windowIn, Keeps, kept-self, viewOf, kept-view}
 use Rattle.promise.proofs.QuietNext.{next-keeps}
 use Rattle.promise.proofs.Events.{events-none, append-quiet}
 use Rattle.promise.proofs.QuietRx.{QuietEnd, admit-kept, idle-kept, reply-kept}
-use Rattle.promise.proofs.Receptions.{allHanded, once-append, Ready, Reads, frames-read}
+use Rattle.promise.proofs.Receptions.{allHanded, once-append, Ready, frames-read}
 use Rattle.promise.proofs.Receptions as receptions
 
 -- what is handed from call to call, tied to the book
@@ -101,26 +99,20 @@ start-tied M g store room =
         cond-keeps (λ (y : ℕ). 6400 * y ≤ length store) (ltb (length store / 6400) 64) (length store / 6400) 64
         (λ _. omega arith) (λ q. let r = ltb-false (length store / 6400) 64 q in omega arith)
 
-pub started-tied : (M : Sent) (s : Station) (g : Given) (store : List ℕ) → startOf s g store .refusal ≡ 0 → Tied M (started s g store) emptyBook
-unfolding startOf startRefusal
-started-tied M s g store = by (startRefusal g (length store)) refl
+pub started-tied : (M : Sent) (s : Station) (g : Given) (store : List ℕ) → startRefusal g (length store) ≡ 0 → Tied M (started s g store) emptyBook
+unfolding startOf
+started-tied M s g store e =
+    let begun = done (newStation (settingsOf g) (cellCount (length store / 6400))) store [] in
+    subst (λ (o : Outcome). Tied M (net (o .station) store) emptyBook)
+    (sym (cond-true (eqb (startRefusal g (length store)) 0) begun (refused (startRefusal g (length store)) s store) (eq-eqb (startRefusal g (length store)) 0 e)))
+    (start-tied M (settingsOf g) store (long-enough e))
   where
     long-enough : startRefusal g (length store) ≡ 0 → 6400 ≤ length store
-    long-enough = at (ltb (length store) 6400) refl
+    long-enough = unfold startRefusal in at (ltb (length store) 6400) refl
       where
         at : (t : Bool) → ltb (length store) 6400 ≡ t → _≡_ {A = ℕ} (cond t 7 (cond (settingsOk g) 0 5)) 0 → 6400 ≤ length store
         at true q e = absurd (omega arith)
         at false q e = ltb-false (length store) 6400 q
-
-    begun : Outcome
-    begun = done (newStation (settingsOf g) (cellCount (length store / 6400))) store []
-
-    by : (m : ℕ) → startRefusal g (length store) ≡ m → unless m s store begun .refusal ≡ 0 → Tied M (net (unless m s store begun .station) store) emptyBook
-    by m q = at (eqb m 0) refl
-      where
-        at : (t : Bool) → eqb m 0 ≡ t → cond t begun (refused m s store) .refusal ≡ 0 → Tied M (net (cond t begun (refused m s store) .station) store) emptyBook
-        at true p e = start-tied M (settingsOf g) store (long-enough (q ∙ eqb-true m 0 p))
-        at false p e = absurd (never-both (eqb m 0) (eq-eqb m 0 e) p)
 
 -- ---- calls that leave every message alone
 
@@ -130,7 +122,7 @@ pub record CallGood (M : Sent) (c : Call) (n : Net) (b : Book) : Type 0 where
   pub once : Once (outOf M c (answersOf c n) b) (b .ledger .handed)
   pub after : bookCall M c (answersOf c n) b .ledger .handed ≡ allHanded (outOf M c (answersOf c n) b) (b .ledger .handed)
 
-same-cond : {A : Type 0} (t : Bool) (x y : A) → x ≡ y → cond t x y ≡ x
+pub same-cond : {A : Type 0} (t : Bool) (x y : A) → x ≡ y → cond t x y ≡ x
 same-cond true x y q = refl
 same-cond false x y q = sym q
 
@@ -162,17 +154,17 @@ module _ (M : Sent) (c : Call) (n : Net) (b : Book) (tied : Tied M n b) (keeps :
         after = ap (λ (k : Book). k .ledger .handed) same-book ∙ sym (ap (λ (ms : List Message). allHanded ms (b .ledger .handed)) no-out);
       }
 
-abbrev KeepsOutcome : Station → Outcome → Type 0
+abbrev pub KeepsOutcome : Station → Outcome → Type 0
 KeepsOutcome s o = Keeps s (o .station)
 
-admission-kept : (s : Station) (packed : List ℕ) (relay : ℕ) (now : Float) (room : ℕ) → KeepsOutcome s (admitOf s packed relay now room)
+pub admission-kept : (s : Station) (packed : List ℕ) (relay : ℕ) (now : Float) (room : ℕ) → KeepsOutcome s (admitOf s packed relay now room)
 unfolding admitOf
 admission-kept s packed relay now room =
     cond-keeps (KeepsOutcome s) (eqb (admitRefusal room now (s .used) relay (isFull (seatOf s (unpackCall packed)))) 0) _ _
     (λ _. admit-kept s s (unpackCall packed) (viaFor s (seatOf s (unpackCall packed)) relay) now (kept-self s) .0)
     (λ _. kept-self s)
 
-decision-kept : (s : Station) (now : Float) (room : ℕ) → KeepsOutcome s (nextOf s now room)
+pub decision-kept : (s : Station) (now : Float) (room : ℕ) → KeepsOutcome s (nextOf s now room)
 unfolding nextOf
 decision-kept s now room = cond-keeps (KeepsOutcome s) (eqb (nextRefusal now room) 0) _ _ (λ _. next-keeps s now) (λ _. kept-self s)
 
@@ -180,11 +172,11 @@ sent-kept : (s : Station) (now : Float) → Keeps s (onTxDone s now)
 unfolding onTxDone
 sent-kept s now = kept-self s
 
-sending-kept : (s : Station) (now : Float) → KeepsOutcome s (sentOf s now)
+pub sending-kept : (s : Station) (now : Float) → KeepsOutcome s (sentOf s now)
 unfolding sentOf
 sending-kept s now = cond-keeps (KeepsOutcome s) (eqb (check1 now 0) 0) _ _ (λ _. sent-kept s now) (λ _. kept-self s)
 
-closing-kept : (s : Station) (count : ℕ) → KeepsOutcome s (closeOf s count)
+pub closing-kept : (s : Station) (count : ℕ) → KeepsOutcome s (closeOf s count)
 unfolding closeOf
 closing-kept s count = cond-keeps (KeepsOutcome s) (eqb (closeRefusal count) 0) _ _ (λ _. kept-self s) (λ _. kept-self s)
 
@@ -225,7 +217,7 @@ module _ (M : Sent) (n : Net) (b : Book) (tied : Tied M n b) (cell : ℕ) where
       subst (λ (o : Option Message). ReadsAs M o n cell) (sym (tied .tie .entries cell))
       (reads-by a busy-bit landed-bit refl refl (tied .tie .cells cell a))
 
-reading-kept : (c : ℕ) (lent : Lent) (n : Net) → KeepsOutcome (n .station) (outcome (reading c lent) n)
+pub reading-kept : (c : ℕ) (lent : Lent) (n : Net) → KeepsOutcome (n .station) (outcome (reading c lent) n)
 unfolding outcome
 reading-kept c lent n =
     cond-keeps (KeepsOutcome (n .station)) (eqb (readRefusal (length (lentTo lent (n .store))) (n .station .count) (n .station .landed) c) 0) _ _
@@ -275,7 +267,7 @@ module _ (M : Sent) (n : Net) (b : Book) (tied : Tied M n b) (cell : ℕ) (is : 
             (eq-or-not d cell);
       }
 
-abbrev refusedBy : Outcome → Bool
+abbrev pub refusedBy : Outcome → Bool
 refusedBy o = cond (eqb (o .refusal) 0) false true
 
 module _ (M : Sent) (n : Net) (b : Book) (tied : Tied M n b) (cell : ℕ) where

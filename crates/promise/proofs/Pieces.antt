@@ -2,43 +2,41 @@
 use mathlib.Core.Path.{_≡_, refl, sym, ap, _∙_, subst}
 use mathlib.Core.Bool.{Bool, true, false, not, cond, _&&_, _||_}
 use mathlib.Core.Option.{Option, none, some}
-use mathlib.Core.List.{List, [], _∷_}
+use mathlib.Core.List.{List}
 use mathlib.Core.Logic.{_⊎_, inl, inr, ⊎-elim}
-use Prim.Native.Nat.{ℕ, zero, suc, _+_, _-_, _*_, _/_, _%_, _^_, _≤_, _<_, zero-le}
+use Prim.Native.Nat.{ℕ, _+_, _-_, _*_, _/_, _%_, _^_, _≤_, _<_}
 use native.Mathlib.Omega.{arith}
-use lib.ListN.{length, getD, set, replicate, length-replicate}
+use lib.ListN.{length, getD, replicate, length-replicate}
 use lib.Seq.{getD-set-same}
-use lib.Dec.{leb, ltb, eqb}
-use borrow.Author.Tests.{eq-eqb, ne-eqb, eqb-true}
-use Rattle.bits.specs.Mask.{hasBit, withBit}
+use lib.Dec.{eqb}
+use borrow.Author.Tests.{eq-eqb, ne-eqb}
+use Rattle.bits.specs.Mask.{hasBit}
 use Rattle.bits.proofs.Laws.{with-same}
 use Rattle.bits.proofs.Lists.{cases, le-or-lt, eq-or-not, never-both}
-use Rattle.wire.specs.declared.number.Number.{Number}
 use Rattle.wire.specs.declared.number.Number.the-variants.{Is, Before}
 use Rattle.wire.specs.Numbers.{widened}
 use Rattle.wire.proofs.Near.{widen-near}
 use Rattle.inbox.specs.declared.cell.Cell.{Cell}
 use Rattle.inbox.specs.declared.keep.Kept.{Kept}
 use Rattle.inbox.specs.declared.keep.Kept.the-variants.{Needless, Yes, Late, Long, NoCell, NoPlace}
-use Rattle.inbox.specs.declared.store.Landed.{Landed}
 use Rattle.inbox.specs.declared.store.Landed.the-variants.{Bytes, NotYet}
 use Rattle.inbox.specs.Cells.{Held, held, accept}
 use Rattle.inbox.specs.Stores.{cellOf, inCell}
-use Rattle.inbox.specs.Messages.{announced, landed, framed, Cut}
+use Rattle.inbox.specs.Messages.{announced, landed, framed}
 use Rattle.inbox.proofs.Joined.{Inv, More, same-loose, accept-inv}
 use Rattle.inbox.proofs.Apart.{in-length, in-same, in-other}
 use Rattle.inbox.proofs.Rule.{KeptIs, yes-is, kept-room}
 use Rattle.stream.specs.declared.window.Window.{Window}
 use Rattle.stream.specs.declared.table.Taken.{Taken}
 use Rattle.stream.specs.Window.{handedOf, landOf}
-use Rattle.stream.specs.Table.{Table, Accepted, accepted, passed, took, noCell, cellAt, cellFor, placeOf, hasRoom, ownerOf, tableRoom, changes, hasLanded, keptTable}
+use Rattle.stream.specs.Table.{Table, Accepted, accepted, passed, took, noCell, cellAt, cellFor, hasRoom, ownerOf, tableRoom, changes, hasLanded, keptTable}
 use Rattle.stream.specs.Table as table
 use Rattle.stream.proofs.Tables.{Tidy, kept-tidy, kept-other, place-below, place-in, room-only}
 use Rattle.stream.proofs.Windows.{Sound, sound-next, sound-land, land-at, handed-low, next-not-handed}
-use Rattle.stream.proofs.Accepts.{leftAs, answerOf, cellIn, heldAfter, putAs, Open, accept-cases, after-length, after-fits}
+use Rattle.stream.proofs.Accepts.{leftAs, answerOf, cellIn, heldAfter, putAs, accept-cases, after-length, after-fits}
 use Rattle.promise.specs.Book.{Sent, Message, Ledger, Event, same, inside, cover, alsoHanded, allBelow, Entered, completes, enterBy, bookPiece, nothing, enter, Lowest, PieceOk, Names}
-use Rattle.promise.proofs.Ledgers.{of-all, same-true, same-self, cover-other, cover-same, cover-nothing, inside-true, inside-of, handed-other, handed-self, Cov, landed-bytes, landed-is, needless-covered}
-use Rattle.promise.proofs.Ties.{View, Use, Vacant, Comes, Whole, useOf, useAt, heldAt, FineAt, entryOf, Tie, use-comes, use-whole, Aim, aim, now-inv, Apart, put-tie}
+use Rattle.promise.proofs.Ledgers.{of-all, same-true, cover-other, cover-same, cover-nothing, inside-true, inside-of, handed-other, handed-self, Cov, landed-bytes, landed-is, needless-covered}
+use Rattle.promise.proofs.Ties.{View, Comes, Whole, useOf, useAt, heldAt, entryOf, Tie, use-comes, use-whole, Aim, aim, now-inv, put-tie}
 
 -- ---- what a piece comes to, on both sides
 

@@ -1,17 +1,15 @@
 -- What leaves every message alone: the cells stay, and each slot's window does, a newcomer's being the fresh one of a slot without a member.
 -- Assumes nothing.
-use mathlib.Core.Path.{_≡_, refl, sym, ap, _∙_, subst}
-use mathlib.Core.Bool.{Bool, true, false, cond, _&&_}
+use mathlib.Core.Path.{_≡_, refl, sym, ap, _∙_}
+use mathlib.Core.Bool.{Bool, true, false, cond}
 use mathlib.Core.List.{List, [], _∷_}
 use mathlib.Core.Logic.{⊎-elim}
-use Prim.Native.Nat.{ℕ, zero, suc, _≤_, _<_}
-use native.Mathlib.Omega.{arith}
+use Prim.Native.Nat.{ℕ, zero, suc, _<_}
 use lib.ListN.{length, getD, set, length-set}
 use lib.Seq.{getD-set-other}
-use lib.Dec.{ltb}
 use Rattle.bits.specs.Mask.{hasBit, withBit}
 use Rattle.bits.proofs.Laws.{with-other}
-use Rattle.bits.proofs.Lists.{le-or-lt, eq-or-not, cases}
+use Rattle.bits.proofs.Lists.{le-or-lt, eq-or-not}
 use Rattle.stream.specs.declared.window.Window.{Window}
 use Rattle.stream.specs.Window.{freshOf}
 use Rattle.stream.specs.Table.{Table}

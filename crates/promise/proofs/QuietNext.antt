@@ -1,33 +1,28 @@
 -- The next decision leaves every message alone, stage by stage. Assumes nothing.
-use mathlib.Core.Path.{_≡_, refl, sym, _∙_}
-use mathlib.Core.Logic.{⊎-elim}
-use Prim.Native.Nat.{ℕ, _<_}
-use mathlib.Core.Bool.{true, false, not, _&&_, _||_}
+use mathlib.Core.Path.{_≡_, refl}
+use Prim.Native.Nat.{ℕ}
+use mathlib.Core.Bool.{not, _&&_, _||_}
 use mathlib.Core.List.{List, []}
 use lib.Dec.{eqb, ltb}
 use lib.Ieee.{Float, lt}
-use borrow.Author.Tests.{eqb-true, eqb-false}
-use Rattle.bits.specs.Mask.{hasBit, withoutBit, lowestBit}
+use Rattle.bits.specs.Mask.{hasBit, lowestBit}
 use Rattle.bits.specs.declared.Found.{Found}
 use Rattle.bits.specs.declared.Found.the-variants as found
-use Rattle.bits.proofs.Lists.{cond-keeps, and-true}
+use Rattle.bits.proofs.Lists.{cond-keeps}
 use Rattle.bits.proofs.Loops.{fold-keeps}
 use Rattle.level.specs.declared.Level.{Level}
 use Rattle.level.specs.declared.Level.the-variants.{Unheard, Decibels}
 use Rattle.stream.specs.Window.{bitmapOf}
 use Rattle.roster.specs.declared.Member.{Member}
 use Rattle.roster.specs.Members.{isNews, promotedAt, reroutedTo}
-use Rattle.roster.specs.Relays.{couldRelay, turnOver, promotableAt}
-use Rattle.roster.proofs.Laws.{best-high-able, best-high-slot, without-in}
+use Rattle.roster.specs.Relays.{turnOver, promotableAt}
 use Rattle.net.specs.declared.Station.{Station}
 use Rattle.net.specs.declared.Reply.{Reply}
 use Rattle.net.specs.State.{tableOf, indexOf, memberAt, withMember, withWait, withRound, withRxsent}
 use Rattle.net.specs.Net.{isMember, idleWait, Said, said}
-use Rattle.net.proofs.Laws.{member-is}
 use Rattle.bursts.specs.Rows.{seated}
 use Rattle.bursts.specs.Bursts.{acksBurst, beaconOf, tellAt, tellAll, listSent, rxListBurst}
-use Rattle.bursts.specs.Reroute.{ableAt, ableOf, floorOf, promoteWith, promoteAt, promoteAll, leavesOf, newRelay, mustMove, moveAt, moveAll, rerouteOf}
-use Rattle.bursts.proofs.Masks.{mask-where}
+use Rattle.bursts.specs.Reroute.{floorOf, promoteWith, promoteAt, promoteAll, leavesOf, newRelay, mustMove, moveAt, moveAll, rerouteOf}
 use Rattle.next.specs.declared.Due.{Due}
 use Rattle.next.specs.declared.Due.the-variants.{Free, Quiet, Close, Again, Missed}
 use Rattle.next.specs.declared.Act.{Act}

@@ -1,13 +1,13 @@
 -- Admission, the frames of a reception that are no pieces, and its end leave every message alone, and write no event 2. Assumes nothing.
-use mathlib.Core.Path.{_≡_, refl, sym, ap, _∙_}
-use Prim.Native.Nat.{ℕ, zero, suc, _+_, _/_, _%_}
-use mathlib.Core.Bool.{Bool, true, false, _&&_}
+use mathlib.Core.Path.{_≡_, refl, ap, _∙_}
+use Prim.Native.Nat.{ℕ, zero, suc, _+_, _%_}
+use mathlib.Core.Bool.{Bool, true, false}
 use mathlib.Core.List.{List, [], _∷_, _++_}
 use lib.Dec.{eqb, ltb, leb}
 use lib.Ieee.{Float}
-use lib.ListN.{length, getD}
+use lib.ListN.{getD}
 use Rattle.bits.proofs.Lists.{cond-keeps}
-use Rattle.wire.specs.Kinds.{kIdle, kAck, kPollack, cCheckin, cReport, cOverheard, cKids}
+use Rattle.wire.specs.Kinds.{kAck, kPollack, cCheckin, cReport, cOverheard, cKids}
 use Rattle.wire.specs.Fields.{snrFromQ}
 use Rattle.words.specs.declared.Head.{Head}
 use Rattle.roster.specs.declared.Member.{Member}
@@ -16,21 +16,21 @@ use Rattle.net.specs.declared.Station.{Station}
 use Rattle.net.specs.declared.Reply.{Reply}
 use Rattle.net.specs.declared.Turn.{Turn}
 use Rattle.net.specs.declared.Turn.the-variants.{Idle, Sending, Waiting}
-use Rattle.net.specs.State.{indexOf, memberAt, withMember, withWait, tableOf, oneReply}
+use Rattle.net.specs.State.{memberAt, withMember, withWait, tableOf, oneReply}
 use Rattle.net.specs.Net.{isMember, idleWait, Said, said}
-use Rattle.out.specs.Encode.{eventWord, missedWord}
+use Rattle.out.specs.Encode.{eventWord}
 use Rattle.admit.specs.declared.Seat.{Seat}
 use Rattle.admit.specs.declared.Seat.the-variants.{Known, Free, Full}
 use Rattle.admit.specs.Admission.{seatOf, slotOf, admitBy, admitEvents}
 use Rattle.admit.proofs.Laws.{seat-lt, seat-free}
 use Rattle.frames.specs.declared.Air.{Air}
 use Rattle.frames.specs.Reading.{Reading, alsoSaid, onStation}
-use Rattle.frames.specs.Control.{eachEntry, checkinMember, checkedIn, withActive, callAt, checkinFrame, isForwarded, isPending, reportMember, reportSays, reportStation, reportFrame, relayOf, newcomer, heardBy, overheardBy, overheardEntry, overheardFrame, isKid, kidMember, kidEvents, kidEntry, kidsFrame}
+use Rattle.frames.specs.Control.{eachEntry, checkinMember, checkedIn, withActive, callAt, checkinFrame, isForwarded, reportMember, reportSays, reportStation, reportFrame, relayOf, newcomer, heardBy, overheardBy, overheardEntry, overheardFrame, isKid, kidMember, kidEvents, kidEntry, kidsFrame}
 use Rattle.frames.specs.Frames.{controlBy}
 use Rattle.rx.specs.Ending.{ackWords, turnOverIn, idleMember, idleHeard, idleBy, idleEnd, replyMember, replyHeard, ackExtra, ackLevel, answerBy, goesOn, isReply, replyBy, replyEnd, Ended}
-use Rattle.promise.specs.Book.{Event, eventsIn}
+use Rattle.promise.specs.Book.{eventsIn}
 use Rattle.promise.proofs.Events.{events-none, append-quiet, checkin-word, relayed-word, missed-word, head-word, wave-word}
-use Rattle.promise.proofs.Quiet.{Keeps, kept-self, kept-same, kept-new}
+use Rattle.promise.proofs.Quiet.{Keeps, kept-self, kept-new}
 use Rattle.promise.proofs.QuietNext.{member-kept, turn-up}
 
 -- ---- admission

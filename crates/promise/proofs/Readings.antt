@@ -4,23 +4,23 @@ use mathlib.Core.Bool.{Bool, true, false, not, cond, _&&_}
 use mathlib.Core.Option.{Option, none, some}
 use mathlib.Core.List.{List, [], _∷_, _++_}
 use mathlib.Core.Logic.{⊎-elim}
-use Prim.Native.Nat.{ℕ, zero, suc, _+_, _/_, _%_, _≤_, _<_}
+use Prim.Native.Nat.{ℕ, _+_, _/_, _%_, _≤_, _<_}
 use native.Mathlib.Omega.{arith}
 use lib.ListN.{length, getD, set, length-set}
 use lib.Seq.{getD-set-same, getD-set-other}
 use lib.Dec.{eqb}
-use borrow.Author.Tests.{eq-eqb, ne-eqb, eqb-true}
-use Rattle.bits.specs.Mask.{hasBit, withBit}
+use borrow.Author.Tests.{eq-eqb, ne-eqb}
+use Rattle.bits.specs.Mask.{hasBit}
 use Rattle.bits.proofs.Laws.{with-same, with-other}
-use Rattle.bits.proofs.Lists.{cond-keeps, cond-true, cond-false, cases, le-or-lt, eq-or-not, never-both, and-true}
+use Rattle.bits.proofs.Lists.{cond-keeps, le-or-lt, eq-or-not}
 use Rattle.wire.specs.Kinds.{tUp, tCtrl}
 use Rattle.words.specs.Words.{Heard, lost, heard}
 use Rattle.out.specs.Encode.{eventWord, messageWord}
 use Rattle.stream.specs.declared.window.Window.{Window}
 use Rattle.stream.specs.Window.{landOf, freshOf}
-use Rattle.stream.specs.Table.{Table, Accepted, accept, hasLanded}
+use Rattle.stream.specs.Table.{Accepted, accept, hasLanded}
 use Rattle.roster.specs.declared.Member.{Member}
-use Rattle.roster.specs.Members.{noMember, withHeard, withDirect, landedOne}
+use Rattle.roster.specs.Members.{noMember, landedOne}
 use Rattle.net.specs.declared.Station.{Station}
 use Rattle.net.specs.State.{indexOf, memberAt, withMember, withTable, tableOf}
 use Rattle.net.specs.Net.{isMember}
@@ -29,11 +29,11 @@ use Rattle.frames.specs.declared.Air.{Air}
 use Rattle.frames.specs.Reading.{Reading}
 use Rattle.frames.specs.Pieces.{isAsideLeaf, heardMember, sizeOf, pieceMember, isRelayed, pieceEvents, trafficIf, relayIf, unkeptAt, keptPiece, takenPiece, pieceFrame}
 use Rattle.frames.specs.Frames.{readFrame, controlFrame}
-use Rattle.promise.specs.Book.{Sent, Message, Ledger, Event, Entered, nothing, bookPiece, isBoats, bookFrame, alsoOne, eventsIn, FrameOk, PieceOk}
+use Rattle.promise.specs.Book.{Sent, Message, Ledger, Event, Entered, nothing, bookPiece, bookFrame, alsoOne, eventsIn, FrameOk, PieceOk}
 use Rattle.promise.proofs.Ties.{View, Tie}
-use Rattle.promise.proofs.Pieces.{Still, Lands, Joint, windowsAfter, viewAfter, eventFor, Good, piece-good}
+use Rattle.promise.proofs.Pieces.{Joint, windowsAfter, viewAfter, eventFor, Good, piece-good}
 use Rattle.promise.proofs.Quiet.{windowIn, windowAt, Keeps, kept-self, viewOf, view-is, kept-view}
-use Rattle.promise.proofs.Events.{events-none, append-quiet, events-append, relayed-word, message-word}
+use Rattle.promise.proofs.Events.{events-none, events-append, relayed-word, message-word}
 use Rattle.promise.proofs.QuietRx.{Untouched, untouched, control-untouched}
 
 -- ---- the station after a kept piece

@@ -1,27 +1,25 @@
 -- The frames of a reception, one after the other: its events 2 and the messages handed over pair off. Assumes nothing.
 use mathlib.Core.Path.{_≡_, refl, sym, ap, _∙_, subst}
-use mathlib.Core.Bool.{Bool, true, false, not, cond, _&&_}
+use mathlib.Core.Bool.{Bool, true, false}
 use mathlib.Core.Option.{Option, none, some}
 use mathlib.Core.List.{List, [], _∷_, _++_, append-assoc}
 use mathlib.Core.Logic.{⊎-elim}
 use Prim.Native.Nat.{ℕ, zero, suc, _+_, _%_, _≤_, _<_}
 use native.Mathlib.Omega.{arith}
 use lib.ListN.{length, getD, length-append}
-use lib.Dec.{eqb}
 use Rattle.bits.specs.Mask.{hasBit}
 use Rattle.bits.proofs.Lists.{le-or-lt, never-both}
 use Rattle.words.specs.Words.{Heard}
-use Rattle.net.specs.declared.Station.{Station}
 use Rattle.frames.specs.declared.Air.{Air}
 use Rattle.frames.specs.Reading.{Reading}
 use Rattle.frames.specs.Frames.{readFrame, frameStep, readFrames}
-use Rattle.promise.specs.Book.{Sent, Message, Ledger, Event, Handed, same, alsoHanded, Entered, bookFrame, bookFrames, alsoOne, enter, enterAll, eventsIn, FrameOk, FramesOk, Pairs, Later, Rising, Once}
+use Rattle.promise.specs.Book.{Sent, Message, Ledger, Event, Handed, same, alsoHanded, bookFrame, bookFrames, alsoOne, enter, enterAll, eventsIn, FrameOk, FramesOk, Pairs, Later, Rising, Once}
 use Rattle.promise.proofs.Ledgers.{same-true, same-self, handed-self, handed-other}
 use Rattle.promise.proofs.Ties.{View, Tie}
-use Rattle.promise.proofs.Pieces.{Still, Lands, Joint}
+use Rattle.promise.proofs.Pieces.{Joint}
 use Rattle.promise.proofs.Quiet.{viewOf}
 use Rattle.promise.proofs.QuietRx.{untouched}
-use Rattle.promise.proofs.Readings.{Read, Runs, frame-runs, frame-read}
+use Rattle.promise.proofs.Readings.{Read, frame-runs, frame-read}
 
 -- ---- the messages handed over, in order
 

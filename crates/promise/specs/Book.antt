@@ -3,7 +3,7 @@ use mathlib.Core.Path.{_≡_}
 use mathlib.Core.Bool.{Bool, true, false, not, cond, _&&_}
 use mathlib.Core.Option.{Option, none, some}
 use mathlib.Core.List.{List, [], _∷_, _++_}
-use Prim.Native.Nat.{ℕ, zero, suc, _+_, _*_, _/_, _%_, _≤_, _<_}
+use Prim.Native.Nat.{ℕ, zero, suc, _+_, _/_, _%_, _≤_, _<_}
 use lib.ListN.{length, getD}
 use lib.Dec.{leb, ltb, eqb}
 use lib.Ieee.{Float}
@@ -15,7 +15,7 @@ use Rattle.net.specs.declared.Station.{Station}
 use Rattle.net.specs.Net.{isMember}
 use Rattle.rx.specs.Reception.{ncsRx}
 use Rattle.config.specs.declared.Given.{Given}
-use Rattle.station.specs.Entries.{startOf, readRefusal, readingOf}
+use Rattle.station.specs.Entries.{startRefusal, readRefusal, readingOf}
 use Rattle.promise.specs.Calls.{Lent, handed, another, Call, admission, reception, decision, sending, closing, reading, freeing, Net, lentTo, outcome, isRefused, step, started}
 
 -- ---- the book: per boat and number the bytes covered, and whether the message is handed over; per cell a message or none
@@ -305,5 +305,5 @@ pub record Messages (M : Sent) (n : Net) (cs : List Call) : Type 0 where
 -- from a start that is not refused, with any bytes in the store
 abbrev pub MessagesKept : Type 0
 MessagesKept =
-    (M : Sent) → ((s k : ℕ) → length (M s k) ≤ 2046) → (s : Station) (g : Given) (store : List ℕ) → startOf s g store .refusal ≡ 0 → (cs : List Call)
+    (M : Sent) → ((s k : ℕ) → length (M s k) ≤ 2046) → (s : Station) (g : Given) (store : List ℕ) → startRefusal g (length store) ≡ 0 → (cs : List Call)
     → CallsOk M cs (started s g store) emptyBook → Messages M (started s g store) cs
