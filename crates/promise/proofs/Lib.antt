@@ -24,3 +24,6 @@ pub mod Receptions
 pub mod Messages
 pub mod Sounds
 pub mod Item3
+pub mod Runs
+pub mod Alike
+pub mod Needed
