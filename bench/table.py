@@ -50,10 +50,10 @@ for name in ["typical", "heavy"]:
     script = work + "/" + name
     print(name + ":", open(script + ".calls").read().strip())
     whole = min(run([drive], script)[0] for _ in range(runs))
-    reading = min(run([drive], script + ".refused")[0] for _ in range(runs))
+    refused = min(run([drive], script + ".refused")[0] for _ in range(runs))
     calls = min(rust(script) for _ in range(runs))
-    print("  seconds: Rattle %.3f, of it reading the words %.3f; Rust, its four calls alone %.3f" % (whole, reading, calls))
-    print("  ratio: %.2f with words in and out, %.2f without reading the words" % (whole / calls, (whole - reading) / calls))
+    print("  seconds: Rattle, words in and out %.3f, the same with each call refused %.3f; Rust, its four calls alone %.3f" % (whole, refused, calls))
+    print("  ratio: at most %.2f (words in and out), at least %.2f (refused calls taken off)" % (whole / calls, (whole - refused) / calls))
     mine, its = instructions([drive], script + ".short"), instructions(plain, script + ".short")
     total, copied = inside(mine, "PROGRAM TOTALS"), inside(mine, "memcpy|memmove")
     alone = sum(inside(its, f) for f in CALLS)
