@@ -1,18 +1,19 @@
 #!/usr/bin/env python3
-"""script.py BOATS ROUNDS FRAMES PIECE MESSAGE CELLS [fixed] [refused]: a script for `drive` on standard output, its calls on standard error.
+"""script.py BOATS ROUNDS FRAMES PIECE MESSAGE CELLS [fixed] [words]: a script for `drive` on standard output, its calls on standard error.
 
 BOATS boats check in, then answer each poll with a report and 0 to FRAMES - 1 pieces of PIECE bytes (just as many with `fixed`) of messages of
-MESSAGE bytes; the host reads and frees each message as it lands. With `refused` each clock is infinite: every call is refused, the words are read.
+MESSAGE bytes; the host frees each message as it lands. With `words` as many words that ask nothing of the station: each reception is a clock that is
+malformed, and each other call a time.
 """
 import random
 import struct
 import sys
 
 boats, rounds, most, piece, message, cells = map(int, sys.argv[1:7])
-fixed, refused = "fixed" in sys.argv, "refused" in sys.argv
+fixed, still = "fixed" in sys.argv, "words" in sys.argv
 chance = random.Random(5)
 words = []
-calls = dict(next=0, sent=0, receive=0, frames=0, read=0, free=0)
+calls = dict(next=0, sent=0, receive=0, frames=0, free=0)
 CHARS = " 0123456789ABCDEFGHIJKLMNOPQRSTUVWXYZ/"
 
 
@@ -32,14 +33,17 @@ def frame(flags, field, payload):
 
 
 def command(code, name=None, rest=0):
-    words.append(7 << 28 | rest << 4 | code)
+    if still and code in (0, 1, 6):
+        words.append(14 << 28)
+    else:
+        words.append(7 << 28 | rest << 4 | (9 if still and code == 2 else code))
     if name:
         calls[name] += 1
 
 
 def clock(seconds):
     command(9)
-    words.extend(frame(0, 0, struct.pack("<d", float("inf") if refused else seconds)))
+    words.extend(frame(0, 0, struct.pack("<d", seconds)))
 
 
 def receive(code, high, frames):
@@ -104,7 +108,6 @@ for turn in range(rounds):
         receive(3, turn & 3, frames)
         command(1, "sent")
         for c in landed:
-            command(5, "read", c)
             command(6, "free", c)
             free.add(c)
 print(" ".join("%s %d" % c for c in calls.items()), file=sys.stderr)

@@ -1,4 +1,5 @@
 """table.py DRIVE WORK RUNS: the table that bench/run prints."""
+import os
 import re
 import resource
 import subprocess
@@ -10,22 +11,23 @@ plain, stamped = [work + "/plain/oracle", "drive"], [work + "/stamped/oracle", "
 CALLS = ["NetStation.*::admit", "NetStation.*::ncs_rx", "NetStation.*::ncs_next", "NetStation.*::on_tx_done"]
 
 
-def run(command, script, stack=None):
+def run(command, script, stack=None, loaded=None):
     """Seconds, what went to standard error, and whether it ended well."""
     limit = (lambda: resource.setrlimit(resource.RLIMIT_STACK, (stack, stack))) if stack else None
+    env = dict(os.environ, LD_PRELOAD=loaded) if loaded else None
     with open(script, "rb") as words:
         start = time.perf_counter()
-        done = subprocess.run(command, stdin=words, stdout=subprocess.DEVNULL, stderr=subprocess.PIPE, preexec_fn=limit)
+        done = subprocess.run(command, stdin=words, stdout=subprocess.DEVNULL, stderr=subprocess.PIPE, preexec_fn=limit, env=env)
         return time.perf_counter() - start, done.stderr.decode(), done.returncode == 0
 
 
 def rust(script):
     """Seconds of the Rust's four calls alone."""
-    return float(run(stamped, script)[1].split("\n")[-2].split()[1])
+    return float(run(stamped, script)[1].split("\n")[-2])
 
 
 def instructions(command, script):
-    """Instructions by function, what it calls included."""
+    """Millions of instructions by function, what it calls included."""
     out = work + "/callgrind"
     run(["valgrind", "--tool=callgrind", "--callgrind-out-file=" + out] + command, script)
     text = subprocess.run(["callgrind_annotate", "--inclusive=yes", "--threshold=100", out], stdout=subprocess.PIPE, stderr=subprocess.DEVNULL)
@@ -35,6 +37,12 @@ def instructions(command, script):
 
 def inside(counts, name):
     return max([n for f, n in counts if re.search(name, f)] + [0])
+
+
+def outside_copies(script):
+    """Millions of instructions of `drive` outside copies."""
+    counts = instructions([drive], script)
+    return inside(counts, "PROGRAM TOTALS") - inside(counts, "memcpy|memmove")
 
 
 def stack(command, script):
@@ -49,14 +57,22 @@ def stack(command, script):
 for name in ["typical", "heavy"]:
     script = work + "/" + name
     print(name + ":", open(script + ".calls").read().strip())
-    whole = min(run([drive], script)[0] for _ in range(runs))
-    refused = min(run([drive], script + ".refused")[0] for _ in range(runs))
-    calls = min(rust(script) for _ in range(runs))
-    print("  seconds: Rattle, words in and out %.3f, the same with each call refused %.3f; Rust, its four calls alone %.3f" % (whole, refused, calls))
-    print("  ratio: at most %.2f (words in and out), at least %.2f (refused calls taken off)" % (whole / calls, (whole - refused) / calls))
-    mine, its = instructions([drive], script + ".short"), instructions(plain, script + ".short")
-    total, copied = inside(mine, "PROGRAM TOTALS"), inside(mine, "memcpy|memmove")
-    alone = sum(inside(its, f) for f in CALLS)
-    print("  a short script:", open(script + ".short.calls").read().strip())
-    print("  million instructions: Rattle %.1f and copies %.1f, a byte counted as one; Rust, its four calls alone %.1f" % (total - copied, copied, alone))
-    print("  stack: Rattle %d KiB, Rust %d KiB" % (stack([drive], script + ".short"), stack(plain, script + ".short")))
+    best = {}
+    for _ in range(runs):
+        for what, seconds in [
+            ("whole", run([drive], script)[0]),
+            ("words", run([drive], script + ".words")[0]),
+            ("rust", rust(script)),
+        ]:
+            best[what] = min(best.get(what, seconds), seconds)
+    calls = best["whole"] - best["words"]
+    print("  seconds: Rattle %.3f, of it words in %.3f, calls and words out %.3f; Rust, its four calls alone %.3f" % (best["whole"], best["words"], calls, best["rust"]))
+    print("  ratio of the calls: %.2f" % (calls / best["rust"]))
+    short = script + ".short"
+    print("  a short script:", open(short + ".calls").read().strip())
+    alone = sum(inside(instructions(plain, short), f) for f in CALLS)
+    mine = outside_copies(short) - outside_copies(short + ".words")
+    print("  million instructions: Rattle, calls and words out, without copies %.1f; Rust, its four calls alone %.1f" % (mine, alone))
+    copies, largest = run([drive], short, loaded=work + "/copies.so")[1].split("\n")[-2].split()
+    print("  copies of the station: %s, the largest %s bytes, the size of a station" % (copies, largest))
+    print("  stack: Rattle %d KiB, Rust %d KiB" % (stack([drive], short), stack(plain, short)))

@@ -55,6 +55,16 @@ pub fn ends(w: u32, c: Control) -> bool {
     is_end(w) & (c.open != 0)
 }
 
+// The word ends the words of a reception.
+pub fn ends_burst(w: u32, c: Control) -> bool {
+    is_end(w) & (c.open == 2)
+}
+
+// The word ends the words of a clock or a level, which ask nothing of the station.
+pub fn ends_setting(w: u32, c: Control) -> bool {
+    is_end(w) & ((c.open == 9) | (c.open == 10))
+}
+
 // The bits of a command above its four: the count of a closing, the cell of a reading or a freeing.
 pub fn rest_of(w: u32) -> u32 {
     w / 16 % 16777216
@@ -104,23 +114,6 @@ pub fn action_of(w: u32, c: Control) -> Action {
             }
             Action::Bad
         }
-    }
-}
-
-// The action changes the station.
-pub fn is_entry(a: Action) -> bool {
-    match a {
-        Action::Next => true,
-        Action::Sent => true,
-        Action::Close => true,
-        Action::Free => true,
-        Action::Read => false,
-        Action::Roster => false,
-        Action::Push => false,
-        Action::Bad => false,
-        Action::Time => false,
-        Action::Level => false,
-        Action::Open(_) => false,
     }
 }
 

@@ -1,4 +1,4 @@
-// The commands: each takes the station, runs one entry point and prints its answer.
+// The commands: what they ask of the station, and what is printed of it.
 ghost use Prim.Native.Nat.{_≤_};
 use super::action;
 use super::action::Action;
@@ -30,31 +30,6 @@ fn least(a: usize, b: usize) -> usize
 }
 
 // ---- commands of one word
-
-// What the word w asks of the station.
-pub fn entry(s: Station, a: Action, w: u32, now: f64, out: &mut [u32; 8192]) -> Answered {
-    let rest = action::rest_of(w);
-    match a {
-        Action::Next => station::next(s, now, out),
-        Action::Sent => station::sent(s, now),
-        Action::Close => station::close(s, rest),
-        Action::Free => station::free(s, rest as usize),
-        Action::Read => nothing(s),
-        Action::Roster => nothing(s),
-        Action::Push => nothing(s),
-        Action::Bad => nothing(s),
-        Action::Time => nothing(s),
-        Action::Level => nothing(s),
-        Action::Open(_) => nothing(s),
-    }
-}
-
-fn nothing(s: Station) -> Answered {
-    Answered {
-        station: s,
-        answer: Answer::Words(0),
-    }
-}
 
 // A landed message.
 fn read(s: Station, c: Control, w: u32, lent: &[u8], t: &mut [u8; 65536]) -> Control {
@@ -117,91 +92,11 @@ fn flags_of(words: &[u32], command: u32) -> u32 {
     flags
 }
 
-fn heard_of(r: Answered) -> Heard {
-    let s = r.station;
-    let a = r.answer;
-    Heard {
-        station: s,
-        answer: a,
-        mask: 0,
-    }
-}
-
-fn malformed(s: Station) -> Heard {
-    Heard {
+fn malformed(s: Station) -> Answered {
+    Answered {
         station: s,
         answer: Answer::Refused(3),
-        mask: 0,
     }
-}
-
-fn admit(s: Station, words: &[u32], now: f64, out: &mut [u32; 8192]) -> Heard {
-    let flags = flags_of(words, 3);
-    if 255 < flags {
-        return malformed(s);
-    }
-    let b = words::five(words, 0, 0);
-    heard_of(station::admit(s, b, (flags % 256) as u8, now, out))
-}
-
-// A fresh start.
-fn start(s: Station, words: &[u32], lent: &[u8]) -> Heard {
-    let p = words::payload(words, 0, 182);
-    if (255 < flags_of(words, 8)) | given::has_nan(&p) {
-        return malformed(s);
-    }
-    let z = store_of(given::lent_cells(&p), lent.len());
-    heard_of(station::start(s, given::given(&p), &lent[..z]))
-}
-
-// The clock or the level from here on: nothing of the station, if the words are one frame with no NaN in it.
-fn set(s: Station, words: &[u32], command: u32) -> Heard {
-    let p = words::payload(words, 0, 8);
-    let nan = if command == 9 {
-        number::nan64_at(&p, 0)
-    } else {
-        number::nan32_at(&p, 0)
-    };
-    if (255 < flags_of(words, command)) | nan {
-        return malformed(s);
-    }
-    heard_of(nothing(s))
-}
-
-// Runs the open command over the words that were kept for it.
-pub fn finish(
-    s: Station,
-    c: Control,
-    words: &[u32],
-    lent: &mut [u8],
-    out: &mut [u32; 8192],
-) -> Heard {
-    let m = least(c.words, words.len());
-    let z = store_of(c.cells, lent.len());
-    let mine = &words[..m];
-    let open = c.open;
-    match open {
-        2 => station::receive(s, mine, c.level, c.now, &mut lent[..z], out),
-        3 => admit(s, mine, c.now, out),
-        8 => start(s, mine, lent),
-        _ => set(s, mine, open),
-    }
-}
-
-// What a command that was not refused leaves of its words: the cells lent, the clock, the level.
-fn kept(c: Control, words: &[u32]) -> Control {
-    let p = words::payload(words, 0, 255);
-    let mut k = c;
-    if c.open == 8 {
-        k.cells = given::lent_cells(&p);
-    }
-    if c.open == 9 {
-        k.now = number::f64_at(&p, 0);
-    }
-    if c.open == 10 {
-        k.level = number::f32_at(&p, 0);
-    }
-    k
 }
 
 fn closed(c: Control) -> Control {
@@ -211,10 +106,52 @@ fn closed(c: Control) -> Control {
     k
 }
 
-// The open command's answer printed, and the command closed.
-pub fn settled(
+// The clock or the level from here on, if the words are one frame with no NaN in it.
+fn set(c: Control, words: &[u32], t: &mut [u8; 65536]) -> Control {
+    let p = words::payload(words, 0, 8);
+    let clock = c.open == 9;
+    let nan = if clock {
+        number::nan64_at(&p, 0)
+    } else {
+        number::nan32_at(&p, 0)
+    };
+    if (255 < flags_of(words, c.open)) | nan {
+        return print::word(t, closed(c), 3);
+    }
+    let mut k = closed(c);
+    if clock {
+        k.now = number::f64_at(&p, 0);
+    } else {
+        k.level = number::f32_at(&p, 0);
+    }
+    k
+}
+
+// Runs the open command, if the word w ends it and it sets the clock or the level.
+pub fn setting(c: Control, w: u32, words: &[u32], t: &mut [u8; 65536]) -> Control {
+    if action::ends_setting(w, c) {
+        let m = least(c.words, words.len());
+        return set(c, &words[..m], t);
+    }
+    c
+}
+
+// A reception of the words that were kept for it.
+pub fn receive(
+    s: Station,
     c: Control,
     words: &[u32],
+    lent: &mut [u8],
+    out: &mut [u32; 8192],
+) -> Heard {
+    let m = least(c.words, words.len());
+    let z = store_of(c.cells, lent.len());
+    station::receive(s, &words[..m], c.level, c.now, &mut lent[..z], out)
+}
+
+// A reception's answer printed, and the command closed.
+pub fn heard(
+    c: Control,
     a: Answer,
     mask: u64,
     t: &mut [u8; 65536],
@@ -222,10 +159,68 @@ pub fn settled(
 ) -> Control {
     match a {
         Answer::Refused(n) => print::word(t, closed(c), n as u32),
+        Answer::Words(n) => print::heard(t, closed(c), out, n, mask),
+    }
+}
+
+fn admit(s: Station, words: &[u32], now: f64, out: &mut [u32; 8192]) -> Answered {
+    let flags = flags_of(words, 3);
+    if 255 < flags {
+        return malformed(s);
+    }
+    let b = words::five(words, 0, 0);
+    station::admit(s, b, (flags % 256) as u8, now, out)
+}
+
+// A fresh start.
+fn start(s: Station, words: &[u32], lent: &[u8]) -> Answered {
+    let p = words::payload(words, 0, 182);
+    if (255 < flags_of(words, 8)) | given::has_nan(&p) {
+        return malformed(s);
+    }
+    let z = store_of(given::lent_cells(&p), lent.len());
+    station::start(s, given::given(&p), &lent[..z])
+}
+
+// A direct admission or a start, of the words that were kept for it.
+pub fn finish(
+    s: Station,
+    c: Control,
+    words: &[u32],
+    lent: &[u8],
+    out: &mut [u32; 8192],
+) -> Answered {
+    let m = least(c.words, words.len());
+    let mine = &words[..m];
+    if c.open == 3 {
+        return admit(s, mine, c.now, out);
+    }
+    start(s, mine, lent)
+}
+
+// A start that was not refused: so many cells are lent from here on.
+fn kept(c: Control, words: &[u32]) -> Control {
+    let mut k = c;
+    if c.open == 8 {
+        let p = words::payload(words, 0, 255);
+        k.cells = given::lent_cells(&p);
+    }
+    k
+}
+
+// The answer to an admission or a start printed, and the command closed.
+pub fn settled(
+    c: Control,
+    words: &[u32],
+    a: Answer,
+    t: &mut [u8; 65536],
+    out: &[u32; 8192],
+) -> Control {
+    match a {
+        Answer::Refused(n) => print::word(t, closed(c), n as u32),
         Answer::Words(n) => {
             let k = kept(c, words);
-            let e = print::heard(t, k, out, n, mask);
-            closed(e)
+            print::all(t, closed(k), out, n)
         }
     }
 }

@@ -98,10 +98,10 @@ fn word_or_end(b: &[u8], i: usize, n: usize) -> u32 {
     0xe000_0000
 }
 
-// The first n words of b, and the end of all words where `last`.
+// The first n words of b, and the end of all words where `last`. Each entry point is called here, where the station is held: a call between would copy it.
 pub fn feed(
-    s: Station,
-    c: Control,
+    mut u: Station,
+    mut k: Control,
     b: &[u8],
     n: usize,
     last: bool,
@@ -110,21 +110,40 @@ pub fn feed(
     out: &mut [u32; 8192],
     t: &mut [u8; 65536],
 ) -> Ran {
-    let mut u = s;
-    let mut k = c;
     let end = end_of(b, n, last);
     let mut i: usize = 0;
     while i < end {
         let w = word_or_end(b, i, n);
-        if action::ends(w, k) {
+        k = command::setting(k, w, words, t);
+        if action::ends_burst(w, k) {
+            let r = command::receive(u, k, words, lent, out);
+            let h = r.answer;
+            u = r.station;
+            k = command::heard(k, h, r.mask, t, out);
+        } else if action::ends(w, k) {
             let r = command::finish(u, k, words, lent, out);
             let h = r.answer;
             u = r.station;
-            k = command::settled(k, words, h, r.mask, t, out);
+            k = command::settled(k, words, h, t, out);
         }
         let a = action::action_of(w, k);
-        if action::is_entry(a) {
-            let r = command::entry(u, a, w, k.now, out);
+        if let Action::Next = a {
+            let r = station::next(u, k.now, out);
+            let h = r.answer;
+            u = r.station;
+            k = print::answer(t, k, out, h);
+        } else if let Action::Sent = a {
+            let r = station::sent(u, k.now);
+            let h = r.answer;
+            u = r.station;
+            k = print::answer(t, k, out, h);
+        } else if let Action::Free = a {
+            let r = station::free(u, action::rest_of(w) as usize);
+            let h = r.answer;
+            u = r.station;
+            k = print::answer(t, k, out, h);
+        } else if let Action::Close = a {
+            let r = station::close(u, action::rest_of(w));
             let h = r.answer;
             u = r.station;
             k = print::answer(t, k, out, h);

@@ -15,7 +15,7 @@ pub fn word(t: &mut [u8; 65536], c: Control, w: u32) -> Control {
 }
 
 // The first n words.
-fn all(t: &mut [u8; 65536], c: Control, out: &[u32; 8192], n: usize) -> Control {
+pub fn all(t: &mut [u8; 65536], c: Control, out: &[u32; 8192], n: usize) -> Control {
     let mut k = c;
     let mut i: usize = 0;
     while i < 8192 {
@@ -46,10 +46,10 @@ fn mask_line(t: &mut [u8; 65536], c: Control, w: u64) -> Control {
     k
 }
 
-// The n words of a command, and after a reception in `drive` the mask.
+// The n words of a reception, and in `drive` the mask.
 pub fn heard(t: &mut [u8; 65536], c: Control, out: &[u32; 8192], n: usize, mask: u64) -> Control {
     let k = all(t, c, out, n);
-    if !c.drive | c.quiet | (c.open != 2) {
+    if !c.drive | c.quiet {
         return k;
     }
     let l = mask_line(t, k, mask / 4294967296);

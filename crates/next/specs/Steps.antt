@@ -181,16 +181,15 @@ pollList list slot = cond (eqb slot 255) list (withoutBit list slot)
 abbrev pub pollSource : Station → ℕ → ℕ
 pollSource s slot = cond (eqb slot 255) 63 (sourceFor s slot)
 
-abbrev pub pollWords : Station → ℕ → ℕ → List ℕ
-pollWords s slot source =
-    cond (eqb slot 255) [] (pollBurst (s .settings) (isMember (s .used) slot) (memberAt s slot) slot source false)
+abbrev pub pollWords : Settings → Bool → Member → ℕ → ℕ → List ℕ
+pollWords g here m slot source = cond (eqb slot 255) [] (pollBurst g here m slot source false)
 
 -- the poll of a slot, 255 for none
 abbrev pub pollSlot : Station → ℕ → Said
 pollSlot s slot =
     said
     (withTotals (withRound (withWait s (pollWait (s .wait) slot (pollSource s slot))) (withList (s .round) (pollList (s .round .list) slot))) (pollTotals (s .totals) slot))
-    (pollWords s slot (pollSource s slot))
+    (pollWords (s .settings) (isMember (s .used) slot) (memberAt s slot) slot (pollSource s slot))
 
 -- a poll, where nothing is being sent or waited for
 abbrev pub pollIf : Act → Station → Said

@@ -475,56 +475,43 @@ fn poll_list(list: u64, slot: u8) -> u64
     bits::without(list, slot as usize)
 }
 
-// The source whose traffic the polled slot is best placed to forward; 63 for none.
-fn source_for(s: Station, slot: u8) -> u8
-    ensures { λ r. ⌜ r ≡ pollSource s slot ⌝ }
-{
-    if slot == 255 {
-        return 63;
-    }
-    let v = reroute::survey(s);
-    relay::relay_src_for(
-        &s.hears,
-        v.needs,
-        v.able,
-        &v.tried,
-        slot,
-        s.settings.relaysnr,
-    )
-}
-
-fn put_poll(s: Station, slot: u8, relayfor: u8, o: &mut [u32], at: usize) -> usize
-    ensures { λ r. ⌜ Wrote (now (o .entry)) at (pollWords s slot relayfor) (now (o .exit)) r ⌝ }
+fn put_poll(
+    g: Settings,
+    here: bool,
+    m: Member,
+    slot: u8,
+    relayfor: u8,
+    o: &mut [u32],
+    at: usize,
+) -> usize
+    ensures { λ r. ⌜ Wrote (now (o .entry)) at (pollWords g here m slot relayfor) (now (o .exit)) r ⌝ }
 {
     if slot == 255 {
         return at;
     }
-    let g = s.settings;
-    let m = net::member_at(s, slot);
-    bursts::poll_burst(
-        g,
-        net::is_member(s.used, slot),
-        m,
-        slot,
-        relayfor,
-        false,
-        o,
-        at,
-    )
+    bursts::poll_burst(g, here, m, slot, relayfor, false, o, at)
 }
 
+// `source` is the one whose traffic the polled slot is best placed to forward; 63 for none.
 fn poll(mut s: Station, act: Act, o: &mut [u32], at: &mut usize) -> Station
     ensures { λ r. ⌜ Did (pollIf act s) r (now (o .entry)) (now (at .entry)) (now (o .exit)) (now (at .exit)) ⌝ }
 {
-    let x = s.wait;
-    let slot = front(x, s.round.list, act);
-    let source = source_for(s, slot);
-    *at = put_poll(s, slot, source, o, *at);
-    let y = poll_wait(x, slot, source);
-    s.wait = y;
-    let z = s.totals;
-    let p = poll_totals(z, slot);
-    s.totals = p;
+    let w = s.wait;
+    let g = s.settings;
+    let slot = front(w, s.round.list, act);
+    let mut source: u8 = 63;
+    if slot != 255 {
+        let v = reroute::survey(s);
+        source = relay::relay_src_for(&s.hears, v.needs, v.able, &v.tried, slot, g.relaysnr);
+    }
+    let i = net::index(slot);
+    let m = s.members[i];
+    *at = put_poll(g, net::is_member(s.used, slot), m, slot, source, o, *at);
+    let v = poll_wait(w, slot, source);
+    s.wait = v;
+    let t = s.totals;
+    let u = poll_totals(t, slot);
+    s.totals = u;
     let list = poll_list(s.round.list, slot);
     s.round.list = list;
     s

@@ -1,6 +1,7 @@
 -- Assumes nothing.
 use Prim.Native.Nat.{_-_}
 use native.Mathlib.Omega.{arith}
+use borrow.Author.Needs.{needs}
 use Rattle.driver.proofs.feed.Statement.{statement}
 use Rattle.driver.proofs.feed.Tie as tie
 
@@ -19,6 +20,18 @@ loop-holds c = tt
 word-or-end-requires : tie.Need-word-or-end-requires Inv-loop μ-loop
 word-or-end-requires c κs = tt
 
+setting-requires : tie.Need-setting-requires Inv-loop μ-loop
+setting-requires c κs = tt
+
+ends-burst-requires : tie.Need-ends-burst-requires Inv-loop μ-loop
+ends-burst-requires c κs = tt
+
+receive-requires : tie.Need-receive-requires Inv-loop μ-loop
+receive-requires c κs = tt
+
+heard-requires : tie.Need-heard-requires Inv-loop μ-loop
+heard-requires c κs = tt
+
 ends-requires : tie.Need-ends-requires Inv-loop μ-loop
 ends-requires c κs = tt
 
@@ -31,14 +44,50 @@ settled-requires c κs = tt
 action-of-requires : tie.Need-action-of-requires Inv-loop μ-loop
 action-of-requires c κs = tt
 
-is-entry-requires : tie.Need-is-entry-requires Inv-loop μ-loop
-is-entry-requires c κs = tt
+enum-told : tie.Need-enum-told Inv-loop μ-loop
+enum-told c = search needs
 
-entry-requires : tie.Need-entry-requires Inv-loop μ-loop
-entry-requires c κs = tt
+next-requires : tie.Need-next-requires Inv-loop μ-loop
+next-requires c κs = tt
 
 answer-requires : tie.Need-answer-requires Inv-loop μ-loop
 answer-requires c κs = tt
+
+enum-told-2 : tie.Need-enum-told-2 Inv-loop μ-loop
+enum-told-2 c = search needs
+
+sent-requires : tie.Need-sent-requires Inv-loop μ-loop
+sent-requires c κs = tt
+
+answer-requires-2 : tie.Need-answer-requires-2 Inv-loop μ-loop
+answer-requires-2 c κs = tt
+
+enum-told-3 : tie.Need-enum-told-3 Inv-loop μ-loop
+enum-told-3 c = search needs
+
+rest-of-requires : tie.Need-rest-of-requires Inv-loop μ-loop
+rest-of-requires c κs = tt
+
+cast-free : tie.Need-cast-free Inv-loop μ-loop
+cast-free c = search needs
+
+free-requires : tie.Need-free-requires Inv-loop μ-loop
+free-requires c κs = tt
+
+answer-requires-3 : tie.Need-answer-requires-3 Inv-loop μ-loop
+answer-requires-3 c κs = tt
+
+enum-told-4 : tie.Need-enum-told-4 Inv-loop μ-loop
+enum-told-4 c = search needs
+
+rest-of-requires-2 : tie.Need-rest-of-requires-2 Inv-loop μ-loop
+rest-of-requires-2 c κs = tt
+
+close-requires : tie.Need-close-requires Inv-loop μ-loop
+close-requires c κs = tt
+
+answer-requires-4 : tie.Need-answer-requires-4 Inv-loop μ-loop
+answer-requires-4 c κs = tt
 
 is-shown-requires : tie.Need-is-shown-requires Inv-loop μ-loop
 is-shown-requires c κs = tt
@@ -70,13 +119,29 @@ feed-spec =
     end-of-requires
     loop-holds
     word-or-end-requires
+    setting-requires
+    ends-burst-requires
+    receive-requires
+    heard-requires
     ends-requires
     finish-requires
     settled-requires
     action-of-requires
-    is-entry-requires
-    entry-requires
+    enum-told
+    next-requires
     answer-requires
+    enum-told-2
+    sent-requires
+    answer-requires-2
+    enum-told-3
+    rest-of-requires
+    cast-free
+    free-requires
+    answer-requires-3
+    enum-told-4
+    rest-of-requires-2
+    close-requires
+    answer-requires-4
     is-shown-requires
     shown-requires
     aside-requires

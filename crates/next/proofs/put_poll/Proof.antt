@@ -8,12 +8,6 @@ use Rattle.next.proofs.put_poll.Tie as tie
 returns : tie.Need-returns
 returns c = rw (eq-eqb _ _ (c .if1 .taken)) (wrote-none _ _)
 
-member-at-requires : tie.Need-member-at-requires
-member-at-requires c κs = search needs
-
-is-member-requires : tie.Need-is-member-requires
-is-member-requires c κs = search needs
-
 poll-burst-requires : tie.Need-poll-burst-requires
 poll-burst-requires c κs = search needs
 
@@ -21,15 +15,7 @@ same-length : tie.Need-same-length
 same-length c = search needs
 
 returns-2 : tie.Need-returns-2
-returns-2 c = rw (ne-eqb _ _ (c .before .before .before .before .before .before .before .if1 .left), ← c .before .before .before .before .is-member .ensures, ← c .before .before .before .before .before .member-at .ensures) (c .before .before .poll-burst .ensures)
+returns-2 c = rw (ne-eqb _ _ (c .before .before .before .before .if1 .left)) (c .before .before .poll-burst .ensures)
 
 pub put-poll-spec : {M : Type 1} → statement M
-put-poll-spec =
-    tie.close
-    (tie.spec
-    returns
-    member-at-requires
-    is-member-requires
-    poll-burst-requires
-    same-length
-    returns-2)
+put-poll-spec = tie.close (tie.spec returns poll-burst-requires same-length returns-2)

@@ -35,9 +35,6 @@ slice-aggregate-start c = sym (length-take-le _ _ (search needs))
 start-requires : tie.Need-start-requires
 start-requires c κs = search needs
 
-heard-of-requires : tie.Need-heard-of-requires
-heard-of-requires c κs = search needs
-
 returns-2 : tie.Need-returns-2
 returns-2 c = search needs
 
@@ -55,5 +52,4 @@ start-spec =
     given-requires
     slice-aggregate-start
     start-requires
-    heard-of-requires
     returns-2)

@@ -1,0 +1,33 @@
+/* Loaded before a program: how many copies of 10,000 bytes and more it makes, and the size of the largest, on standard error at its end. */
+#include <stddef.h>
+#include <stdio.h>
+
+static unsigned long copies, largest;
+
+void *memmove(void *to, const void *from, size_t n)
+{
+    char *t = to;
+    const char *f = from;
+    if (n >= 10000) {
+        copies++;
+        if (n > largest)
+            largest = n;
+    }
+    if ((size_t)(t - f) >= n)
+        for (size_t i = 0; i < n; i++)
+            t[i] = f[i];
+    else
+        while (n--)
+            t[n] = f[n];
+    return to;
+}
+
+void *memcpy(void *to, const void *from, size_t n)
+{
+    return memmove(to, from, n);
+}
+
+__attribute__((destructor)) static void told(void)
+{
+    fprintf(stderr, "%lu %lu\n", copies, largest);
+}
