@@ -485,7 +485,7 @@ pub record Lands (body : List ℕ) (ps : List Piece) (h : Held) : Type 0 where
   pub says : landed h ≡ true → announced (h .bytes) ≡ length body
   pub bytes : landed h ≡ true → take (length body) (drop 2 (h .bytes)) ≡ body
 
-module _ (body : List ℕ) (ps : List Piece) (h : Held) (p : Prefix (framed body) ps h) where
+module _ (body : List ℕ) (small : length body ≤ 2046) (ps : List Piece) (h : Held) (p : Prefix (framed body) ps h) where
   at : (i : ℕ) → i < h .cell .joined → getD (h .bytes) i 0 ≡ getD (framed body) i 0
   at i a =
       sym (getD-take (h .cell .joined) (h .bytes) i 0 a)
@@ -513,8 +513,8 @@ module _ (body : List ℕ) (ps : List Piece) (h : Held) (p : Prefix (framed body
       ∙ at (2 + i) (omega arith)
       ∙ ap (λ (x : ℕ). getD (framed body) x 0) q
 
-  lands-of : 2048 ≤ length (h .bytes) → length body ≤ 2046 → Lands body ps h
-  lands-of room small =
+  lands-of : 2048 ≤ length (h .bytes) → Lands body ps h
+  lands-of room =
       record {
         whole = λ e i a. let w = whole-of e in p .below i (omega arith);
         lands = λ all.
@@ -534,4 +534,4 @@ pub lands-exactly : (body bs : List ℕ) (ps : List Piece) → length body ≤ 2
     → Lands body ps (accept-all (empty bs) ps)
 lands-exactly body bs ps small room kept =
     let p = joined-is (framed body) bs ps (omega arith) room kept in
-    lands-of body ps (accept-all (empty bs) ps) p (omega (arith, p .room)) small
+    lands-of body small ps (accept-all (empty bs) ps) p (omega (arith, p .room))

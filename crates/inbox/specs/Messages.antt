@@ -67,4 +67,4 @@ landed h = leb 2 (h .cell .joined) && leb (2 + announced (h .bytes)) (h .cell .j
 
 -- a message as it is sent: its length in two bytes, lowest first, and its bytes
 abbrev pub framed : List ℕ → List ℕ
-framed body = length body % 256 ∷ length body / 256 ∷ body
+framed body = length body % 256 ∷ length body / 256 % 256 ∷ body

@@ -31,8 +31,7 @@ use Rattle.frames.specs.Frames.{readFrame, frameStep, readFrames}
 use Rattle.rx.specs.Ending.{replyEnd}
 use Rattle.rx.specs.Reception.{ncsRx}
 use Rattle.station.specs.Entries.{admitRefusal, admitOf, receiveRefusal, receiveOf, cellRefusal, freeOf}
-use Rattle.promise.specs.Calls.{handed, Call, reception, freeing, Net, net, outcome, step, after}
-use Rattle.promise.specs.Book.{Book, cover, alsoHanded, allBelow, bookFrame, bookFrames, eventsIn, answersOf, outOf, CallOk}
+use Rattle.promise.specs.Promise.{handed, Net, net, Call, freeing, result, inBook, step, after, Book, cover, alsoHanded, allBelow, bookFrame, bookFrames, eventsIn, answersOf, bookCall, CallOk}
 use Rattle.promise.proofs.Ledgers.{of-all}
 use Rattle.promise.proofs.Runs.{nought, joins, hears, all-empty, whole, apart, near}
 
@@ -65,23 +64,23 @@ having g k =
     (0 ∷ 0 ∷ replicate 19198 7)
 
 to-15 : (g : Settings) → after (joins ∷ filled 15 1) (three-cells g) ≡ having g 15
-unfolding having admitOf admitRefusal seatOf findCall leadsTo unpacked digit char trimStart trimEnd filled step after outcome newStation first lowestFree hasBit withBit withoutBit receiveOf receiveRefusal parse headOk framesOf itemAt frameOf payload unpack payloadOk wordOk pack framesWords ncsRx readFrames frameStep readFrame pieceFrame replyEnd isMember accept widened widenedAt ownCell putOf cells.accept settle grow seek next slideOf markOf stop cellRefusal freeOf
+unfolding having admitOf admitRefusal seatOf findCall leadsTo unpacked digit char trimStart trimEnd filled step after result newStation first lowestFree hasBit withBit withoutBit receiveOf receiveRefusal parse headOk framesOf itemAt frameOf payload unpack payloadOk wordOk pack framesWords ncsRx readFrames frameStep readFrame pieceFrame replyEnd isMember accept widened widenedAt ownCell putOf cells.accept settle grow seek next slideOf markOf stop cellRefusal freeOf
 to-15 g = refl
 
 to-43 : (g : Settings) → after (filled 28 16) (having g 15) ≡ having g 43
-unfolding having filled step after outcome newStation first lowestFree hasBit withBit withoutBit receiveOf receiveRefusal parse headOk framesOf itemAt frameOf payload unpack payloadOk wordOk pack framesWords ncsRx readFrames frameStep readFrame pieceFrame replyEnd isMember accept widened widenedAt ownCell putOf cells.accept settle grow seek next slideOf markOf stop cellRefusal freeOf
+unfolding having filled step after result newStation first lowestFree hasBit withBit withoutBit receiveOf receiveRefusal parse headOk framesOf itemAt frameOf payload unpack payloadOk wordOk pack framesWords ncsRx readFrames frameStep readFrame pieceFrame replyEnd isMember accept widened widenedAt ownCell putOf cells.accept settle grow seek next slideOf markOf stop cellRefusal freeOf
 to-43 g = refl
 
 to-71 : (g : Settings) → after (filled 28 44) (having g 43) ≡ having g 71
-unfolding having filled step after outcome newStation first lowestFree hasBit withBit withoutBit receiveOf receiveRefusal parse headOk framesOf itemAt frameOf payload unpack payloadOk wordOk pack framesWords ncsRx readFrames frameStep readFrame pieceFrame replyEnd isMember accept widened widenedAt ownCell putOf cells.accept settle grow seek next slideOf markOf stop cellRefusal freeOf
+unfolding having filled step after result newStation first lowestFree hasBit withBit withoutBit receiveOf receiveRefusal parse headOk framesOf itemAt frameOf payload unpack payloadOk wordOk pack framesWords ncsRx readFrames frameStep readFrame pieceFrame replyEnd isMember accept widened widenedAt ownCell putOf cells.accept settle grow seek next slideOf markOf stop cellRefusal freeOf
 to-71 g = refl
 
 to-99 : (g : Settings) → after (filled 28 72) (having g 71) ≡ having g 99
-unfolding having filled step after outcome newStation first lowestFree hasBit withBit withoutBit receiveOf receiveRefusal parse headOk framesOf itemAt frameOf payload unpack payloadOk wordOk pack framesWords ncsRx readFrames frameStep readFrame pieceFrame replyEnd isMember accept widened widenedAt ownCell putOf cells.accept settle grow seek next slideOf markOf stop cellRefusal freeOf
+unfolding having filled step after result newStation first lowestFree hasBit withBit withoutBit receiveOf receiveRefusal parse headOk framesOf itemAt frameOf payload unpack payloadOk wordOk pack framesWords ncsRx readFrames frameStep readFrame pieceFrame replyEnd isMember accept widened widenedAt ownCell putOf cells.accept settle grow seek next slideOf markOf stop cellRefusal freeOf
 to-99 g = refl
 
 to-127 : (g : Settings) → after (filled 28 100) (having g 99) ≡ having g 127
-unfolding having filled step after outcome newStation first lowestFree hasBit withBit withoutBit receiveOf receiveRefusal parse headOk framesOf itemAt frameOf payload unpack payloadOk wordOk pack framesWords ncsRx readFrames frameStep readFrame pieceFrame replyEnd isMember accept widened widenedAt ownCell putOf cells.accept settle grow seek next slideOf markOf stop cellRefusal freeOf
+unfolding having filled step after result newStation first lowestFree hasBit withBit withoutBit receiveOf receiveRefusal parse headOk framesOf itemAt frameOf payload unpack payloadOk wordOk pack framesWords ncsRx readFrames frameStep readFrame pieceFrame replyEnd isMember accept widened widenedAt ownCell putOf cells.accept settle grow seek next slideOf markOf stop cellRefusal freeOf
 to-127 g = refl
 
 after-both : (cs ds : List Call) (n : Net) → after (cs ++ ds) n ≡ after ds (after cs n)
@@ -120,11 +119,11 @@ alike = hears (whole 0 ∷ whole 128 ∷ whole 256 ∷ []) (0 ∷ 128 ∷ 256 �
 pub record AlikeRun (g : Settings) : Type 0 where
   pub events : answersOf alike (having g 127) .events
       ≡ record { slot = 0; cell = 0; number = 0 } ∷ record { slot = 0; cell = 1; number = 128 } ∷ record { slot = 0; cell = 2; number = 0 } ∷ []
-  pub book : outOf all-empty alike (answersOf alike (having g 127)) late-book
+  pub book : bookCall all-empty alike (having g 127) late-book .out
       ≡ record { slot = 0; number = 0 } ∷ record { slot = 0; number = 128 } ∷ record { slot = 0; number = 256 } ∷ []
 
 pub alike-run : (g : Settings) → AlikeRun g
-unfolding having outcome newStation first lowestFree hasBit withBit receiveOf receiveRefusal parse headOk framesOf itemAt frameOf payload unpack payloadOk wordOk pack framesWords ncsRx readFrames frameStep readFrame pieceFrame replyEnd isMember accept widened widenedAt ownCell putOf cells.accept settle grow seek next slideOf markOf stop eventsIn bookFrames bookFrame cover alsoHanded allBelow
+unfolding having result newStation first lowestFree hasBit withBit receiveOf receiveRefusal parse headOk framesOf itemAt frameOf payload unpack payloadOk wordOk pack framesWords ncsRx readFrames frameStep readFrame pieceFrame replyEnd isMember accept widened widenedAt ownCell putOf cells.accept settle grow seek next slideOf markOf stop eventsIn bookFrames bookFrame cover alsoHanded allBelow
 alike-run g = record { events = refl; book = refl }
 
 -- so it is after those calls
@@ -142,8 +141,8 @@ below f m n a b = ⊎-elim (λ l. l) (λ l. absurd (apart (sym b ∙ of-all m f 
 reach : (k n : ℕ) → (k < n → ⊥) → k ≤ n + 127 → (n ≤ k + 128) × (k ≤ n + 127)
 reach k n z a = (⊎-elim (λ b. omega arith) (λ b. absurd (z b)) (le-or-lt n k), a)
 
-pub alike-ok : (g : Settings) → CallOk all-empty alike (answersOf alike (having g 127)) late-book
-unfolding having outcome newStation first lowestFree hasBit withBit receiveOf receiveRefusal parse headOk framesOf itemAt frameOf payload unpack payloadOk wordOk pack framesWords ncsRx readFrames frameStep readFrame pieceFrame replyEnd isMember accept widened widenedAt ownCell putOf cells.accept settle grow seek next slideOf markOf stop eventsIn bookFrames bookFrame cover alsoHanded allBelow
+pub alike-ok : (g : Settings) → CallOk all-empty (inBook alike) (answersOf alike (having g 127)) late-book
+unfolding having result newStation first lowestFree hasBit withBit receiveOf receiveRefusal parse headOk framesOf itemAt frameOf payload unpack payloadOk wordOk pack framesWords ncsRx readFrames frameStep readFrame pieceFrame replyEnd isMember accept widened widenedAt ownCell putOf cells.accept settle grow seek next slideOf markOf stop eventsIn bookFrames bookFrame cover alsoHanded allBelow
 alike-ok g = (
   tt,
   (λ r. (

@@ -1,6 +1,8 @@
--- Relays of relays arise: three boats admitted directly, each with the one before for its relay. Definitions run. Assumes nothing.
+-- Relays of relays arise: three boats admitted directly, each with the one before for its relay, and two steps lead from the last, not one. Definitions run.
+-- Assumes nothing.
 use mathlib.Core.Path.{_≡_, refl}
 use Prim.Native.Nat.{ℕ}
+use mathlib.Core.Bool.{true, false}
 use mathlib.Core.List.{List, [], _∷_}
 use lib.Ieee.{ofBits}
 use Rattle.level.specs.Consts.{nought}
@@ -12,8 +14,7 @@ use Rattle.station.specs.Entries.{admitOf, admitRefusal}
 use Rattle.net.specs.declared.Station.{Station}
 use Rattle.net.specs.declared.Settings.{Settings}
 use Rattle.net.specs.Net.{isMember, newStation}
-use Rattle.promise.specs.Calls.{Call, admission, after, net, step, outcome}
-use Rattle.promise.specs.Links.{root, via, link}
+use Rattle.promise.specs.Promise.{net, Call, admission, result, step, after, leads}
 
 abbrev pub three : List Call
 three =
@@ -25,6 +26,6 @@ three =
 abbrev pub line : Settings → List ℕ → Station
 line g store = after three (net (newStation g 1) store) .station
 
-pub chain : (g : Settings) (store : List ℕ) → (link (line g store) 2 ≡ via 1) × (link (line g store) 1 ≡ via 0) × (link (line g store) 0 ≡ root)
-unfolding after step outcome newStation admitOf admitRefusal isMember hasBit withBit seatOf findCall first lowestFree leadsTo digit char trimStart trimEnd unpacked shifted ofBits
-chain g store = (refl, refl, refl)
+pub chain : (g : Settings) (store : List ℕ) → (leads (line g store) 2 2 ≡ true) × (leads (line g store) 1 2 ≡ false)
+unfolding leads after step result newStation admitOf admitRefusal isMember hasBit withBit seatOf findCall first lowestFree leadsTo digit char trimStart trimEnd unpacked shifted ofBits
+chain g store = (refl, refl)

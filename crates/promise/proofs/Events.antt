@@ -7,7 +7,7 @@ use native.Mathlib.Omega.{arith}
 use lib.Dec.{eqb}
 use borrow.Author.Tests.{eq-eqb, ne-eqb}
 use Rattle.out.specs.Encode.{eventWord, messageWord, missedWord, headWord, waveWord}
-use Rattle.promise.specs.Book.{Event, eventOf, eventsIn}
+use Rattle.promise.specs.Promise.{Event2, eventOf, eventsIn}
 
 pub events-none : eventsIn [] ≡ []
 unfolding eventsIn
@@ -28,11 +28,11 @@ events-append (w ∷ a) b = at (eqb (w / 268435456) 2) (events-append a b)
   where
     at : (t : Bool) → eventsIn (a ++ b) ≡ eventsIn a ++ eventsIn b
         → cond t (eventOf w ∷ eventsIn (a ++ b)) (eventsIn (a ++ b)) ≡ cond t (eventOf w ∷ eventsIn a) (eventsIn a) ++ eventsIn b
-    at true q = ap (λ (l : List Event). eventOf w ∷ l) q
+    at true q = ap (λ (l : List Event2). eventOf w ∷ l) q
     at false q = q
 
-pub append-quiet : (a b : List ℕ) (es : List Event) → eventsIn a ≡ es → eventsIn b ≡ [] → eventsIn (a ++ b) ≡ es ++ []
-append-quiet a b es p q = events-append a b ∙ ap (λ (l : List Event). l ++ eventsIn b) p ∙ ap (λ (l : List Event). es ++ l) q
+pub append-quiet : (a b : List ℕ) (es : List Event2) → eventsIn a ≡ es → eventsIn b ≡ [] → eventsIn (a ++ b) ≡ es ++ []
+append-quiet a b es p q = events-append a b ∙ ap (λ (l : List Event2). l ++ eventsIn b) p ∙ ap (λ (l : List Event2). es ++ l) q
 
 -- the words that are none
 pub checkin-word : (slot via : ℕ) (ws : List ℕ) → eventsIn (eventWord 1 slot via ∷ ws) ≡ eventsIn ws

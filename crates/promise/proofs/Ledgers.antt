@@ -3,7 +3,7 @@ use mathlib.Core.Path.{_≡_, refl, sym, ap, _∙_, subst}
 use mathlib.Core.Bool.{Bool, true, false, cond, _&&_}
 use mathlib.Core.List.{List}
 use mathlib.Core.Logic.{_⊎_, inr, ⊎-elim}
-use Prim.Native.Nat.{ℕ, zero, suc, _+_, _-_, _≤_, _<_, zero-le}
+use Prim.Native.Nat.{ℕ, zero, suc, _+_, _≤_, _<_, zero-le}
 use native.Mathlib.Omega.{arith}
 use lib.ListN.{length, getD, take, drop, length-drop, getD-replicate}
 use lib.Seq.{getD-take, getD-drop, length-take-le, ext-getD}
@@ -18,7 +18,7 @@ use Rattle.inbox.specs.Messages.{empty, announced, landed, framed, Cut}
 use Rattle.inbox.specs.Stores.{bodySize, bodyOf}
 use Rattle.inbox.proofs.Joined.{AtPlace, Inv, More, accept-inv}
 use Rattle.inbox.proofs.Rule.{needless-same, kept-room}
-use Rattle.promise.specs.Book.{same, inside, cover, alsoHanded, allBelow}
+use Rattle.promise.specs.Promise.{same, inside, cover, alsoHanded, allBelow}
 
 -- ---- a test of every number below n
 
@@ -97,7 +97,7 @@ module _ (body : List ℕ) (f : ℕ → Bool) (h : Held) (v : Inv (framed body) 
       (v .0 .all (h .cell .joined) c)
 
   says-of : 2 ≤ h .cell .joined → announced (h .bytes) ≡ length body
-  says-of a = let b₀ = v .0 .same 0 (omega arith) in let b₁ = v .0 .same 1 (omega arith) in omega arith
+  says-of a = let m = v .0 .small in let b₀ = v .0 .same 0 (omega arith) in let b₁ = v .0 .same 1 (omega arith) in omega arith
 
   whole-of : landed h ≡ true → h .cell .joined ≡ 2 + length body
   whole-of e =

@@ -23,8 +23,7 @@ use Rattle.admit.specs.Admission.{seatOf, slotOf, isFull, leadsTo, viaFor}
 use Rattle.config.specs.declared.Given.{Given}
 use Rattle.config.specs.Checks.{settingsOf}
 use Rattle.station.specs.Entries.{Outcome, done, refused, unless, check1, checkRelay, startRefusal, startOf, admitRefusal, admitOf, receiveBy, receiveRefusal, receiveOf, nextRefusal, nextOf, sentOf, closeRefusal, closeOf, readRefusal, cellRefusal, freeOf}
-use Rattle.promise.specs.Calls.{Call, admission, reception, decision, sending, closing, reading, freeing, Net, lentTo, outcome, step, after, started}
-use Rattle.promise.specs.Links.{LinksHold}
+use Rattle.promise.specs.Promise.{lentTo, Net, Call, admission, reception, decision, sending, closing, reading, freeing, result, outcome, step, after, started, LinksHold}
 use Rattle.promise.proofs.Rosters.{Keeps, RelayOk, kept-none, kept-holds}
 use Rattle.promise.proofs.LinksNext.{next-kept}
 use Rattle.promise.proofs.LinksRx.{admit-kept, rx-kept}
@@ -99,7 +98,7 @@ unfolding freeOf
 freeing-kept s cell k = unless-kept (cellRefusal (s .count) (s .landed) cell) s [] _ k (λ _. k)
 
 call-kept : (c : Call) (n : Net) → Keeps (n .station) → KeepsOutcome (outcome c n)
-unfolding outcome
+unfolding result
 call-kept (admission packed relay now room) n k = admission-kept (n .station) packed relay now room k
 call-kept (reception words snr now lent room numbers) n k = reception-kept (n .station) words snr now (lentTo lent (n .store)) room k
 call-kept (decision now room) n k = decision-kept (n .station) now room k

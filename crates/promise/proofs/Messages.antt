@@ -38,8 +38,7 @@ use Rattle.rx.specs.Reception.{Received, airOf, firstReading, receivedOf, ncsRx
 use Rattle.config.specs.declared.Given.{Given}
 use Rattle.config.specs.Checks.{settingsOk, settingsOf}
 use Rattle.station.specs.Entries.{Outcome, refused, done, receivedAs, receiveBy, receiveRefusal, receiveOf, admitRefusal, admitOf, nextRefusal, nextOf, sentOf, check1, closeRefusal, closeOf, startRefusal, startOf, cellRefusal, check22, readRefusal, readingOf, freeOf}
-use Rattle.promise.specs.Calls.{Lent, handed, another, Call, admission, reception, decision, sending, closing, reading, freeing, Net, net, lentTo, outcome, isRefused, storeAfter, step, started}
-use Rattle.promise.specs.Book.{Sent, Message, Ledger, Book, emptyBook, Handed, Event, answersOf, seenBy, framesBy, bookFrames, bookDone, bookCall, outDone, outOf, enter, enterAll, eventsIn, FramesOk, LentOk, CallOk, CallsOk, Paired, Once, ReadsAs, At, Holds, handedIn, MessagesKept}
+use Rattle.promise.specs.Promise.{Lent, handed, another, lentTo, Net, net, ofBurst, Call, admission, reception, decision, sending, closing, reading, freeing, result, inBook, outcome, isRefused, step, started, Sent, Message, Ledger, Book, emptyBook, Entered, unchanged, bookFrames, framesBy, Event2, eventsIn, enter, enterAll, answersOf, bookDone, bookCall, FramesOk, LentOk, CallOk, CallsOk, Once, Paired, ReadsAs, AtCall, Holds, handedIn, Messages}
 use Rattle.promise.proofs.Ledgers.{none-below}
 use Rattle.promise.proofs.Ties.{View, Use, Vacant, Comes, useOf, useAt, heldAt, FineAt, entryOf, Tie, not-vacant, not-whole, use-vacant}
 use Rattle.promise.proofs.Quiet.{windowIn, Keeps, kept-self, viewOf, kept-view}
@@ -117,41 +116,39 @@ started-tied M s g store e =
 -- ---- calls that leave every message alone
 
 pub record CallGood (M : Sent) (c : Call) (n : Net) (b : Book) : Type 0 where
-  pub tied : Tied M (step c n) (bookCall M c (answersOf c n) b)
-  pub at : At M c n b
-  pub once : Once (outOf M c (answersOf c n) b) (b .ledger .handed)
-  pub after : bookCall M c (answersOf c n) b .ledger .handed ≡ allHanded (outOf M c (answersOf c n) b) (b .ledger .handed)
+  pub tied : Tied M (step c n) (bookCall M c n b .left)
+  pub at : AtCall M (inBook c) (answersOf c n .events) (bookCall M c n b .out) n b
+  pub once : Once (bookCall M c n b .out) (b .ledger .handed)
+  pub after : bookCall M c n b .left .ledger .handed ≡ allHanded (bookCall M c n b .out) (b .ledger .handed)
 
 pub same-cond : {A : Type 0} (t : Bool) (x y : A) → x ≡ y → cond t x y ≡ x
 same-cond true x y q = refl
 same-cond false x y q = sym q
 
 module _ (M : Sent) (c : Call) (n : Net) (b : Book) (tied : Tied M n b) (keeps : Keeps (n .station) (outcome c n .station))
-    (store : storeAfter c n ≡ n .store) (book : bookDone M c (answersOf c n) b ≡ b) (out : outDone M c (answersOf c n) b ≡ []) (at : At M c n b) where
+    (store : result c n .store ≡ n .store) (book : bookDone M (inBook c) (answersOf c n) b ≡ unchanged b)
+    (at : AtCall M (inBook c) (answersOf c n .events) (bookCall M c n b .out) n b) where
   step-view : viewOf (step c n .station) (step c n .store) ≡ viewOf (n .station) (n .store)
   unfolding step
   step-view =
-      ap (viewOf (outcome c n .station)) (same-cond (isRefused c n) (n .store) (storeAfter c n) (sym store))
+      ap (viewOf (outcome c n .station)) (same-cond (isRefused c n) (n .store) (result c n .store) (sym store))
       ∙ kept-view (n .station) (outcome c n .station) (n .store) keeps
 
   step-long : length (step c n .station .members) ≡ 62
   unfolding step
   step-long = keeps .long ∙ tied .long
 
-  same-book : bookCall M c (answersOf c n) b ≡ b
-  same-book = same-cond (isRefused c n) b (bookDone M c (answersOf c n) b) (sym book)
-
-  no-out : outOf M c (answersOf c n) b ≡ []
-  no-out = same-cond (isRefused c n) [] (outDone M c (answersOf c n) b) (sym out)
+  same-book : bookCall M c n b ≡ unchanged b
+  same-book = same-cond (isRefused c n) (unchanged b) (bookDone M (inBook c) (answersOf c n) b) (sym book)
 
   quiet-call : CallGood M c n b
   quiet-call =
       record {
-        tied = subst (λ (k : Book). Tied M (step c n) k) (sym same-book)
+        tied = subst (λ (k : Entered Book). Tied M (step c n) (k .left)) (sym same-book)
             (record { tie = subst (λ (v : View). Tie M v (b .ledger) (b .entry)) (sym step-view) (tied .tie); long = step-long });
         at = at;
-        once = subst (λ (ms : List Message). Once ms (b .ledger .handed)) (sym no-out) tt;
-        after = ap (λ (k : Book). k .ledger .handed) same-book ∙ sym (ap (λ (ms : List Message). allHanded ms (b .ledger .handed)) no-out);
+        once = subst (λ (k : Entered Book). Once (k .out) (b .ledger .handed)) (sym same-book) tt;
+        after = subst (λ (k : Entered Book). k .left .ledger .handed ≡ allHanded (k .out) (b .ledger .handed)) (sym same-book) refl;
       }
 
 abbrev pub KeepsOutcome : Station → Outcome → Type 0
@@ -218,7 +215,7 @@ module _ (M : Sent) (n : Net) (b : Book) (tied : Tied M n b) (cell : ℕ) where
       (reads-by a busy-bit landed-bit refl refl (tied .tie .cells cell a))
 
 pub reading-kept : (c : ℕ) (lent : Lent) (n : Net) → KeepsOutcome (n .station) (outcome (reading c lent) n)
-unfolding outcome
+unfolding result
 reading-kept c lent n =
     cond-keeps (KeepsOutcome (n .station)) (eqb (readRefusal (length (lentTo lent (n .store))) (n .station .count) (n .station .landed) c) 0) _ _
     (λ _. kept-self (n .station)) (λ _. kept-self (n .station))
@@ -274,8 +271,11 @@ module _ (M : Sent) (n : Net) (b : Book) (tied : Tied M n b) (cell : ℕ) where
   abbrev freedBook : Book
   freedBook = record { ledger = b .ledger; entry = enter cell none (b .entry) }
 
+  abbrev freedBy : Bool → Entered Book
+  freedBy t = cond t (unchanged b) (unchanged freedBook)
+
   abbrev FreeGood : Outcome → Type 0
-  FreeGood o = Tied M (net (o .station) (n .store)) (cond (refusedBy o) b freedBook)
+  FreeGood o = Tied M (net (o .station) (n .store)) (freedBy (refusedBy o) .left)
 
   landed-of : cellRefusal (n .station .count) (n .station .landed) cell ≡ 0 → hasBit (n .station .landed) cell ≡ true
   unfolding cellRefusal
@@ -291,40 +291,44 @@ module _ (M : Sent) (n : Net) (b : Book) (tied : Tied M n b) (cell : ℕ) where
   free-good =
       cond-keeps FreeGood (eqb (cellRefusal (n .station .count) (n .station .landed) cell) 0) _ _
       (λ q. record { tie = freed-tie M n b tied cell (landed-of (eqb-true _ 0 q)); long = tied .long })
-      (λ q. subst (λ (t : Bool). Tied M (net (n .station) (n .store)) (cond (cond t false true) b freedBook)) (sym q) tied)
+      (λ q. subst (λ (t : Bool). Tied M (net (n .station) (n .store)) (freedBy (cond t false true) .left)) (sym q) tied)
 
-  same-handed : (t : Bool) → cond t b freedBook .ledger .handed ≡ b .ledger .handed
-  same-handed true = refl
-  same-handed false = refl
+  freed-once : (t : Bool) → Once (freedBy t .out) (b .ledger .handed)
+  freed-once true = tt
+  freed-once false = tt
+
+  freed-after : (t : Bool) → freedBy t .left .ledger .handed ≡ allHanded (freedBy t .out) (b .ledger .handed)
+  freed-after true = refl
+  freed-after false = refl
 
   pub freeing-good : CallGood M (freeing cell) n b
-  unfolding step outcome
+  unfolding step result
   freeing-good =
       let t = isRefused (freeing cell) n in
       record {
-        tied = subst (λ (store : List ℕ). Tied M (net (freeOf (n .station) cell .station) store) (cond t b freedBook))
+        tied = subst (λ (store : List ℕ). Tied M (net (freeOf (n .station) cell .station) store) (freedBy t .left))
             (sym (same-cond t (n .store) (n .store) refl)) free-good;
         at = tt;
-        once = subst (λ (ms : List Message). Once ms (b .ledger .handed)) (sym (same-cond t [] [] refl)) tt;
-        after = same-handed t ∙ sym (ap (λ (ms : List Message). allHanded ms (b .ledger .handed)) (same-cond t [] [] refl));
+        once = freed-once t;
+        after = freed-after t;
       }
 
 -- ---- a reception
 
 -- what one that is not refused comes to: r for the station, h for the book
-record RxDone (M : Sent) (l : Ledger) (e : ℕ → Option Message) (r : Received) (h : Handed) : Type 0 where
-  pub got : receptions.Received M (eventsIn (r .words)) (h .out) (viewOf (r .station) (r .store)) (h .ledger) (l .handed) e
+record RxDone (M : Sent) (l : Ledger) (e : ℕ → Option Message) (r : Received) (h : Entered Ledger) : Type 0 where
+  pub got : receptions.Received M (eventsIn (r .words)) (h .out) (viewOf (r .station) (r .store)) (h .left) (l .handed) e
   pub long : length (r .station .members) ≡ 62
 
 -- its end leaves every message alone
-finish : (M : Sent) (l : Ledger) (e : ℕ → Option Message) (y : Reading) (h : Handed) (es : List Event)
-    → receptions.Received M es (h .out) (viewOf (y .station) (y .store)) (h .ledger) (l .handed) e → eventsIn (y .words) ≡ es → length (y .station .members) ≡ 62
+finish : (M : Sent) (l : Ledger) (e : ℕ → Option Message) (y : Reading) (h : Entered Ledger) (es : List Event2)
+    → receptions.Received M es (h .out) (viewOf (y .station) (y .store)) (h .left) (l .handed) e → eventsIn (y .words) ≡ es → length (y .station .members) ≡ 62
     → (d : Ended) → QuietEnd (y .station) d → RxDone M l e (receivedOf y d) h
 finish M l e y h es g q long d k =
     let w : eventsIn (y .words ++ d .burst) ≡ es = append-quiet (y .words) (d .burst) es q (k .1) ∙ append-nil es in
     record {
-      got = subst (λ (x : List Event). receptions.Received M x (h .out) (viewOf (d .station) (y .store)) (h .ledger) (l .handed) e) (sym w)
-          (subst (λ (v : View). receptions.Received M es (h .out) v (h .ledger) (l .handed) e) (sym (kept-view (y .station) (d .station) (y .store) (k .0))) g);
+      got = subst (λ (x : List Event2). receptions.Received M x (h .out) (viewOf (d .station) (y .store)) (h .left) (l .handed) e) (sym w)
+          (subst (λ (v : View). receptions.Received M es (h .out) v (h .left) (l .handed) e) (sym (kept-view (y .station) (d .station) (y .store) (k .0))) g);
       long = k .0 .long ∙ long;
     }
 
@@ -347,14 +351,14 @@ module _ (M : Sent) (small : (s k : ℕ) → length (M s k) ≤ 2046) (n : Net) 
     full-done ok =
         let z = frames-read M small air numbers (u .frames) first 0 (b .ledger) (b .entry) ready (omega arith) (tied .tie) (tied .long) ok in
         finish M (b .ledger) (b .entry) last (bookFrames M (u .frames) 0 numbers (last .seen) (last .unkept) (b .ledger)) (z .events) (z .got)
-        (z .words ∙ ap (λ (x : List Event). x ++ z .events) events-none) (z .long)
+        (z .words ∙ ap (λ (x : List Event2). x ++ z .events) events-none) (z .long)
         (replyEnd air (u .head) last) (reply-kept (last .station) air (u .head) last (kept-self (last .station)))
 
-    tiny-done : (h : Handed) → h .ledger ≡ b .ledger → h .out ≡ []
+    tiny-done : (h : Entered Ledger) → h .left ≡ b .ledger → h .out ≡ []
         → RxDone M (b .ledger) (b .entry) (receivedOf first (cond (eqb (u .head .hi) kIdle) (idleEnd air (u .head .extra) (first .station)) (nothingMore (first .station)))) h
     tiny-done h p q =
         finish M (b .ledger) (b .entry) first h []
-        (subst (λ (ms : List Message). receptions.Received M [] ms (viewOf (first .station) (first .store)) (h .ledger) (b .ledger .handed) (b .entry)) (sym q)
+        (subst (λ (ms : List Message). receptions.Received M [] ms (viewOf (first .station) (first .store)) (h .left) (b .ledger .handed) (b .entry)) (sym q)
         (subst (λ (l : Ledger). receptions.Received M [] [] (viewOf (first .station) (first .store)) l (b .ledger .handed) (b .entry)) (sym p)
         (record { tie = tied .tie; pairs = tt; rising = tt; once = tt; after = refl })))
         events-none (tied .long)
@@ -374,15 +378,15 @@ module _ (M : Sent) (small : (s k : ℕ) → length (M s k) ≤ 2046) (n : Net) 
             cond t (receivedOf first (cond (eqb (u .head .hi) kIdle) (idleEnd air (u .head .extra) (first .station)) (nothingMore (first .station))))
             (receivedOf last (replyEnd air (u .head) last))
 
-        none-read : (seen : List ℕ) (mask : ℕ) → bookFrames M [] 0 numbers seen mask (b .ledger) ≡ record { ledger = b .ledger; out = [] }
+        none-read : (seen : List ℕ) (mask : ℕ) → bookFrames M [] 0 numbers seen mask (b .ledger) ≡ unchanged (b .ledger)
         none-read seen mask = unfold bookFrames in refl
 
         at : (t : Bool) → FramesOk M (cond t [] (u .frames)) 0 numbers (r t .seen) (r t .unkept) (b .ledger)
             → RxDone M (b .ledger) (b .entry) (r t) (bookFrames M (cond t [] (u .frames)) 0 numbers (r t .seen) (r t .unkept) (b .ledger))
         at true ok =
             tiny-done (bookFrames M [] 0 numbers (r true .seen) (r true .unkept) (b .ledger))
-            (ap (λ (h : Handed). h .ledger) (none-read (r true .seen) (r true .unkept)))
-            (ap (λ (h : Handed). h .out) (none-read (r true .seen) (r true .unkept)))
+            (ap (λ (h : Entered Ledger). h .left) (none-read (r true .seen) (r true .unkept)))
+            (ap (λ (h : Entered Ledger). h .out) (none-read (r true .seen) (r true .unkept)))
         at false ok = full-done ok
 
   -- the same in the store that was lent, which is the one handed on
@@ -399,38 +403,43 @@ module _ (M : Sent) (small : (s k : ℕ) → length (M s k) ≤ 2046) (n : Net) 
 
   -- refused or not
   module _ (st : List ℕ) (words : List ℕ) where
-    abbrev handedBy : Parsed Burst → Outcome → Handed
-    handedBy w o = bookFrames M (framesBy w) 0 numbers (seenBy w (n .station) snr now st) (o .mask) (b .ledger)
+    abbrev seenBy : Parsed Burst → List ℕ
+    seenBy w = ofBurst w [] (λ u. ncsRx (n .station) u snr now st .seen)
 
-    abbrev bookBy : Parsed Burst → Outcome → Book
-    bookBy w o =
-        cond (refusedBy o) b (record { ledger = handedBy w o .ledger; entry = enterAll (eventsIn (o .words)) (handedBy w o .out) (b .entry) })
+    abbrev handedBy : Parsed Burst → Outcome → Entered Ledger
+    handedBy w o = bookFrames M (framesBy w) 0 numbers (seenBy w) (o .mask) (b .ledger)
 
-    abbrev outBy : Parsed Burst → Outcome → List Message
-    outBy w o = cond (refusedBy o) [] (handedBy w o .out)
+    abbrev enteredBy : Parsed Burst → Outcome → Entered Book
+    enteredBy w o =
+        record {
+          left = record { ledger = handedBy w o .left; entry = enterAll (eventsIn (o .words)) (handedBy w o .out) (b .entry) };
+          out = handedBy w o .out;
+        }
+
+    abbrev bookBy : Parsed Burst → Outcome → Entered Book
+    bookBy w o = cond (refusedBy o) (unchanged b) (enteredBy w o)
 
     record RxGood (w : Parsed Burst) (o : Outcome) : Type 0 where
-      pub next : Tied M (net (o .station) (cond (refusedBy o) (n .store) (o .store))) (bookBy w o)
-      pub paired : Paired (eventsIn (o .words)) (outBy w o) b
-      pub after : bookBy w o .ledger .handed ≡ allHanded (outBy w o) (b .ledger .handed)
+      pub next : Tied M (net (o .station) (cond (refusedBy o) (n .store) (o .store))) (bookBy w o .left)
+      pub paired : Paired (eventsIn (o .words)) (bookBy w o .out) b
+      pub after : bookBy w o .left .ledger .handed ≡ allHanded (bookBy w o .out) (b .ledger .handed)
 
     abbrev Rx : Parsed Burst → Outcome → Type 0
     Rx w o =
         (refusedBy o ≡ false → n .store ≡ st)
-        → (refusedBy o ≡ false → FramesOk M (framesBy w) 0 numbers (seenBy w (n .station) snr now st) (o .mask) (b .ledger)) → RxGood w o
+        → (refusedBy o ≡ false → FramesOk M (framesBy w) 0 numbers (seenBy w) (o .mask) (b .ledger)) → RxGood w o
 
     nothing-paired : Paired (eventsIn []) [] b
-    nothing-paired = subst (λ (es : List Event). Paired es [] b) (sym events-none) (record { pairs = tt; rising = tt; once = tt })
+    nothing-paired = subst (λ (es : List Event2). Paired es [] b) (sym events-none) (record { pairs = tt; rising = tt; once = tt })
 
     refused-good : (w : Parsed Burst) (m : ℕ) → eqb m 0 ≡ false → Rx w (refused m (n .station) st)
     refused-good w m q k ok =
         let z : refusedBy (refused m (n .station) st) ≡ true = ap (λ (t : Bool). cond t false true) q in
-        let h = handedBy w (refused m (n .station) st) in
-        let d : Book = record { ledger = h .ledger; entry = enterAll (eventsIn []) (h .out) (b .entry) } in
+        let d = enteredBy w (refused m (n .station) st) in
         record {
-          next = subst (λ (t : Bool). Tied M (net (n .station) (cond t (n .store) st)) (cond t b d)) (sym z) tied;
-          paired = subst (λ (t : Bool). Paired (eventsIn []) (cond t [] (h .out)) b) (sym z) nothing-paired;
-          after = subst (λ (t : Bool). cond t b d .ledger .handed ≡ allHanded (cond t [] (h .out)) (b .ledger .handed)) (sym z) refl;
+          next = subst (λ (t : Bool). Tied M (net (n .station) (cond t (n .store) st)) (cond t (unchanged b) d .left)) (sym z) tied;
+          paired = subst (λ (t : Bool). Paired (eventsIn []) (cond t (unchanged b) d .out) b) (sym z) nothing-paired;
+          after = subst (λ (t : Bool). cond t (unchanged b) d .left .ledger .handed ≡ allHanded (cond t (unchanged b) d .out) (b .ledger .handed)) (sym z) refl;
         }
 
     done-good : (u : Burst) → length (u .frames) ≤ 64 → Rx (parsed u) (receivedAs (ncsRx (n .station) u snr now st))
@@ -458,9 +467,9 @@ module _ (M : Sent) (small : (s k : ℕ) → length (M s k) ≤ 2046) (n : Net) 
   lent-is (another other) t k q = absurd (never-both t k q)
 
   pub reception-good : (words : List ℕ) (lent : Lent) (room : ℕ)
-      → CallOk M (reception words snr now lent room numbers) (answersOf (reception words snr now lent room numbers) n) b
+      → CallOk M (inBook (reception words snr now lent room numbers)) (answersOf (reception words snr now lent room numbers) n) b
       → CallGood M (reception words snr now lent room numbers) n b
-  unfolding step outcome
+  unfolding step result
   reception-good words lent room ok =
       let g = rx-good (lentTo lent (n .store)) words room (lent-is lent (isRefused (reception words snr now lent room numbers) n) (ok .0)) (ok .1) in
       record { tied = g .next; at = g .paired; once = g .paired .once; after = g .after }
@@ -468,32 +477,34 @@ module _ (M : Sent) (small : (s k : ℕ) → length (M s k) ≤ 2046) (n : Net) 
 -- ---- every list of calls
 
 module _ (M : Sent) (small : (s k : ℕ) → length (M s k) ≤ 2046) where
-  call-good : (c : Call) (n : Net) (b : Book) → Tied M n b → CallOk M c (answersOf c n) b → CallGood M c n b
+  call-good : (c : Call) (n : Net) (b : Book) → Tied M n b → CallOk M (inBook c) (answersOf c n) b → CallGood M c n b
+  unfolding result
   call-good (admission packed relay now room) n b t ok =
-      quiet-call M (admission packed relay now room) n b t (unfold outcome in admission-kept (n .station) packed relay now room) refl refl refl tt
+      quiet-call M (admission packed relay now room) n b t (admission-kept (n .station) packed relay now room) refl refl tt
   call-good (reception words snr now lent room numbers) n b t ok = reception-good M small n b t numbers snr now words lent room ok
-  call-good (decision now room) n b t ok = quiet-call M (decision now room) n b t (unfold outcome in decision-kept (n .station) now room) refl refl refl tt
-  call-good (sending now) n b t ok = quiet-call M (sending now) n b t (unfold outcome in sending-kept (n .station) now) refl refl refl tt
-  call-good (closing count) n b t ok = quiet-call M (closing count) n b t (unfold outcome in closing-kept (n .station) count) refl refl refl tt
-  call-good (reading cell lent) n b t ok = quiet-call M (reading cell lent) n b t (reading-kept cell lent n) refl refl refl (reads M n b t cell)
+  call-good (decision now room) n b t ok = quiet-call M (decision now room) n b t (decision-kept (n .station) now room) refl refl tt
+  call-good (sending now) n b t ok = quiet-call M (sending now) n b t (sending-kept (n .station) now) refl refl tt
+  call-good (closing count) n b t ok = quiet-call M (closing count) n b t (closing-kept (n .station) count) refl refl tt
+  call-good (reading cell lent) n b t ok = quiet-call M (reading cell lent) n b t (reading-kept cell lent n) refl refl (reads M n b t cell)
   call-good (freeing cell) n b t ok = freeing-good M n b t cell
 
   calls-hold : (cs : List Call) (n : Net) (b : Book) → Tied M n b → CallsOk M cs n b → Holds M cs n b
   unfolding CallsOk Holds
   calls-hold [] n b t ok = tt
   calls-hold (c ∷ cs) n b t ok =
-      let g = call-good c n b t (ok .0) in (g .at, calls-hold cs (step c n) (bookCall M c (answersOf c n) b) (g .tied) (ok .1))
+      let g = call-good c n b t (ok .0) in (g .at, calls-hold cs (step c n) (bookCall M c n b .left) (g .tied) (ok .1))
 
   calls-once : (cs : List Call) (n : Net) (b : Book) → Tied M n b → CallsOk M cs n b → Once (handedIn M cs n b) (b .ledger .handed)
   unfolding CallsOk handedIn
   calls-once [] n b t ok = tt
   calls-once (c ∷ cs) n b t ok =
       let g = call-good c n b t (ok .0) in
-      once-append (outOf M c (answersOf c n) b) (handedIn M cs (step c n) (bookCall M c (answersOf c n) b)) (b .ledger .handed) (g .once)
-      (subst (Once (handedIn M cs (step c n) (bookCall M c (answersOf c n) b))) (g .after)
-      (calls-once cs (step c n) (bookCall M c (answersOf c n) b) (g .tied) (ok .1)))
+      once-append (bookCall M c n b .out) (handedIn M cs (step c n) (bookCall M c n b .left)) (b .ledger .handed) (g .once)
+      (subst (Once (handedIn M cs (step c n) (bookCall M c n b .left))) (g .after)
+      (calls-once cs (step c n) (bookCall M c n b .left) (g .tied) (ok .1)))
 
-pub messages-kept : MessagesKept
+pub messages-kept : (M : Sent) → ((s k : ℕ) → length (M s k) ≤ 2046) → (s : Station) (g : Given) (store : List ℕ) → startRefusal g (length store) ≡ 0
+    → (cs : List Call) → CallsOk M cs (started s g store) emptyBook → Messages M (started s g store) cs
 messages-kept M small s g store e cs ok =
     let t = started-tied M s g store e in
     record {

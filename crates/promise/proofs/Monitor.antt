@@ -8,7 +8,12 @@ use native.Mathlib.Omega.{arith}
 use mathlib.Core.Bool.{Bool, true, false, cond, _&&_}
 use mathlib.Core.List.{List, [], _∷_, _++_}
 use lib.Dec.{T, eqb, eqb-refl}
-use Rattle.promise.specs.Turns.{In, Ev, drew, over, poll, ack, other, has, View, emptyView, begins, view, begun, Spread, pollsTill, acksTill, OneTurn, At, TurnsHold}
+use borrow.Author.Tests.{eqb-true}
+use Rattle.promise.specs.Promise.{TurnEvent, drew, over, poll, ack, has, View, emptyView, begins, view, begun, Spread, pollsTill, acksTill, OneTurn, AtEvent, TurnsHold}
+
+abbrev pub In : ℕ → List ℕ → Type 0
+In x [] = ⊥
+In x (y ∷ l) = (x ≡ y) ⊎ In x l
 
 -- each slot once
 abbrev pub NoDup : List ℕ → Type 0
@@ -19,7 +24,7 @@ pub data Run : Type 0 where
   rest : Run
   turn : (slot polls acks : ℕ) → Run
 
-abbrev pub Acc : List ℕ → Run → List Ev → Type 0
+abbrev pub Acc : List ℕ → Run → List TurnEvent → Type 0
 Acc left r [] = Unit {0}
 Acc [] rest (drew l ∷ es) = NoDup l × Acc l rest es
 Acc (x ∷ left) rest (drew l ∷ es) = ⊥
@@ -31,7 +36,6 @@ Acc (y ∷ left) rest (poll x ∷ es) = (x ≡ y) × Acc left (turn x 1 0) es
 Acc left (turn s p a) (poll x ∷ es) = (x ≡ s) × (suc p ≤ 5) × Acc left (turn s (suc p) a) es
 Acc left rest (ack x ∷ es) = ⊥
 Acc left (turn s p a) (ack x ∷ es) = (x ≡ s) × (suc a ≤ 4) × Acc left (turn s p (suc a)) es
-Acc left r (other ∷ es) = Acc left r es
 
 T-eq : (b : Bool) → T b → b ≡ true
 T-eq true t = refl
@@ -42,13 +46,12 @@ eqb-eq x y e = T-eq (eqb x y) (subst (λ (k : ℕ). T (eqb x k)) e (eqb-refl x))
 
 -- ---- the counts
 
-few : (left : List ℕ) (s p a : ℕ) (es : List Ev) → p ≤ 5 → a ≤ 4 → Acc left (turn s p a) es → (p + pollsTill s es ≤ 5) × (a + acksTill s es ≤ 4)
+few : (left : List ℕ) (s p a : ℕ) (es : List TurnEvent) → p ≤ 5 → a ≤ 4 → Acc left (turn s p a) es → (p + pollsTill s es ≤ 5) × (a + acksTill s es ≤ 4)
 few left s p a [] hp ha c = omega arith
 few left s p a (drew l ∷ es) hp ha c = absurd c
 few left s p a (over x ∷ es) hp ha c = rw (eqb-eq x s (c .0)) (omega arith)
 few left s p a (poll x ∷ es) hp ha c = rw (eqb-eq x s (c .0)) (let h = few left s (suc p) a es (c .1) ha (c .2) in omega arith)
 few left s p a (ack x ∷ es) hp ha c = rw (eqb-eq x s (c .0)) (let h = few left s p (suc a) es hp (c .1) (c .2) in omega arith)
-few left s p a (other ∷ es) hp ha c = few left s p a es hp ha c
 
 -- ---- the view that goes with the monitor
 
@@ -67,6 +70,14 @@ has-in x (y ∷ l) (inr h) = step (eqb x y) (has-in x l h)
     step : (b : Bool) → T (has x l) → T (cond b true (has x l))
     step true t = tt
     step false t = t
+
+in-has : (x : ℕ) (l : List ℕ) → T (has x l) → In x l
+in-has x [] h = h
+in-has x (y ∷ l) h = step (eqb x y) refl (in-has x l) h
+  where
+    step : (b : Bool) → eqb x y ≡ b → (T (has x l) → In x l) → T (cond b true (has x l)) → In x (y ∷ l)
+    step true e f t = inl (eqb-true x y e)
+    step false e f t = inr (f t)
 
 -- what is left is on the list, once
 pub record Left (l left : List ℕ) : Type 0 where
@@ -118,7 +129,7 @@ and-false false = refl
 again : (list : List ℕ) (s n a x : ℕ) → x ≡ s → begins (seen list (turn s n a)) x ≡ false
 again list s n a x e = rw (eqb-eq x s e) (and-false (has x list))
 
-spread : (l had : List ℕ) (list left : List ℕ) (r : Run) (es : List Ev) → Left list left → Acc left r es → Phase l had left → Spread l had (begun (seen list r) es)
+spread : (l had : List ℕ) (list left : List ℕ) (r : Run) (es : List TurnEvent) → Left list left → Acc left r es → Phase l had left → Spread l had (begun (seen list r) es)
 spread l had list left r [] v c p = tt
 spread l had list [] rest (drew m ∷ es) v c p = spread l had m m rest es (whole m (c .0)) (c .1) (inl (ended l had p))
 spread l had list (x ∷ left) rest (drew m ∷ es) v c p = absurd c
@@ -129,12 +140,11 @@ spread l had list [] rest (poll x ∷ es) v c p = absurd c
 spread l had list (y ∷ left) rest (poll x ∷ es) v c p =
     rw (head-on list left x y v (c .0))
     (let h = phase-poll l had left x y (c .0) (v .once) p in
-    (h .0, spread l (x ∷ had) list left (turn x 1 0) es (fewer list left y v) (c .1) (h .1)))
+    (λ p t q d. has-in t had (h .0 (in-has x had p) t (in-has t l q) d), spread l (x ∷ had) list left (turn x 1 0) es (fewer list left y v) (c .1) (h .1)))
 spread l had list left (turn s n a) (poll x ∷ es) v c p =
     rw (again list s n a x (c .0)) (spread l had list left (turn s (suc n) a) es v (c .2) p)
 spread l had list left rest (ack x ∷ es) v c p = absurd c
 spread l had list left (turn s n a) (ack x ∷ es) v c p = spread l had list left (turn s n (suc a)) es v (c .2) p
-spread l had list left r (other ∷ es) v c p = spread l had list left r es v c p
 
 -- ---- an accepted trace keeps the promise
 
@@ -145,12 +155,12 @@ On (turn s p a) l = T (has s l)
 has-one : (x s : ℕ) → x ≡ s → T (has x (s ∷ []))
 has-one x s e = rw (eqb-eq x s e) tt
 
-begun-turn : (list left : List ℕ) (x : ℕ) (es : List Ev) → Acc left (turn x 1 0) es → OneTurn (seen list rest) x es
+begun-turn : (list left : List ℕ) (x : ℕ) (es : List TurnEvent) → Acc left (turn x 1 0) es → OneTurn (seen list rest) x es
 begun-turn list left x es c =
     let h = few left x 1 0 es (omega arith) (omega arith) c in
     record { alone = refl; polls = omega arith; acks = omega arith }
 
-hold : (list left : List ℕ) (r : Run) (es : List Ev) → Left list left → On r list → Acc left r es → TurnsHold (seen list r) es
+hold : (list left : List ℕ) (r : Run) (es : List TurnEvent) → Left list left → On r list → Acc left r es → TurnsHold (seen list r) es
 hold list left r [] v o c = tt
 hold list [] rest (drew m ∷ es) v o c =
     (spread m [] m m rest es (whole m (c .0)) (c .1) (inr (λ t h. inr h, λ x h u. h)), hold m m rest es (whole m (c .0)) tt (c .1))
@@ -171,17 +181,16 @@ hold list left (turn s n a) (poll x ∷ es) v o c =
     )
 hold list left rest (ack x ∷ es) v o c = absurd c
 hold list left (turn s n a) (ack x ∷ es) v o c = (has-one x s (c .0), hold list left (turn s n (suc a)) es v o (c .2))
-hold list left r (other ∷ es) v o c = (tt, hold list left r es v o c)
 
-pub accepted : (es : List Ev) → Acc [] rest es → TurnsHold emptyView es
+pub accepted : (es : List TurnEvent) → Acc [] rest es → TurnsHold emptyView es
 accepted es c = hold [] [] rest es (record { on = λ x h. absurd h; once = tt }) tt c
 
 -- ---- the promise at one event of a trace
 
-abbrev pub views : View → List Ev → View
+abbrev pub views : View → List TurnEvent → View
 views v [] = v
 views v (e ∷ es) = views (view v e) es
 
-pub holds-at : (v : View) (pre : List Ev) (e : Ev) (es : List Ev) → TurnsHold v (pre ++ (e ∷ es)) → At (views v pre) e es
+pub holds-at : (v : View) (pre : List TurnEvent) (e : TurnEvent) (es : List TurnEvent) → TurnsHold v (pre ++ (e ∷ es)) → AtEvent (views v pre) e es
 holds-at v [] e es h = h .0
 holds-at v (x ∷ pre) e es h = holds-at (view v x) pre e es (h .1)

@@ -1,22 +1,23 @@
--- The premises of item 3 on calls are needed: calls that break one of them alone (`otherwise`), and of which what is promised does not hold (`broken`, `too-old`). Assumes nothing.
-use mathlib.Core.Path.{_≡_, refl, ap}
-use mathlib.Core.Bool.{not, _&&_}
-use mathlib.Core.List.{List, [], _∷_}
+-- The premises of item 3 on messages and calls are needed: calls that break one of them alone (`otherwise`), and of which what is promised does not hold
+-- (`broken`, `too-old`). Assumes nothing.
+use mathlib.Core.Path.{_≡_, refl, sym, ap, _∙_, subst}
+use mathlib.Core.Bool.{Bool, false, _&&_}
+use mathlib.Core.List.{List, [], _∷_, _++_}
 use mathlib.Core.Option.{none}
 use mathlib.Core.Logic.{⊎-elim}
-use Prim.Native.Nat.{ℕ, _+_, _*_, _/_, _%_, _-_, _≤_}
+use Prim.Native.Nat.{ℕ, _+_, _*_, _/_, _%_, _≤_}
 use native.Mathlib.Omega.{arith}
 use lib.Dec.{ltb, eqb}
-use lib.ListN.{replicate, getD}
+use lib.ListN.{length, take, replicate, getD, length-replicate}
 use Rattle.bits.specs.Loop.{first}
 use Rattle.bits.specs.Mask.{hasBit, withBit, lowestFree}
 use Rattle.bits.specs.Stop.{stop}
-use Rattle.bits.proofs.Lists.{le-or-lt}
+use Rattle.bits.proofs.Lists.{cases, le-or-lt}
 use Rattle.wire.specs.Call.{digit, char, trimStart, trimEnd, unpacked}
 use Rattle.wire.specs.Numbers.{widened, widenedAt}
 use Rattle.words.specs.Words.{heard, wordOk, payloadOk, unpack, payload, frameOf, itemAt, framesOf, headOk, parse}
 use Rattle.out.specs.Encode.{pack, framesWords, burstWords}
-use Rattle.inbox.specs.Cells.{seek, next, grow, settle, store}
+use Rattle.inbox.specs.Cells.{seek, next, grow, settle}
 use Rattle.inbox.specs.Cells as cells
 use Rattle.inbox.specs.Messages.{framed, Cut}
 use Rattle.stream.specs.Window.{slideOf, markOf, windowOf}
@@ -31,8 +32,9 @@ use Rattle.frames.specs.Frames.{readFrame, frameStep, readFrames}
 use Rattle.rx.specs.Ending.{replyEnd}
 use Rattle.rx.specs.Reception.{ncsRx}
 use Rattle.station.specs.Entries.{admitRefusal, admitOf, receiveRefusal, receiveOf, cellRefusal, readRefusal, readingOf}
-use Rattle.promise.specs.Calls.{handed, another, Call, reception, reading, Net, net, outcome, step, after}
-use Rattle.promise.specs.Book.{Book, emptyBook, cover, alsoHanded, allBelow, bookFrame, bookFrames, eventsIn, At, Holds, Sent, Ledger, Lowest}
+use Rattle.promise.specs.Promise.{handed, another, Net, net, Call, reception, reading, result, step, Sent, Ledger, Book, emptyBook, cover, alsoHanded, allBelow, bookFrame, bookFrames, eventsIn, Lowest, Pairs, Holds}
+use Rattle.promise.proofs.Ledgers.{of-all}
+use Rattle.promise.proofs.Pieces.{enterBy}
 use Rattle.promise.proofs.Runs.{nought, one-cell, all-hi, all-empty, joins, hears, whole, apart}
 
 -- ---- each after boat A was admitted to slot 0
@@ -59,20 +61,51 @@ swapped =
     ∷ reading 0 handed
     ∷ []
 
+-- 65,536 bytes, of which the two length bytes say 0
+pub too-long : List ℕ
+too-long = replicate 65536 0
+
+pub too-long-is : length too-long ≡ 65536
+unfolding too-long
+too-long-is = length-replicate {A = ℕ} 65536 0
+
+-- every message is that long
+abbrev pub all-too-long : Sent
+all-too-long s k = too-long
+
+-- the two length bytes alone: the station lands an empty message; an event, and no message of the book
+abbrev pub overlong : List Call
+overlong = joins ∷ hears (heard 0 0 (0 ∷ 0 ∷ []) ∷ []) (0 ∷ []) ∷ []
+
+-- which has 65,536 bytes to come
+uncovered : cover 0 0 0 2 (emptyBook .ledger .covered) 0 0 2 ≡ false
+unfolding cover
+uncovered = refl
+
+not-all : allBelow (2 + length too-long) (cover 0 0 0 2 (emptyBook .ledger .covered) 0 0) ≡ false
+not-all =
+    let l = too-long-is in
+    ⊎-elim (λ t. absurd (apart (sym uncovered ∙ of-all (2 + length too-long) (cover 0 0 0 2 (emptyBook .ledger .covered) 0 0) t 2 (omega arith)))) (λ t. t)
+    (cases (allBelow (2 + length too-long) (cover 0 0 0 2 (emptyBook .ledger .covered) 0 0)))
+
 pub record Broken (g : Settings) : Type 0 where
   pub far : Holds all-hi far (one-cell g) emptyBook → ⊥
   pub misnumbered : Holds all-hi misnumbered (one-cell g) emptyBook → ⊥
   pub miscut : Holds all-hi miscut (one-cell g) emptyBook → ⊥
   pub swapped : Holds all-hi swapped (one-cell g) emptyBook → ⊥
+  pub overlong : Holds all-too-long overlong (one-cell g) emptyBook → ⊥
 
 pub broken : (g : Settings) → Broken g
-unfolding Holds step outcome admitOf admitRefusal newStation seatOf findCall first lowestFree hasBit withBit leadsTo unpacked digit char trimStart trimEnd receiveOf receiveRefusal parse headOk framesOf itemAt frameOf payload unpack payloadOk wordOk pack framesWords ncsRx readFrames frameStep readFrame pieceFrame replyEnd isMember accept widened widenedAt ownCell putOf cells.accept settle grow seek next slideOf stop eventsIn bookFrames bookFrame cover alsoHanded allBelow readRefusal cellRefusal readingOf
+unfolding Holds step result admitOf admitRefusal newStation seatOf findCall first lowestFree hasBit withBit leadsTo unpacked digit char trimStart trimEnd receiveOf receiveRefusal parse headOk framesOf itemAt frameOf payload unpack payloadOk wordOk pack framesWords ncsRx readFrames frameStep readFrame pieceFrame replyEnd isMember accept widened widenedAt ownCell putOf cells.accept settle grow seek next slideOf stop eventsIn bookFrames bookFrame cover alsoHanded allBelow readRefusal cellRefusal readingOf
 broken g =
     record {
       far = λ h. h .1 .0 .pairs;
-      misnumbered = λ h. let z : _≡_ {A = ℕ} 0 1 = h .1 .0 .pairs .0 .number in omega arith;
+      misnumbered = λ h. let z : _≡_ {A = ℕ} 0 1 = h .1 .0 .pairs .1 in omega arith;
       miscut = λ h. let z : _≡_ {A = ℕ} 104 105 = ap (λ (l : List ℕ). getD l 1 0) (h .1 .1 .0 (omega arith) .1) in omega arith;
       swapped = λ h. let z : _≡_ {A = ℕ} 120 104 = ap (λ (l : List ℕ). getD l 0 0) (h .1 .1 .1 .0 (omega arith) .1) in omega arith;
+      overlong = λ h.
+          subst (λ (t : Bool). Pairs (record { slot = 0; cell = 0; number = 0 } ∷ []) (enterBy t 0 0 (emptyBook .ledger) (cover 0 0 0 2 (emptyBook .ledger .covered)) .out ++ []) (λ c. none))
+          not-all (h .1 .0 .pairs);
     }
 
 -- ---- 129 below the lowest number not handed over
@@ -91,12 +124,12 @@ old-book =
     }
 
 -- number 0 is read as 256, which lands: an event, and no message
-pub too-old : (g : Settings) → At all-empty (hears (whole 0 ∷ []) (0 ∷ [])) (old g) old-book → ⊥
-unfolding outcome newStation first lowestFree hasBit withBit receiveOf receiveRefusal parse headOk framesOf itemAt frameOf payload unpack payloadOk wordOk pack framesWords ncsRx readFrames frameStep readFrame pieceFrame replyEnd isMember accept widened widenedAt ownCell putOf cells.accept settle grow seek next slideOf markOf stop eventsIn bookFrames bookFrame cover alsoHanded allBelow
-too-old g h = h .pairs
+pub too-old : (g : Settings) → Holds all-empty (hears (whole 0 ∷ []) (0 ∷ []) ∷ []) (old g) old-book → ⊥
+unfolding Holds result newStation first lowestFree hasBit withBit receiveOf receiveRefusal parse headOk framesOf itemAt frameOf payload unpack payloadOk wordOk pack framesWords ncsRx readFrames frameStep readFrame pieceFrame replyEnd isMember accept widened widenedAt ownCell putOf cells.accept settle grow seek next slideOf markOf stop eventsIn bookFrames bookFrame cover alsoHanded allBelow
+too-old g h = h .0 .pairs
 
 -- ---- all else that the premises ask of these pieces
--- `misnumbered` would be right with the eight bits of 1, `miscut` of messages "hh", `swapped` in the store that was handed on
+-- `misnumbered` would be right with the eight bits of 1, `miscut` of messages "hh", `swapped` in the store that was handed on, `overlong` of shorter messages
 
 -- the premises on a piece, with other bounds on its number
 pub record Within (under over : ℕ) (M : Sent) (l : Ledger) (s k field : ℕ) (p : List ℕ) : Type 0 where
@@ -111,6 +144,7 @@ pub record Otherwise : Type 0 where
   pub misnumbered : Within 128 127 all-hi (emptyBook .ledger) 0 1 65536 (framed (104 ∷ 105 ∷ []))
   pub miscut : Within 128 127 (λ s k. 104 ∷ 104 ∷ []) (emptyBook .ledger) 0 0 0 (framed (104 ∷ 104 ∷ []))
   pub swapped : Within 128 127 all-hi (emptyBook .ledger) 0 0 0 (2 ∷ 0 ∷ 104 ∷ []) × Within 128 127 all-hi (emptyBook .ledger) 0 0 3 (105 ∷ [])
+  pub overlong : Within 128 127 all-too-long (emptyBook .ledger) 0 0 0 (0 ∷ 0 ∷ [])
 
 -- nothing is handed over, so 0 is the lowest
 none-yet : (k over : ℕ) → k ≤ over → (n : ℕ) → Lowest (emptyBook .ledger) 0 n → (n ≤ k + 128) × (k ≤ n + over)
@@ -118,6 +152,9 @@ none-yet k over a n w = ⊎-elim (λ b. (omega arith, omega arith)) (λ b. absur
 
 up-to-128 : (n : ℕ) → Lowest (old-book .ledger) 0 n → (n ≤ 0 + 129) × (0 ≤ n + 127)
 up-to-128 n w = ⊎-elim (λ b. (omega arith, omega arith)) (λ b. absurd (apart (w .1 129 b))) (le-or-lt n 129)
+
+two-bytes : 0 ∷ 0 ∷ [] ≡ take 2 (framed too-long)
+two-bytes = ap (λ (n : ℕ). n % 256 ∷ n / 256 % 256 ∷ []) (sym too-long-is)
 
 pub otherwise : Otherwise
 otherwise =
@@ -130,4 +167,5 @@ otherwise =
         record { eight = refl; cut = record { short = omega arith; fits = omega arith; same = refl }; near = none-yet 0 127 (omega arith) },
         record { eight = refl; cut = record { short = omega arith; fits = omega arith; same = refl }; near = none-yet 0 127 (omega arith) },
       );
+      overlong = record { eight = refl; cut = record { short = omega arith; fits = omega arith; same = two-bytes }; near = none-yet 0 127 (omega arith) };
     }

@@ -2,9 +2,9 @@
 use mathlib.Core.Path.{_≡_, refl, sym, ap, _∙_, subst}
 use mathlib.Core.Bool.{Bool, true, false, not, cond, _&&_, _||_}
 use mathlib.Core.Option.{Option, none, some}
-use mathlib.Core.List.{List}
+use mathlib.Core.List.{List, [], _∷_}
 use mathlib.Core.Logic.{_⊎_, inl, inr, ⊎-elim}
-use Prim.Native.Nat.{ℕ, _+_, _-_, _*_, _/_, _%_, _^_, _≤_, _<_}
+use Prim.Native.Nat.{ℕ, _+_, _*_, _/_, _%_, _^_, _≤_, _<_}
 use native.Mathlib.Omega.{arith}
 use lib.ListN.{length, getD, replicate, length-replicate}
 use lib.Seq.{getD-set-same}
@@ -20,7 +20,7 @@ use Rattle.inbox.specs.declared.cell.Cell.{Cell}
 use Rattle.inbox.specs.declared.keep.Kept.{Kept}
 use Rattle.inbox.specs.declared.keep.Kept.the-variants.{Needless, Yes, Late, Long, NoCell, NoPlace}
 use Rattle.inbox.specs.declared.store.Landed.the-variants.{Bytes, NotYet}
-use Rattle.inbox.specs.Cells.{Held, held, accept}
+use Rattle.inbox.specs.Cells.{Held, held}
 use Rattle.inbox.specs.Stores.{cellOf, inCell}
 use Rattle.inbox.specs.Messages.{announced, landed, framed}
 use Rattle.inbox.proofs.Joined.{Inv, More, same-loose, accept-inv}
@@ -34,30 +34,36 @@ use Rattle.stream.specs.Table as table
 use Rattle.stream.proofs.Tables.{Tidy, kept-tidy, kept-other, place-below, place-in, room-only}
 use Rattle.stream.proofs.Windows.{Sound, sound-next, sound-land, land-at, handed-low, next-not-handed}
 use Rattle.stream.proofs.Accepts.{leftAs, answerOf, cellIn, heldAfter, putAs, accept-cases, after-length, after-fits}
-use Rattle.promise.specs.Book.{Sent, Message, Ledger, Event, same, inside, cover, alsoHanded, allBelow, Entered, completes, enterBy, bookPiece, nothing, enter, Lowest, PieceOk, Names}
+use Rattle.promise.specs.Promise.{Sent, Message, Ledger, Entered, unchanged, same, inside, cover, alsoHanded, allBelow, completes, bookPiece, Event2, enter, Lowest, PieceOk}
 use Rattle.promise.proofs.Ledgers.{of-all, same-true, cover-other, cover-same, cover-nothing, inside-true, inside-of, handed-other, handed-self, Cov, landed-bytes, landed-is, needless-covered}
 use Rattle.promise.proofs.Ties.{View, Comes, Whole, useOf, useAt, heldAt, entryOf, Tie, use-comes, use-whole, Aim, aim, now-inv, put-tie}
 
 -- ---- what a piece comes to, on both sides
 
+abbrev pub alsoOne {ℓ} : {A : Type ℓ} → Option A → List A → List A
+alsoOne none l = l
+alsoOne (some e) l = e ∷ l
+
 pub record Still (M : Sent) (l : Ledger) (v : View) (l′ : Ledger) (e : ℕ → Option Message) : Type 0 where
   pub tie : Tie M v l′ e
   pub handed : l′ .handed ≡ l .handed
 
-pub record Lands (M : Sent) (l : Ledger) (v : View) (l′ : Ledger) (x : Event) (m : Message) (e : ℕ → Option Message) : Type 0 where
+pub record Lands (M : Sent) (l : Ledger) (v : View) (l′ : Ledger) (x : Event2) (m : Message) (e : ℕ → Option Message) : Type 0 where
   pub tie : Tie M v l′ (enter (x .cell) (some m) e)
   pub handed : l′ .handed ≡ alsoHanded (m .slot) (m .number) (l .handed)
-  pub names : Names x m
+  pub slot : x .slot ≡ m .slot
+  pub number : x .number ≡ m .number % 256
   pub bare : e (x .cell) ≡ none
   pub new : l .handed (m .slot) (m .number) ≡ false
   pub near : (y : ℕ) → l .handed (m .slot) y ≡ false → m .number ≤ y + 127
   pub fit : x .cell < 64
 
-abbrev pub Joint : Sent → Ledger → View → Ledger → Option Event → Option Message → (ℕ → Option Message) → Type 0
-Joint M l v l′ none none e = Still M l v l′ e
-Joint M l v l′ none (some m) e = ⊥
-Joint M l v l′ (some x) none e = ⊥
-Joint M l v l′ (some x) (some m) e = Lands M l v l′ x m e
+abbrev pub Joint : Sent → Ledger → View → Ledger → Option Event2 → List Message → (ℕ → Option Message) → Type 0
+Joint M l v l′ none [] e = Still M l v l′ e
+Joint M l v l′ none (m ∷ ms) e = ⊥
+Joint M l v l′ (some x) [] e = ⊥
+Joint M l v l′ (some x) (m ∷ []) e = Lands M l v l′ x m e
+Joint M l v l′ (some x) (m ∷ n ∷ ms) e = ⊥
 
 -- the windows after a piece: the slot's own has one message more, where one landed
 abbrev pub windowsAfter : (ℕ → Window) → ℕ → Bool → ℕ → ℕ → Window
@@ -66,11 +72,11 @@ windowsAfter win s b k i = cond (b && eqb s i) (landOf (win i) k) (win i)
 abbrev pub viewAfter : View → ℕ → Accepted → View
 viewAfter v s x = record { table = x .table; store = x .store; windows = windowsAfter (v .windows) s (hasLanded (x .landed)) (x .number) }
 
-abbrev pub eventFor : ℕ → Accepted → Option Event
+abbrev pub eventFor : ℕ → Accepted → Option Event2
 eventFor s x = cond (hasLanded (x .landed)) (some (record { slot = s; cell = x .cell; number = x .number % 256 })) none
 
-abbrev pub Good : Sent → Ledger → (ℕ → Option Message) → View → ℕ → Accepted → Entered → Type 0
-Good M l e v s x n = Joint M l (viewAfter v s x) (n .ledger) (eventFor s x) (n .out) e
+abbrev pub Good : Sent → Ledger → (ℕ → Option Message) → View → ℕ → Accepted → Entered Ledger → Type 0
+Good M l e v s x n = Joint M l (viewAfter v s x) (n .left) (eventFor s x) (n .out) e
 
 not-both : (t : Bool) → not t && t ≡ false
 not-both true = refl
@@ -87,6 +93,12 @@ unlanded-bit : (a b : Bool) (o : ℕ) → entryOf (useOf a b o) ≡ none → (b 
 unlanded-bit a false o q t = refl
 unlanded-bit true true o q t = absurd (let z : _≡_ {A = ℕ} 0 1 = cc in omega arith)
 unlanded-bit false true o q t = absurd (never-both false (t refl) refl)
+
+-- a piece that covers f, handing its message over or not
+abbrev pub enterBy : Bool → ℕ → ℕ → Ledger → (ℕ → ℕ → ℕ → Bool) → Entered Ledger
+enterBy b s k l f =
+    cond b (record { left = record { covered = f; handed = alsoHanded s k (l .handed) }; out = record { slot = s; number = k } ∷ [] })
+    (unchanged (record { covered = f; handed = l .handed }))
 
 module _ (M : Sent) (small : (s k : ℕ) → length (M s k) ≤ 2046) (v : View) (l : Ledger) (e : ℕ → Option Message) (tie : Tie M v l e)
     (s k field : ℕ) (p : List ℕ) (ok : PieceOk M l s k field p) where
@@ -110,7 +122,7 @@ module _ (M : Sent) (small : (s k : ℕ) → length (M s k) ≤ 2046) (v : View)
   low-k = let n = ok .near (w .next) lowest-is in let z = sound-next w (tie .sound s) in omega arith
 
   -- a piece whose bytes are all covered does nothing in the book
-  quiet-book : ((i : ℕ) → o ≤ i → i < o + length p → l .covered s k i ≡ true) → bookPiece M s k o (length p) l ≡ nothing l
+  quiet-book : ((i : ℕ) → o ≤ i → i < o + length p → l .covered s k i ≡ true) → bookPiece M s k o (length p) l ≡ unchanged l
   quiet-book h =
       ap (λ (f : ℕ → ℕ → ℕ → Bool). enterBy (completes M s k l f) s k l f) (cover-nothing s k o (length p) (l .covered) h)
       ∙ ap (λ (t : Bool). enterBy t s k l (l .covered))
@@ -123,12 +135,12 @@ module _ (M : Sent) (small : (s k : ℕ) → length (M s k) ≤ 2046) (v : View)
   still = record { tie = tie; handed = refl }
 
   abbrev Fair : Accepted → Type 0
-  Fair x = Good M l e v s x (cond (x .lost) (nothing l) (bookPiece M s k o (length p) l))
+  Fair x = Good M l e v s x (cond (x .lost) (unchanged l) (bookPiece M s k o (length p) l))
 
-  quiet : bookPiece M s k o (length p) l ≡ nothing l → Joint M l v (bookPiece M s k o (length p) l .ledger) none (bookPiece M s k o (length p) l .out) e
-  quiet q = subst (λ (n : Entered). Joint M l v (n .ledger) none (n .out) e) (sym q) still
+  quiet : bookPiece M s k o (length p) l ≡ unchanged l → Joint M l v (bookPiece M s k o (length p) l .left) none (bookPiece M s k o (length p) l .out) e
+  quiet q = subst (λ (n : Entered Ledger). Joint M l v (n .left) none (n .out) e) (sym q) still
 
-  left-by : (a : Kept) → changes a ≡ false → (a ≡ Needless → bookPiece M s k o (length p) l ≡ nothing l) → (c : ℕ)
+  left-by : (a : Kept) → changes a ≡ false → (a ≡ Needless → bookPiece M s k o (length p) l ≡ unchanged l) → (c : ℕ)
       → Fair (leftAs (v .table) w (v .store) c k a)
   left-by Needless q h c = quiet (h refl)
   left-by Yes q h c = absurd (never-both true refl q)
@@ -369,7 +381,8 @@ module _ (M : Sent) (small : (s k : ℕ) → length (M s k) ≤ 2046) (v : View)
             record {
               tie = land-tie q;
               handed = refl;
-              names = record { slot = refl; number = refl };
+              slot = refl;
+              number = refl;
               bare = tie .entries c ∙ m .unlanded;
               new = hand;
               near = near-all;

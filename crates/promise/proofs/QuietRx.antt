@@ -28,7 +28,7 @@ use Rattle.frames.specs.Reading.{Reading, alsoSaid, onStation}
 use Rattle.frames.specs.Control.{eachEntry, checkinMember, checkedIn, withActive, callAt, checkinFrame, isForwarded, reportMember, reportSays, reportStation, reportFrame, relayOf, newcomer, heardBy, overheardBy, overheardEntry, overheardFrame, isKid, kidMember, kidEvents, kidEntry, kidsFrame}
 use Rattle.frames.specs.Frames.{controlBy}
 use Rattle.rx.specs.Ending.{ackWords, turnOverIn, idleMember, idleHeard, idleBy, idleEnd, replyMember, replyHeard, ackExtra, ackLevel, answerBy, goesOn, isReply, replyBy, replyEnd, Ended}
-use Rattle.promise.specs.Book.{eventsIn}
+use Rattle.promise.specs.Promise.{eventsIn}
 use Rattle.promise.proofs.Events.{events-none, append-quiet, checkin-word, relayed-word, missed-word, head-word, wave-word}
 use Rattle.promise.proofs.Quiet.{Keeps, kept-self, kept-new}
 use Rattle.promise.proofs.QuietNext.{member-kept, turn-up}

@@ -29,9 +29,9 @@ use Rattle.frames.specs.declared.Air.{Air}
 use Rattle.frames.specs.Reading.{Reading}
 use Rattle.frames.specs.Pieces.{isAsideLeaf, heardMember, sizeOf, pieceMember, isRelayed, pieceEvents, trafficIf, relayIf, unkeptAt, keptPiece, takenPiece, pieceFrame}
 use Rattle.frames.specs.Frames.{readFrame, controlFrame}
-use Rattle.promise.specs.Book.{Sent, Message, Ledger, Event, Entered, nothing, bookPiece, bookFrame, alsoOne, eventsIn, FrameOk, PieceOk}
+use Rattle.promise.specs.Promise.{Sent, Message, Ledger, Entered, unchanged, bookPiece, bookFrame, Event2, eventsIn, PieceOk, FrameOk}
 use Rattle.promise.proofs.Ties.{View, Tie}
-use Rattle.promise.proofs.Pieces.{Joint, windowsAfter, viewAfter, eventFor, Good, piece-good}
+use Rattle.promise.proofs.Pieces.{alsoOne, Joint, windowsAfter, viewAfter, eventFor, Good, piece-good}
 use Rattle.promise.proofs.Quiet.{windowIn, windowAt, Keeps, kept-self, viewOf, view-is, kept-view}
 use Rattle.promise.proofs.Events.{events-none, events-append, relayed-word, message-word}
 use Rattle.promise.proofs.QuietRx.{Untouched, untouched, control-untouched}
@@ -128,11 +128,11 @@ piece-events a s slot r low fit = at (hasLanded (r .landed)) refl
     word : List ℕ
     word = messageWord slot (r .cell) (r .number) ∷ []
 
-    one : Event
+    one : Event2
     one = record { slot = slot; cell = r .cell; number = r .number % 256 }
 
     said : r .cell < 64 → eventsIn word ≡ one ∷ []
-    said f = message-word slot (r .cell) (r .number) [] low f ∙ ap (λ (l : List Event). one ∷ l) events-none
+    said f = message-word slot (r .cell) (r .number) [] low f ∙ ap (λ (l : List Event2). one ∷ l) events-none
 
     at : (b : Bool) → hasLanded (r .landed) ≡ b
         → eventsIn (cond b (cond (isRelayed a s slot r) (eventWord 4 slot (a .polled) ∷ word) word) []) ≡ alsoOne (cond b (some one) none) []
@@ -141,27 +141,28 @@ piece-events a s slot r low fit = at (hasLanded (r .landed)) refl
         (λ _. relayed-word slot (a .polled) word ∙ said (fit q)) (λ _. said (fit q))
     at false q = events-none
 
-joint-fit : (M : Sent) (l : Ledger) (v : View) (l′ : Ledger) (slot : ℕ) (r : Accepted) (out : Option Message) (e : ℕ → Option Message)
+joint-fit : (M : Sent) (l : Ledger) (v : View) (l′ : Ledger) (slot : ℕ) (r : Accepted) (out : List Message) (e : ℕ → Option Message)
     → Joint M l v l′ (eventFor slot r) out e → hasLanded (r .landed) ≡ true → r .cell < 64
 joint-fit M l v l′ slot r out e j q =
     go out (subst (λ (b : Bool). Joint M l v l′ (cond b (some (record { slot = slot; cell = r .cell; number = r .number % 256 })) none) out e) q j)
   where
-    go : (o : Option Message) → Joint M l v l′ (some (record { slot = slot; cell = r .cell; number = r .number % 256 })) o e → r .cell < 64
-    go none j = absurd j
-    go (some m) j = j .fit
+    go : (o : List Message) → Joint M l v l′ (some (record { slot = slot; cell = r .cell; number = r .number % 256 })) o e → r .cell < 64
+    go [] j = absurd j
+    go (m ∷ []) j = j .fit
+    go (m ∷ n ∷ ms) j = absurd j
 
 -- ---- one frame
 
 -- what reading a frame comes to: from x to y, with the entry n in the book
-pub record Read (M : Sent) (l : Ledger) (e : ℕ → Option Message) (x y : Reading) (n : Entered) : Type 0 where
-  pub event : Option Event
-  pub joint : Joint M l (viewOf (y .station) (y .store)) (n .ledger) event (n .out) e
+pub record Read (M : Sent) (l : Ledger) (e : ℕ → Option Message) (x y : Reading) (n : Entered Ledger) : Type 0 where
+  pub event : Option Event2
+  pub joint : Joint M l (viewOf (y .station) (y .store)) (n .left) event (n .out) e
   pub events : eventsIn (y .words) ≡ eventsIn (x .words) ++ alsoOne event []
   pub long : length (y .station .members) ≡ 62
 
 module _ (M : Sent) (small : (s k : ℕ) → length (M s k) ≤ 2046) (a : Air) (x : Reading) (l : Ledger) (e : ℕ → Option Message)
     (tie : Tie M (viewOf (x .station) (x .store)) l e) (long : length (x .station .members) ≡ 62) where
-  quiet-read : (y : Reading) → Untouched x y → Read M l e x y (nothing l)
+  quiet-read : (y : Reading) → Untouched x y → Read M l e x y (unchanged l)
   quiet-read y u =
       record {
         event = none;
@@ -181,39 +182,39 @@ module _ (M : Sent) (small : (s k : ℕ) → length (M s k) ≤ 2046) (a : Air) 
     window-here : windowAt (x .station) slot ≡ memberAt (x .station) slot .up
     window-here = ap (λ (t : Bool). cond t (memberAt (x .station) slot .up) freshOf) here
 
-    good : Good M l e (viewOf (x .station) (x .store)) slot r (cond (r .lost) (nothing l) (bookPiece M slot k (field % 65536) (length p) l))
+    good : Good M l e (viewOf (x .station) (x .store)) slot r (cond (r .lost) (unchanged l) (bookPiece M slot k (field % 65536) (length p) l))
     good =
         subst (λ (w : Window).
         let q = accept (tableOf (x .station)) w (x .store) slot field p in
-        Good M l e (viewOf (x .station) (x .store)) slot q (cond (q .lost) (nothing l) (bookPiece M slot k (field % 65536) (length p) l)))
+        Good M l e (viewOf (x .station) (x .store)) slot q (cond (q .lost) (unchanged l) (bookPiece M slot k (field % 65536) (length p) l)))
         window-here (piece-good M small (viewOf (x .station) (x .store)) l e tie slot k field p ok)
 
     kept-read : r .lost ≡ false → Read M l e x (keptPiece a slot r x) (bookPiece M slot k (field % 65536) (length p) l)
     kept-read q =
         let g : Good M l e (viewOf (x .station) (x .store)) slot r (bookPiece M slot k (field % 65536) (length p) l) =
-        subst (λ (b : Bool). Good M l e (viewOf (x .station) (x .store)) slot r (cond b (nothing l) (bookPiece M slot k (field % 65536) (length p) l))) q good in
+        subst (λ (b : Bool). Good M l e (viewOf (x .station) (x .store)) slot r (cond b (unchanged l) (bookPiece M slot k (field % 65536) (length p) l))) q good in
         record {
           event = eventFor slot r;
-          joint = subst (λ (v : View). Joint M l v (bookPiece M slot k (field % 65536) (length p) l .ledger) (eventFor slot r) (bookPiece M slot k (field % 65536) (length p) l .out) e)
+          joint = subst (λ (v : View). Joint M l v (bookPiece M slot k (field % 65536) (length p) l .left) (eventFor slot r) (bookPiece M slot k (field % 65536) (length p) l .out) e)
               (sym (piece-view a slot r x here long)) g;
           events = events-append (x .words) (pieceEvents a (x .station) slot r)
-              ∙ ap (λ (es : List Event). eventsIn (x .words) ++ es)
+              ∙ ap (λ (es : List Event2). eventsIn (x .words) ++ es)
               (piece-events a (x .station) slot r low (joint-fit M l _ _ slot r (bookPiece M slot k (field % 65536) (length p) l .out) e g));
           long = piece-long a slot r x here long;
         }
 
     -- marked or not, by whether it was kept
     taken-read : x .frame < 64 → hasBit (x .unkept) (x .frame) ≡ false
-        → Read M l e x (takenPiece a slot r x) (cond (not (hasBit (takenPiece a slot r x .unkept) (x .frame))) (bookPiece M slot k (field % 65536) (length p) l) (nothing l))
+        → Read M l e x (takenPiece a slot r x) (cond (not (hasBit (takenPiece a slot r x .unkept) (x .frame))) (bookPiece M slot k (field % 65536) (length p) l) (unchanged l))
     taken-read few clear =
-        cond-keeps (λ (y : Reading). Read M l e x y (cond (not (hasBit (y .unkept) (x .frame))) (bookPiece M slot k (field % 65536) (length p) l) (nothing l)))
+        cond-keeps (λ (y : Reading). Read M l e x y (cond (not (hasBit (y .unkept) (x .frame))) (bookPiece M slot k (field % 65536) (length p) l) (unchanged l)))
         (r .lost) (unkeptAt x) (keptPiece a slot r x)
         (λ q.
-        subst (λ (t : Bool). Read M l e x (unkeptAt x) (cond (not t) (bookPiece M slot k (field % 65536) (length p) l) (nothing l)))
+        subst (λ (t : Bool). Read M l e x (unkeptAt x) (cond (not t) (bookPiece M slot k (field % 65536) (length p) l) (unchanged l)))
         (sym (with-same (x .unkept) (x .frame) few))
         (record { event = none; joint = record { tie = tie; handed = refl }; events = untouched x .events; long = long }))
         (λ q.
-        subst (λ (t : Bool). Read M l e x (keptPiece a slot r x) (cond (not t) (bookPiece M slot k (field % 65536) (length p) l) (nothing l)))
+        subst (λ (t : Bool). Read M l e x (keptPiece a slot r x) (cond (not t) (bookPiece M slot k (field % 65536) (length p) l) (unchanged l)))
         (sym clear) (kept-read q))
 
   -- the frame f, whose number is k; u and b are the book's answers for it
@@ -222,9 +223,9 @@ module _ (M : Sent) (small : (s k : ℕ) → length (M s k) ≤ 2046) (a : Air) 
     control-read slot p =
         cond-keeps (Untouched x) (eqb (length p) 0) x _ (λ _. untouched x) (λ _. control-untouched a slot (getD p 0 0) (length p) p x)
 
-    abbrev entry : ℕ → ℕ → List ℕ → Bool → Bool → Reading → Entered
+    abbrev entry : ℕ → ℕ → List ℕ → Bool → Bool → Reading → Entered Ledger
     entry flags field p up member y =
-        cond (up && member && not (hasBit (y .unkept) (x .frame))) (bookPiece M (flags % 64) k (field % 65536) (length p) l) (nothing l)
+        cond (up && member && not (hasBit (y .unkept) (x .frame))) (bookPiece M (flags % 64) k (field % 65536) (length p) l) (unchanged l)
 
     up-read : (flags field : ℕ) (p : List ℕ) → (isMember (x .station .used) (flags % 64) ≡ true → PieceOk M l (flags % 64) k field p)
         → Read M l e x (pieceFrame a (flags % 64) field p x) (entry flags field p true (isMember (x .station .used) (flags % 64)) (pieceFrame a (flags % 64) field p x))

@@ -13,10 +13,10 @@ use Rattle.words.specs.Words.{Heard}
 use Rattle.frames.specs.declared.Air.{Air}
 use Rattle.frames.specs.Reading.{Reading}
 use Rattle.frames.specs.Frames.{readFrame, frameStep, readFrames}
-use Rattle.promise.specs.Book.{Sent, Message, Ledger, Event, Handed, same, alsoHanded, bookFrame, bookFrames, alsoOne, enter, enterAll, eventsIn, FrameOk, FramesOk, Pairs, Later, Rising, Once}
+use Rattle.promise.specs.Promise.{Sent, Message, Ledger, Entered, same, alsoHanded, bookFrame, bookFrames, Event2, eventsIn, enter, enterAll, FrameOk, FramesOk, Pairs, Later, Rising, Once}
 use Rattle.promise.proofs.Ledgers.{same-true, same-self, handed-self, handed-other}
 use Rattle.promise.proofs.Ties.{View, Tie}
-use Rattle.promise.proofs.Pieces.{Joint}
+use Rattle.promise.proofs.Pieces.{alsoOne, Joint}
 use Rattle.promise.proofs.Quiet.{viewOf}
 use Rattle.promise.proofs.QuietRx.{untouched}
 use Rattle.promise.proofs.Readings.{Read, frame-runs, frame-read}
@@ -31,7 +31,7 @@ pub once-append : (ms xs : List Message) (f : ℕ → ℕ → Bool) → Once ms 
 once-append [] xs f o p = p
 once-append (m ∷ ms) xs f o p = (o .0, once-append ms xs (alsoHanded (m .slot) (m .number) f) (o .1) p)
 
-pub record Received (M : Sent) (es : List Event) (ms : List Message) (v : View) (l : Ledger) (f : ℕ → ℕ → Bool) (e : ℕ → Option Message) : Type 0 where
+pub record Received (M : Sent) (es : List Event2) (ms : List Message) (v : View) (l : Ledger) (f : ℕ → ℕ → Bool) (e : ℕ → Option Message) : Type 0 where
   pub tie : Tie M v l (enterAll es ms e)
   pub pairs : Pairs es ms e
   pub rising : Rising ms
@@ -58,32 +58,33 @@ later-of m (x ∷ xs) f o h = (
 )
 
 -- the book's entries after a frame
-abbrev entryAfter : Option Event → Option Message → (ℕ → Option Message) → ℕ → Option Message
-entryAfter none none e = e
-entryAfter none (some m) e = e
-entryAfter (some x) none e = e
-entryAfter (some x) (some m) e = enter (x .cell) (some m) e
+abbrev entryAfter : Option Event2 → List Message → (ℕ → Option Message) → ℕ → Option Message
+entryAfter none ms e = e
+entryAfter (some x) [] e = e
+entryAfter (some x) (m ∷ ms) e = enter (x .cell) (some m) e
 
-joint-tie : (M : Sent) (l : Ledger) (e : ℕ → Option Message) (x : Option Event) (n : Option Message) (v : View) (l′ : Ledger)
+joint-tie : (M : Sent) (l : Ledger) (e : ℕ → Option Message) (x : Option Event2) (n : List Message) (v : View) (l′ : Ledger)
     → Joint M l v l′ x n e → Tie M v l′ (entryAfter x n e)
-joint-tie M l e none none v l′ j = j .tie
-joint-tie M l e none (some m) v l′ j = absurd j
-joint-tie M l e (some x) none v l′ j = absurd j
-joint-tie M l e (some x) (some m) v l′ j = j .tie
+joint-tie M l e none [] v l′ j = j .tie
+joint-tie M l e none (m ∷ ms) v l′ j = absurd j
+joint-tie M l e (some x) [] v l′ j = absurd j
+joint-tie M l e (some x) (m ∷ []) v l′ j = j .tie
+joint-tie M l e (some x) (m ∷ n ∷ ms) v l′ j = absurd j
 
-combine : (M : Sent) (l : Ledger) (e : ℕ → Option Message) (x : Option Event) (n : Option Message) (v₁ : View) (l₁ : Ledger)
-    → Joint M l v₁ l₁ x n e → (es : List Event) (ms : List Message) (v₂ : View) (l₂ : Ledger)
+combine : (M : Sent) (l : Ledger) (e : ℕ → Option Message) (x : Option Event2) (n : List Message) (v₁ : View) (l₁ : Ledger)
+    → Joint M l v₁ l₁ x n e → (es : List Event2) (ms : List Message) (v₂ : View) (l₂ : Ledger)
     → Received M es ms v₂ l₂ (l₁ .handed) (entryAfter x n e)
-    → Received M (alsoOne x es) (alsoOne n ms) v₂ l₂ (l .handed) e
-combine M l e none none v₁ l₁ j es ms v₂ l₂ r =
+    → Received M (alsoOne x es) (n ++ ms) v₂ l₂ (l .handed) e
+combine M l e none [] v₁ l₁ j es ms v₂ l₂ r =
     subst (λ (f : ℕ → ℕ → Bool). Received M es ms v₂ l₂ f e) (j .handed) r
-combine M l e none (some m) v₁ l₁ j es ms v₂ l₂ r = absurd j
-combine M l e (some v) none v₁ l₁ j es ms v₂ l₂ r = absurd j
-combine M l e (some v) (some m) v₁ l₁ j es ms v₂ l₂ x =
+combine M l e none (m ∷ n) v₁ l₁ j es ms v₂ l₂ r = absurd j
+combine M l e (some v) [] v₁ l₁ j es ms v₂ l₂ r = absurd j
+combine M l e (some v) (m ∷ n ∷ ns) v₁ l₁ j es ms v₂ l₂ r = absurd j
+combine M l e (some v) (m ∷ []) v₁ l₁ j es ms v₂ l₂ x =
     let o : Once ms (alsoHanded (m .slot) (m .number) (l .handed)) = subst (Once ms) (j .handed) (x .once) in
     record {
       tie = x .tie;
-      pairs = (j .names, j .bare, x .pairs);
+      pairs = (j .slot, j .number, j .bare, x .pairs);
       rising = (later-of m ms (alsoHanded (m .slot) (m .number) (l .handed)) o lower, x .rising);
       once = (j .new, o);
       after = x .after ∙ ap (allHanded ms) (j .handed);
@@ -163,22 +164,22 @@ module _ (a : Air) where
 
 -- ---- all of them
 
-pub record Reads (M : Sent) (l : Ledger) (e : ℕ → Option Message) (x y : Reading) (h : Handed) : Type 0 where
-  pub events : List Event
+pub record Reads (M : Sent) (l : Ledger) (e : ℕ → Option Message) (x y : Reading) (h : Entered Ledger) : Type 0 where
+  pub events : List Event2
   pub words : eventsIn (y .words) ≡ eventsIn (x .words) ++ events
-  pub got : Received M events (h .out) (viewOf (y .station) (y .store)) (h .ledger) (l .handed) e
+  pub got : Received M events (h .out) (viewOf (y .station) (y .store)) (h .left) (l .handed) e
   pub long : length (y .station .members) ≡ 62
 
-join-one : (x : Option Event) (es : List Event) → alsoOne x [] ++ es ≡ alsoOne x es
+join-one : (x : Option Event2) (es : List Event2) → alsoOne x [] ++ es ≡ alsoOne x es
 join-one none es = refl
 join-one (some v) es = refl
 
-words-join : (first : List Event) (x : Option Event) (es mid last : List Event) → last ≡ mid ++ es → mid ≡ first ++ alsoOne x [] → last ≡ first ++ alsoOne x es
+words-join : (first : List Event2) (x : Option Event2) (es mid last : List Event2) → last ≡ mid ++ es → mid ≡ first ++ alsoOne x [] → last ≡ first ++ alsoOne x es
 words-join first x es mid last p q =
     p
-    ∙ ap (λ (w : List Event). w ++ es) q
+    ∙ ap (λ (w : List Event2). w ++ es) q
     ∙ append-assoc first (alsoOne x []) es
-    ∙ ap (λ (w : List Event). first ++ w) (join-one x es)
+    ∙ ap (λ (w : List Event2). first ++ w) (join-one x es)
 
 module _ (M : Sent) (small : (s k : ℕ) → length (M s k) ≤ 2046) (a : Air) (numbers : List ℕ) where
   -- one frame, with the book's answers for it
@@ -216,13 +217,13 @@ module _ (M : Sent) (small : (s k : ℕ) → length (M s k) ≤ 2046) (a : Air) 
       let q : hasBit (x′ .unkept) i ≡ hasBit (y .unkept) i = sym (mask-stays a fs x′ i (omega arith)) in
       let n = bookFrame M f (getD numbers i 0) (getD (y .seen) i 0) (hasBit (y .unkept) i) l in
       let g : Read M l e x x′ n = step-read f x i l e r (omega arith) tie long (getD (y .seen) i 0) (hasBit (y .unkept) i) p q (ok .0) in
-      let h = bookFrames M fs (i + 1) numbers (y .seen) (y .unkept) (n .ledger) in
-      let z = frames-read fs x′ (i + 1) (n .ledger) (entryAfter (g .event) (n .out) e) r′ (omega arith)
-      (joint-tie M l e (g .event) (n .out) (viewOf (x′ .station) (x′ .store)) (n .ledger) (g .joint)) (g .long) (ok .1) in
+      let h = bookFrames M fs (i + 1) numbers (y .seen) (y .unkept) (n .left) in
+      let z = frames-read fs x′ (i + 1) (n .left) (entryAfter (g .event) (n .out) e) r′ (omega arith)
+      (joint-tie M l e (g .event) (n .out) (viewOf (x′ .station) (x′ .store)) (n .left) (g .joint)) (g .long) (ok .1) in
       record {
         events = alsoOne (g .event) (z .events);
         words = words-join (eventsIn (x .words)) (g .event) (z .events) (eventsIn (x′ .words)) (eventsIn (y .words)) (z .words) (g .events);
-        got = combine M l e (g .event) (n .out) (viewOf (x′ .station) (x′ .store)) (n .ledger) (g .joint) (z .events) (h .out)
-            (viewOf (y .station) (y .store)) (h .ledger) (z .got);
+        got = combine M l e (g .event) (n .out) (viewOf (x′ .station) (x′ .store)) (n .left) (g .joint) (z .events) (h .out)
+            (viewOf (y .station) (y .store)) (h .left) (z .got);
         long = z .long;
       }

@@ -4,7 +4,7 @@ use mathlib.Core.Path.{_≡_, refl, sym, ap, _∙_, subst}
 use mathlib.Core.Logic.{_⊎_, inl, inr, ⊎-elim}
 use Prim.Native.Nat.{ℕ, zero, suc, _<_}
 use native.Mathlib.Omega.{arith}
-use mathlib.Core.Bool.{Bool, true, false, cond, _&&_}
+use mathlib.Core.Bool.{Bool, true, false, cond, _&&_, _||_}
 use mathlib.Core.List.{List, [], _∷_}
 use lib.ListN.{length, getD, set, replicate, length-replicate, length-set}
 use lib.Seq.{getD-set-same, getD-set-other}
@@ -16,13 +16,17 @@ use Rattle.bits.proofs.Laws.{has-none, with-same, with-other}
 use Rattle.roster.specs.declared.Member.{Member}
 use Rattle.roster.specs.Members.{noMember}
 use Rattle.net.specs.declared.Station.{Station}
-use Rattle.net.specs.State.{indexOf}
+use Rattle.net.specs.State.{indexOf, memberAt}
 use Rattle.net.specs.Net.{isMember}
 use Rattle.net.proofs.Laws.{index-is, member-lt, member-is, member-has}
-use Rattle.promise.specs.Links.{Link, absent, root, via, linkVia, leads, LinksHold}
-use Rattle.promise.proofs.Trees.{Real, Tree, NewLink, tree-leads, tree-cut, tree-same, tree-hang, tree-new, tree-none}
+use Rattle.promise.specs.Promise.{leads, LinksHold}
+use Rattle.promise.proofs.Trees.{Link, absent, root, via, onLink, leadsBy, Real, Tree, NewLink, tree-leads, tree-cut, tree-same, tree-hang, tree-new, tree-none}
 
 -- ---- the invariant
+
+-- a relay of 63 is none
+abbrev pub linkVia : ℕ → Link
+linkVia relay = cond (eqb relay 63) root (via relay)
 
 -- the links of a roster, by its mask of used slots and its members
 abbrev pub linkIn : ℕ → List Member → ℕ → Link
@@ -50,9 +54,28 @@ is-true : (b : Bool) → T b → b ≡ true
 is-true true t = refl
 is-true false t = absurd t
 
+-- the steps of the statement are steps along these links
+leads-is : (s : Station) (k i : ℕ) → leads s k i ≡ leadsBy (linkIn (s .used) (s .members)) k i
+unfolding leads leadsBy
+leads-is s zero i = at (isMember (s .used) i) (eqb (memberAt s i .via) 63)
+  where
+    at : (b c : Bool) → b && c ≡ onLink (cond b (cond c root (via (memberAt s i .via))) absent) (λ r. false)
+    at true true = refl
+    at true false = refl
+    at false c = refl
+leads-is s (suc k) i = at (isMember (s .used) i) (eqb (memberAt s i .via) 63) (leads-is s k (memberAt s i .via))
+  where
+    at : (b c : Bool) → leads s k (memberAt s i .via) ≡ leadsBy (linkIn (s .used) (s .members)) k (memberAt s i .via)
+        → b && (c || leads s k (memberAt s i .via))
+        ≡ onLink (cond b (cond c root (via (memberAt s i .via))) absent) (λ r. leadsBy (linkIn (s .used) (s .members)) k r)
+    at true true q = refl
+    at true false q = q
+    at false c q = refl
+
 pub kept-holds : (s : Station) → Keeps s → LinksHold s
 kept-holds s k i h =
-    is-true (leads (linkIn (s .used) (s .members)) 61 i)
+    leads-is s 61 i
+    ∙ is-true (leadsBy (linkIn (s .used) (s .members)) 61 i)
     (tree-leads (k .tree) i (member-lt (s .used) i h) (real-member (s .used) (s .members) i h))
 
 -- ---- no members

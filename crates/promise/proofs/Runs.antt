@@ -32,8 +32,7 @@ use Rattle.rx.specs.Reception.{ncsRx}
 use Rattle.config.specs.declared.Given.{Given}
 use Rattle.config.specs.Checks.{settingsOk, settingsOf, thresholdsOk}
 use Rattle.station.specs.Entries.{unless, done, startRefusal, startOf, admitRefusal, admitOf, receiveRefusal, receiveOf, nextRefusal, nextOf, cellRefusal, readRefusal, readingOf, freeOf}
-use Rattle.promise.specs.Calls.{handed, Call, admission, reception, decision, reading, freeing, Net, net, outcome, step, after, started}
-use Rattle.promise.specs.Book.{Sent, emptyBook, cover, alsoHanded, allBelow, bookFrame, bookFrames, eventsIn, answersOf, handedIn, CallsOk, Messages}
+use Rattle.promise.specs.Promise.{handed, Net, net, Call, admission, reception, decision, reading, freeing, result, outcome, step, after, started, Sent, emptyBook, cover, alsoHanded, allBelow, bookFrame, bookFrames, eventsIn, answersOf, CallsOk, handedIn, Messages}
 use Rattle.promise.proofs.Item3.{item-3}
 
 -- ---- a start
@@ -97,7 +96,7 @@ hi-calls = joins ∷ hi ∷ refused ∷ reading 0 handed ∷ freeing 0 ∷ readi
 
 -- whatever the net, this call changes nothing
 pub refused-same : (n : Net) → step refused n ≡ n
-unfolding step outcome nextOf nextRefusal
+unfolding step result nextOf nextRefusal
 refused-same n = refl
 
 -- before the admission the piece is no boat's: neither marked nor taken by the book
@@ -111,7 +110,7 @@ pub record HiRun (g : Settings) : Type 0 where
   pub freed : outcome (reading 0 handed) (after (joins ∷ hi ∷ freeing 0 ∷ []) (one-cell g)) .refusal ≡ 22
 
 pub hi-run : (g : Settings) → HiRun g
-unfolding step after outcome admitOf admitRefusal newStation seatOf findCall first lowestFree hasBit withBit withoutBit leadsTo unpacked digit char trimStart trimEnd receiveOf receiveRefusal parse headOk framesOf itemAt frameOf payload unpack payloadOk wordOk pack framesWords ncsRx readFrames frameStep readFrame pieceFrame replyEnd isMember accept widened widenedAt ownCell putOf cells.accept settle grow seek next slideOf stop eventsIn handedIn bookFrames bookFrame cover alsoHanded allBelow nextOf nextRefusal readRefusal cellRefusal readingOf freeOf
+unfolding step after result admitOf admitRefusal newStation seatOf findCall first lowestFree hasBit withBit withoutBit leadsTo unpacked digit char trimStart trimEnd receiveOf receiveRefusal parse headOk framesOf itemAt frameOf payload unpack payloadOk wordOk pack framesWords ncsRx readFrames frameStep readFrame pieceFrame replyEnd isMember accept widened widenedAt ownCell putOf cells.accept settle grow seek next slideOf stop eventsIn handedIn bookFrames bookFrame cover alsoHanded allBelow nextOf nextRefusal readRefusal cellRefusal readingOf freeOf
 hi-run g = record { stranger = refl; unbooked = refl; member = refl; answers = refl; book = refl; read = refl; freed = refl }
 
 -- the premises hold of these calls
@@ -123,7 +122,7 @@ pub near : (k n : ℕ) → k ≤ 1 → (1 < n → ⊥) → (n ≤ k + 128) × (k
 near k n a z = ⊎-elim (λ b. (omega arith, omega arith)) (λ b. absurd (z b)) (le-or-lt n 1)
 
 pub hi-ok : (g : Settings) → CallsOk all-hi hi-calls (one-cell g) emptyBook
-unfolding CallsOk step after outcome admitOf admitRefusal newStation seatOf findCall first lowestFree hasBit withBit withoutBit leadsTo unpacked digit char trimStart trimEnd receiveOf receiveRefusal parse headOk framesOf itemAt frameOf payload unpack payloadOk wordOk pack framesWords ncsRx readFrames frameStep readFrame pieceFrame replyEnd isMember accept widened widenedAt ownCell putOf cells.accept settle grow seek next slideOf stop eventsIn handedIn bookFrames bookFrame cover alsoHanded allBelow nextOf nextRefusal readRefusal cellRefusal readingOf freeOf
+unfolding CallsOk step after result admitOf admitRefusal newStation seatOf findCall first lowestFree hasBit withBit withoutBit leadsTo unpacked digit char trimStart trimEnd receiveOf receiveRefusal parse headOk framesOf itemAt frameOf payload unpack payloadOk wordOk pack framesWords ncsRx readFrames frameStep readFrame pieceFrame replyEnd isMember accept widened widenedAt ownCell putOf cells.accept settle grow seek next slideOf stop eventsIn handedIn bookFrames bookFrame cover alsoHanded allBelow nextOf nextRefusal readRefusal cellRefusal readingOf freeOf
 hi-ok g = (
   tt,
   (
@@ -174,11 +173,11 @@ pub record PieceRun (g : Settings) : Type 0 where
   pub read : readingOf (after piece-calls (one-cell g) .station) (after piece-calls (one-cell g) .store) 0 ≡ 104 ∷ 105 ∷ []
 
 pub piece-run : (g : Settings) → PieceRun g
-unfolding step after outcome admitOf admitRefusal newStation seatOf findCall first lowestFree hasBit withBit withoutBit leadsTo unpacked digit char trimStart trimEnd receiveOf receiveRefusal parse headOk framesOf itemAt frameOf payload unpack payloadOk wordOk pack framesWords ncsRx readFrames frameStep readFrame pieceFrame replyEnd isMember accept widened widenedAt ownCell putOf cells.accept settle grow store await seek next slideOf markOf stop eventsIn handedIn bookFrames bookFrame cover alsoHanded allBelow nextOf nextRefusal readRefusal cellRefusal readingOf freeOf
+unfolding step after result admitOf admitRefusal newStation seatOf findCall first lowestFree hasBit withBit withoutBit leadsTo unpacked digit char trimStart trimEnd receiveOf receiveRefusal parse headOk framesOf itemAt frameOf payload unpack payloadOk wordOk pack framesWords ncsRx readFrames frameStep readFrame pieceFrame replyEnd isMember accept widened widenedAt ownCell putOf cells.accept settle grow store await seek next slideOf markOf stop eventsIn handedIn bookFrames bookFrame cover alsoHanded allBelow nextOf nextRefusal readRefusal cellRefusal readingOf freeOf
 piece-run g = record { full = refl; freed = refl; book = refl; read = refl }
 
 pub piece-ok : (g : Settings) → CallsOk all-hi piece-calls (one-cell g) emptyBook
-unfolding CallsOk step after outcome admitOf admitRefusal newStation seatOf findCall first lowestFree hasBit withBit withoutBit leadsTo unpacked digit char trimStart trimEnd receiveOf receiveRefusal parse headOk framesOf itemAt frameOf payload unpack payloadOk wordOk pack framesWords ncsRx readFrames frameStep readFrame pieceFrame replyEnd isMember accept widened widenedAt ownCell putOf cells.accept settle grow store await seek next slideOf markOf stop eventsIn handedIn bookFrames bookFrame cover alsoHanded allBelow nextOf nextRefusal readRefusal cellRefusal readingOf freeOf
+unfolding CallsOk step after result admitOf admitRefusal newStation seatOf findCall first lowestFree hasBit withBit withoutBit leadsTo unpacked digit char trimStart trimEnd receiveOf receiveRefusal parse headOk framesOf itemAt frameOf payload unpack payloadOk wordOk pack framesWords ncsRx readFrames frameStep readFrame pieceFrame replyEnd isMember accept widened widenedAt ownCell putOf cells.accept settle grow store await seek next slideOf markOf stop eventsIn handedIn bookFrames bookFrame cover alsoHanded allBelow nextOf nextRefusal readRefusal cellRefusal readingOf freeOf
 piece-ok g = (
   tt,
   (

@@ -32,7 +32,7 @@ use Rattle.rx.specs.Ending.{busyWait, idleEnd, replyEnd, nothingMore, Ended}
 use Rattle.rx.specs.Reception.{Received, airOf, firstReading, receivedOf, ncsRx}
 use Rattle.config.specs.declared.Given.{Given}
 use Rattle.station.specs.Entries.{Outcome, receiveBy, receiveRefusal, check1, check2, check3, receiveOf, startRefusal, cellRefusal, freeOf}
-use Rattle.promise.specs.Calls.{Lent, Call, admission, reception, decision, sending, closing, reading, freeing, Net, net, lentTo, outcome, isRefused, storeAfter, step, after, started}
+use Rattle.promise.specs.Promise.{Lent, lentTo, Net, net, Call, admission, reception, decision, sending, closing, reading, freeing, result, outcome, isRefused, step, after, started}
 use Rattle.promise.proofs.Ties.{View}
 use Rattle.promise.proofs.Pieces.{windowsAfter}
 use Rattle.promise.proofs.Quiet.{windowAt, Keeps, kept-self, viewOf, kept-view}
@@ -213,13 +213,13 @@ module _ (n : Net) (words : List ℕ) (snr now : Float) (st : List ℕ) (room : 
 -- ---- the calls
 
 module _ (c : Call) (n : Net) (f : Fit n) where
-  quiet-fit : Keeps (n .station) (outcome c n .station) → storeAfter c n ≡ n .store → Fit (step c n)
+  quiet-fit : Keeps (n .station) (outcome c n .station) → result c n .store ≡ n .store → Fit (step c n)
   unfolding step
   quiet-fit k q =
       record {
         view = subst FitView
             (sym
-            (ap (viewOf (outcome c n .station)) (same-cond (isRefused c n) (n .store) (storeAfter c n) (sym q))
+            (ap (viewOf (outcome c n .station)) (same-cond (isRefused c n) (n .store) (result c n .store) (sym q))
             ∙ kept-view (n .station) (outcome c n .station) (n .store) k)) (f .view);
         long = k .long ∙ f .long;
       }
@@ -232,22 +232,23 @@ free-fit s store cell f =
     (λ _. record { view = f .view; long = f .long })
 
 freeing-fit : (cell : ℕ) (n : Net) → Fit n → Fit (step (freeing cell) n)
-unfolding step outcome
+unfolding step result
 freeing-fit cell n f =
     subst (λ (store : List ℕ). Fit (net (freeOf (n .station) cell .station) store)) (sym (same-cond (isRefused (freeing cell) n) (n .store) (n .store) refl))
     (free-fit (n .station) (n .store) cell (record { view = f .view; long = f .long }))
 
 reception-fit : (words : List ℕ) (snr now : Float) (lent : Lent) (room : ℕ) (numbers : List ℕ) (n : Net) → Fit n → Fit (step (reception words snr now lent room numbers) n)
-unfolding step outcome
+unfolding step result
 reception-fit words snr now lent room numbers n f = receive-fit n words snr now (lentTo lent (n .store)) room f
 
 pub step-fit : (c : Call) (n : Net) → Fit n → Fit (step c n)
+unfolding result
 step-fit (admission packed relay now room) n f =
-    quiet-fit (admission packed relay now room) n f (unfold outcome in admission-kept (n .station) packed relay now room) refl
+    quiet-fit (admission packed relay now room) n f (admission-kept (n .station) packed relay now room) refl
 step-fit (reception words snr now lent room numbers) n f = reception-fit words snr now lent room numbers n f
-step-fit (decision now room) n f = quiet-fit (decision now room) n f (unfold outcome in decision-kept (n .station) now room) refl
-step-fit (sending now) n f = quiet-fit (sending now) n f (unfold outcome in sending-kept (n .station) now) refl
-step-fit (closing count) n f = quiet-fit (closing count) n f (unfold outcome in closing-kept (n .station) count) refl
+step-fit (decision now room) n f = quiet-fit (decision now room) n f (decision-kept (n .station) now room) refl
+step-fit (sending now) n f = quiet-fit (sending now) n f (sending-kept (n .station) now) refl
+step-fit (closing count) n f = quiet-fit (closing count) n f (closing-kept (n .station) count) refl
 step-fit (reading cell lent) n f = quiet-fit (reading cell lent) n f (reading-kept cell lent n) refl
 step-fit (freeing cell) n f = freeing-fit cell n f
 

@@ -4,7 +4,7 @@ use mathlib.Core.Bool.{Bool, true, false}
 use mathlib.Core.Option.{Option, none, some}
 use mathlib.Core.List.{List}
 use mathlib.Core.Logic.{_⊎_, ⊎-elim}
-use Prim.Native.Nat.{ℕ, _+_, _-_, _/_, _%_, _^_, _≤_, _<_}
+use Prim.Native.Nat.{ℕ, _+_, _/_, _%_, _^_, _≤_, _<_}
 use native.Mathlib.Omega.{arith}
 use lib.ListN.{length, getD}
 use Rattle.bits.specs.Mask.{hasBit}
@@ -23,7 +23,7 @@ use Rattle.stream.specs.Table.{Table, cellAt, ownerOf, isOwn, cellCount, placeO
 use Rattle.stream.proofs.Rooms.{filling-own, RoomIs, cells-are}
 use Rattle.stream.proofs.Tables.{filling, Tidy, table-room}
 use Rattle.stream.proofs.Windows.{Sound}
-use Rattle.promise.specs.Book.{Sent, Message, Ledger, same, allBelow}
+use Rattle.promise.specs.Promise.{Sent, Message, Ledger, same, allBelow}
 use Rattle.promise.proofs.Ledgers.{Cov, same-true, same-self, empty-inv}
 
 -- the cells, the store, and for each slot its window

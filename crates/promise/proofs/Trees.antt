@@ -5,11 +5,10 @@ use mathlib.Core.Logic.{_⊎_, inl, inr}
 use Prim.Native.Nat.{ℕ, zero, suc, _≤_, _<_}
 use native.Mathlib.Omega.{arith}
 use native.Mathlib.Decide.{ℕ-discrete}
-use mathlib.Core.Bool.{false}
+use mathlib.Core.Bool.{Bool, true, false}
 use mathlib.Core.List.{List, [], _∷_, _++_}
 use lib.ListN.{length, length-append}
 use lib.Dec.{T}
-use Rattle.promise.specs.Links.{Link, absent, root, via, onLink, leads}
 
 -- ---- lists of slots
 
@@ -85,6 +84,25 @@ last-le : (r : ℕ) (l : List ℕ) → In r l → length (last r l) ≤ length l
 unfolding last
 last-le r l h = rw length-append (omega (arith, less-lt r l h))
 
+-- ---- links
+
+-- what stands in a slot: no member, one without a relay, or one with a relay slot
+pub data Link : Type 0 where
+  absent : Link
+  root : Link
+  via : ℕ → Link
+
+-- no member leads nowhere, one without a relay is there, and one with a relay slot leads on
+abbrev pub onLink : Link → (ℕ → Bool) → Bool
+onLink absent on = false
+onLink root on = true
+onLink (via r) on = on r
+
+-- from slot i to a member without a relay, in at most k steps
+unfoldable pub leadsBy : (ℕ → Link) → ℕ → ℕ → Bool
+leadsBy f zero i = onLink (f i) (λ r. false)
+leadsBy f (suc k) i = onLink (f i) (λ r. leadsBy f k r)
+
 -- ---- links that lead only to later slots of an order
 
 abbrev pub Real : Link → Type 0
@@ -116,8 +134,8 @@ in-pos : (x : ℕ) (l : List ℕ) → In x l → 1 ≤ length l
 in-pos x [] h = absurd h
 in-pos x (y ∷ l) h = omega arith
 
-lead : (f : ℕ → Link) → RelMem f → (l : List ℕ) → Good f l → (k : ℕ) → length l ≤ suc k → (x : ℕ) → In x l → Real (f x) → T (leads f k x)
-unfolding leads
+lead : (f : ℕ → Link) → RelMem f → (l : List ℕ) → Good f l → (k : ℕ) → length l ≤ suc k → (x : ℕ) → In x l → Real (f x) → T (leadsBy f k x)
+unfolding leadsBy
 lead f rm [] g k h x m re = absurd m
 lead f rm (y ∷ l) g k h x (inr m) re = lead f rm l (g .1) k (omega arith) x m re
 lead f rm (y ∷ l) g zero h x (inl e) re = top (f x) (subst (λ (z : ℕ). Ok (f z) l) (sym e) (g .0)) re
@@ -129,7 +147,7 @@ lead f rm (y ∷ l) g zero h x (inl e) re = top (f x) (subst (λ (z : ℕ). Ok (
 lead f rm (y ∷ l) g (suc k) h x (inl e) re =
     top (f x) refl (subst (λ (z : ℕ). Ok (f z) l) (sym e) (g .0)) re (λ (q : ℕ) (m : In q l) (r : Real (f q)). lead f rm l (g .1) k (omega arith) q m r)
   where
-    top : (w : Link) → f x ≡ w → Ok w l → Real w → ((q : ℕ) → In q l → Real (f q) → T (leads f k q)) → T (onLink w (λ r. leads f k r))
+    top : (w : Link) → f x ≡ w → Ok w l → Real w → ((q : ℕ) → In q l → Real (f q) → T (leadsBy f k q)) → T (onLink w (λ r. leadsBy f k r))
     top absent p o re ih = re
     top root p o re ih = tt
     top (via q) p o re ih = ih q o (rm x q p)
@@ -143,7 +161,7 @@ pub record Tree (f : ℕ → Link) : Type 0 where
   good : Good f order
   members : RelMem f
 
-pub tree-leads : {f : ℕ → Link} → Tree f → (i : ℕ) → i < 62 → Real (f i) → T (leads f 61 i)
+pub tree-leads : {f : ℕ → Link} → Tree f → (i : ℕ) → i < 62 → Real (f i) → T (leadsBy f 61 i)
 tree-leads {f} t i h re = lead f (t .members) (t .order) (t .good) 61 (t .short) i (t .all i h) re
 
 real-at : {v w : Link} → v ≡ w → Real w → Real v
@@ -211,7 +229,7 @@ tree-hang f f′ r b e h t =
     rel x q p (inl u) = back q (h q) (t .members x q (cc))
     rel x q p (inr u) = let z : q ≡ r = cc in rw z (rw e tt)
 
--- a new member goes to the front: no relay leads to it yet
+-- a new member goes to the front: no relay leadsBy to it yet
 abbrev pub NewLink : (ℕ → Link) → Link → Type 0
 NewLink f absent = ⊥
 NewLink f root = Unit {0}

@@ -3,6 +3,7 @@ use mathlib.Core.Path.{_≡_, refl, sym, ap, _∙_, subst}
 use Prim.Native.Nat.{ℕ, _/_}
 use mathlib.Core.Bool.{Bool, true, false, cond}
 use mathlib.Core.List.{List, [], _∷_, _++_, append-assoc, append-nil}
+use mathlib.Core.Option.{none}
 use lib.Dec.{eqb}
 use lib.Ieee.{Float}
 use lib.ListN.{length}
@@ -23,11 +24,10 @@ use Rattle.admit.specs.Admission.{seatOf, isFull, viaFor}
 use Rattle.next.specs.Next.{ncsNext}
 use Rattle.rx.specs.Reception.{ncsRx}
 use Rattle.station.specs.Entries.{Outcome, refused, done, unless, startRefusal, startOf, admitted, admitOf, receiveBy, receiveRefusal, receiveOf, nextOf, sentOf, closeOf, freeOf, readRefusal, check1, admitRefusal, nextRefusal, closeRefusal, cellRefusal}
-use Rattle.promise.specs.Calls.{lentTo, Call, admission, reception, decision, sending, closing, reading, freeing, Net, outcome, step, started}
-use Rattle.promise.specs.Turns.{Ev, burstsIn, slotsIn, overIf, drewIf, overBy, events, trace, emptyView, TurnsHold}
+use Rattle.promise.specs.Promise.{lentTo, Net, ofBurst, Call, admission, reception, decision, sending, closing, reading, freeing, result, outcome, step, started, TurnEvent, overIf, drewIf, burstsIn, turnEvents, trace, emptyView, TurnsHold}
 use Rattle.promise.proofs.Monitor.{Run, rest, turn, Acc, accepted}
 use Rattle.promise.proofs.TurnsWords.{Quiet, quiet-none}
-use Rattle.promise.proofs.TurnsLists.{Low, low-none, list-none}
+use Rattle.promise.proofs.TurnsLists.{slotsIn, Low, low-none, list-none}
 use Rattle.promise.proofs.TurnsKeeps.{admit-calm}
 use Rattle.promise.proofs.TurnsNext.{Rel, Fine, fine-none, fine-next}
 use Rattle.promise.proofs.TurnsRx as rx
@@ -35,10 +35,10 @@ use Rattle.promise.proofs.TurnsRx as rx
 -- ### Refused or not
 
 -- the events of a call that left o, with what stands before its burst and after it
-abbrev said : Outcome → List Ev → List Ev → List Ev
+abbrev said : Outcome → List TurnEvent → List TurnEvent → List TurnEvent
 said o xs ys = cond (cond (eqb (o .refusal) 0) false true) [] (xs ++ (burstsIn (o .words) ++ ys))
 
-fine-unless : (left : List ℕ) (r : Run) (n : ℕ) (s : Station) (store : List ℕ) (o : Outcome) (xs ys : List Ev)
+fine-unless : (left : List ℕ) (r : Run) (n : ℕ) (s : Station) (store : List ℕ) (o : Outcome) (xs ys : List TurnEvent)
     → Fine left r (o .station) (said o xs ys) → Fine left r s [] → Fine left r (unless n s store o .station) (said (unless n s store o) xs ys)
 fine-unless left r n s store o xs ys f g = go (eqb n 0) refl
   where
@@ -50,7 +50,7 @@ fine-unless left r n s store o xs ys f g = go (eqb n 0) refl
 fine-quiet : (left : List ℕ) (r : Run) (n : ℕ) (s t : Station) (store old ws : List ℕ) → Quiet ws → Fine left r t [] → Fine left r s []
     → Fine left r (unless n s store (done t old ws) .station) (said (unless n s store (done t old ws)) [] [])
 fine-quiet left r n s t store old ws q f g =
-    fine-unless left r n s store (done t old ws) [] [] (subst (λ (es : List Ev). Fine left r t (es ++ [])) (sym q) f) g
+    fine-unless left r n s store (done t old ws) [] [] (subst (λ (es : List TurnEvent). Fine left r t (es ++ [])) (sym q) f) g
 
 -- ### Each call
 
@@ -60,7 +60,7 @@ done-turn Sending v g here m t rest q e = tt
 done-turn Sending v g here m t (turn x p a) q e = absurd e
 done-turn (Waiting p) v g here m t r q e = e
 
-regroup : (xs ys zs : List Ev) → xs ++ (ys ++ zs) ≡ (xs ++ ys) ++ (zs ++ [])
+regroup : (xs ys zs : List TurnEvent) → xs ++ (ys ++ zs) ≡ (xs ++ ys) ++ (zs ++ [])
 regroup xs ys zs = simp (append-assoc, append-nil)
 
 module _ (r : Run) (n : Net) (e : Rel r (n .station .wait .turn)) (l : Low (n .station .round .list)) where
@@ -85,13 +85,13 @@ module _ (r : Run) (n : Net) (e : Rel r (n .station .wait .turn)) (l : Low (n .s
       (subst (λ (m : ℕ). Fine (slotsIn m) r t []) (c .list) (fine-none r t (subst (λ y. Rel r (y .turn)) (sym (c .wait)) e) (subst Low (sym (c .list)) l))) same
 
   receive-by : (b : Parsed Burst) (n : ℕ) (snr now : Float) (store : List ℕ)
-      → Fine left r (unless n s store (receiveBy b s snr now store) .station) (said (unless n s store (receiveBy b s snr now store)) [] (overBy b (λ b. ncsRx s b snr now store)))
+      → Fine left r (unless n s store (receiveBy b s snr now store) .station) (said (unless n s store (receiveBy b s snr now store)) [] (overIf (ofBurst b none (λ b. ncsRx s b snr now store .over))))
   receive-by malformed n snr now store = fine-unless left r n s store (refused 3 s store) [] [] same same
   receive-by (parsed b) n snr now store =
       fine-unless left r n s store (receiveBy (parsed b) s snr now store) [] (overIf (ncsRx s b snr now store .over)) (rx.fine-rx s b snr now store r e l .fine) same
 
   fine-receive : (words : List ℕ) (snr now : Float) (store : List ℕ) (room : ℕ)
-      → Fine left r (receiveOf s words snr now store room .station) (said (receiveOf s words snr now store room) [] (overBy (parse words) (λ b. ncsRx s b snr now store)))
+      → Fine left r (receiveOf s words snr now store room .station) (said (receiveOf s words snr now store room) [] (overIf (ofBurst (parse words) none (λ b. ncsRx s b snr now store .over))))
   unfolding receiveOf
   fine-receive words snr now store room = receive-by (parse words) (receiveRefusal room (length store) (s .count) now snr (parse words)) snr now store
 
@@ -101,7 +101,7 @@ module _ (r : Run) (n : Net) (e : Rel r (n .station .wait .turn)) (l : Low (n .s
   fine-decide now room =
       let d = ncsNext s now in
       fine-unless left r (nextRefusal now room) s [] (done (d .station) [] (d .words)) (overIf (d .over) ++ drewIf (d .drew)) []
-      (subst (λ (es : List Ev). Fine left r (d .station) es) (regroup (overIf (d .over)) (drewIf (d .drew)) (burstsIn (d .words))) (fine-next s now r e l)) same
+      (subst (λ (es : List TurnEvent). Fine left r (d .station) es) (regroup (overIf (d .over)) (drewIf (d .drew)) (burstsIn (d .words))) (fine-next s now r e l)) same
 
   fine-sending : (now : Float) → Fine left r (sentOf s now .station) (said (sentOf s now) [] [])
   unfolding sentOf onTxDone
@@ -124,8 +124,8 @@ module _ (r : Run) (n : Net) (e : Rel r (n .station .wait .turn)) (l : Low (n .s
       let t = withTable s (freedTable (tableOf s) cell) in
       fine-quiet left r (cellRefusal (s .count) (s .landed) cell) s t [] [] [] quiet-none (fine-none r t e l) same
 
-  fine-call : (c : Call) → Fine left r (outcome c n .station) (events c n)
-  unfolding outcome events
+  fine-call : (c : Call) → Fine left r (outcome c n .station) (turnEvents c n)
+  unfolding result turnEvents
   fine-call (admission packed relay now room) = fine-admit packed relay now room
   fine-call (reception words snr now lent room numbers) = fine-receive words snr now (lentTo lent (n .store)) room
   fine-call (decision now room) = fine-decide now room

@@ -11,8 +11,11 @@ use Rattle.bits.specs.declared.Found.the-variants as found
 use Rattle.bits.proofs.Lists.{never-both, eq-or-not, lt-or-le}
 use Rattle.bits.proofs.Laws.{has-none, without-same, without-other}
 use Rattle.bits.proofs.Loops.{first-at, first-found, first-before}
-use Rattle.promise.specs.Turns.{In, slotsIn}
-use Rattle.promise.proofs.Monitor.{NoDup}
+use Rattle.promise.proofs.Monitor.{In, NoDup}
+
+-- the slots of a list
+abbrev pub slotsIn : ℕ → List ℕ
+slotsIn mask = slotsOf mask 62 0
 
 -- the list has no slot from 62 on
 abbrev pub Low : ℕ → Type 0

@@ -35,10 +35,10 @@ use Rattle.next.specs.declared.Due.{Due}
 use Rattle.next.specs.declared.Due.the-variants.{Quiet, Close, Again, Missed}
 use Rattle.next.specs.Next.{Decision, silent, spoke, after, pollBy, pollStage, nextNumber, listFor, drawn, drawStage, reroutedStage, rerouteStage, listStage, roundEnd, actOf, actBy, actStage, windowStage, closeStage, againStage, turnOverIn, missedIn, missedEvent, missedStage, overdueOf, dueBy, dueTurn, dueOf, byDue, ncsNext}
 use Rattle.next.proofs.Keeps.{unsent}
-use Rattle.promise.specs.Turns.{Ev, drew, over, poll, other, burstsIn, slotsIn, overIf, drewIf}
+use Rattle.promise.specs.Promise.{TurnEvent, poll, overIf, drewIf, burstsIn}
 use Rattle.promise.proofs.Monitor.{Run, rest, turn, Acc}
 use Rattle.promise.proofs.TurnsWords as w
-use Rattle.promise.proofs.TurnsLists.{Low, list-once, front-low, front-off, low-without, list-none}
+use Rattle.promise.proofs.TurnsLists.{slotsIn, Low, list-once, front-low, front-off, low-without, list-none}
 use Rattle.promise.proofs.TurnsKeeps.{Calm, reroute-calm}
 
 -- ### The station and the monitor side by side
@@ -55,11 +55,11 @@ Rel (turn s p a) (Waiting r) =
 
 -- What a step returns, the station t and these events, where before it `left` was what is left of the list and r the monitor's turn: the
 -- monitor's turn after it, and that what follows is accepted from before the step if it is accepted from after it.
-pub record Fine (left : List ℕ) (r : Run) (t : Station) (es : List Ev) : Type 0 where
+pub record Fine (left : List ℕ) (r : Run) (t : Station) (es : List TurnEvent) : Type 0 where
   pub run : Run
   pub rel : Rel run (t .wait .turn)
   pub low : Low (t .round .list)
-  pub keeps : (k : List Ev) → Acc (slotsIn (t .round .list)) run k → Acc left r (es ++ k)
+  pub keeps : (k : List TurnEvent) → Acc (slotsIn (t .round .list)) run k → Acc left r (es ++ k)
 
 -- a decision in which no waiting ends
 pub record Stage (left : List ℕ) (r : Run) (d : Decision) : Type 0 where
@@ -79,16 +79,16 @@ unfolding burstsIn
 stage-silent s r e l = record { still = refl; fine = fine-none r s e l }
 
 -- a burst that is no poll and no acknowledgement, in a turn or not
-stage-other : (r : Run) (x : Said) → Rel r (x .station .wait .turn) → Low (x .station .round .list) → burstsIn (x .words) ≡ other ∷ []
+stage-other : (r : Run) (x : Said) → Rel r (x .station .wait .turn) → Low (x .station .round .list) → burstsIn (x .words) ≡ []
     → Stage (slotsIn (x .station .round .list)) r (spoke x)
 stage-other r x e l b =
     let left = slotsIn (x .station .round .list) in
-    record { still = refl; fine = record { run = r; rel = e; low = l; keeps = λ k h. subst (λ (es : List Ev). Acc left r (es ++ k)) (sym b) h } }
+    record { still = refl; fine = record { run = r; rel = e; low = l; keeps = λ k h. subst (λ (es : List TurnEvent). Acc left r (es ++ k)) (sym b) h } }
 
 -- words without a burst before it
 stage-after : {left : List ℕ} {r : Run} {d : Decision} (ws : List ℕ) → w.Quiet ws → Stage left r d → Stage left r (after ws d)
 stage-after {left} {r} {d} ws q f =
-    record { still = f .still; fine = subst (λ (es : List Ev). Fine left r (d .station) (drewIf (d .drew) ++ es)) (sym (w.quiet-first ws (d .words) q)) (f .fine) }
+    record { still = f .still; fine = subst (λ (es : List TurnEvent). Fine left r (d .station) (drewIf (d .drew) ++ es)) (sym (w.quiet-first ws (d .words) q)) (f .fine) }
 
 -- ### Poll
 
@@ -104,7 +104,7 @@ poll-stage (found.At slot) s e t l =
         run = turn slot 1 0;
         rel = (refl, omega arith, omega arith, omega arith, omega arith, low);
         low = low-without (s .round .list) l slot;
-        keeps = λ k h. subst (λ (es : List Ev). Acc (slotsIn (s .round .list)) rest (es ++ k)) (sym b)
+        keeps = λ k h. subst (λ (es : List TurnEvent). Acc (slotsIn (s .round .list)) rest (es ++ k)) (sym b)
             (subst (λ (m : List ℕ). Acc m rest (poll slot ∷ k)) (sym (front-off (s .round .list) l slot e)) (refl, h));
       };
     }
@@ -149,7 +149,7 @@ fine-draw s now t =
 
 -- ### Bursts with frames
 
-acks-other : (s : Station) → burstsIn (acksBurst s .words) ≡ other ∷ []
+acks-other : (s : Station) → burstsIn (acksBurst s .words) ≡ []
 unfolding acksBurst
 acks-other s =
     w.other-burst (leastReach s (ackedOrMoved s)) (chunkWords cAcks 18 (ackRows s (acked s) 62) ++ chunkWords cTree 20 (treeRows s (ackedOrMoved s) (movedIn s)))
@@ -160,7 +160,7 @@ fine-acks : (s : Station) → Low (s .round .list) → Stage (slotsIn (s .round 
 unfolding acksBurst
 fine-acks s l = stage-other rest (acksBurst s) tt l (acks-other s)
 
-beacon-other : (s : Station) (now : Float) → burstsIn (beaconOf s now .words) ≡ other ∷ []
+beacon-other : (s : Station) (now : Float) → burstsIn (beaconOf s now .words) ≡ []
 unfolding beaconOf
 beacon-other s now =
     w.other-burst (s .settings .beaconlevel) (ctrlWords (beaconPayload (s .settings)) ++ chunkWords cAcks 18 (beaconRows s))
@@ -195,10 +195,10 @@ told-list : (s : Station) → tellAll s .round .list ≡ s .round .list
 unfolding tellAll
 told-list s = fold-keeps (λ t. t .round .list ≡ s .round .list) tellAt (λ i t h. h) 62 0 s refl
 
-list-other : (s : Station) → burstsIn (listWords s) ≡ other ∷ []
+list-other : (s : Station) → burstsIn (listWords s) ≡ []
 list-other s = w.other-burst (leastDirect s) (chunkWords cRxlist 21 (listRows s)) (w.quiet-chunk-words cRxlist 21 (listRows s))
 
-sent-by : (b : Bool) (t : Station) (ws : List ℕ) → b ≡ true → Low (t .round .list) → t .round .list ≡ 0 → burstsIn ws ≡ other ∷ []
+sent-by : (b : Bool) (t : Station) (ws : List ℕ) → b ≡ true → Low (t .round .list) → t .round .list ≡ 0 → burstsIn ws ≡ []
     → Stage [] rest (spoke (cond b (said (oneList (sends t)) ws) (said t [])))
 sent-by true t ws q l e h = empty-left (t .round .list) e (stage-other rest (said (oneList (sends t)) ws) tt l h)
 sent-by false t ws q l e h = let z : _≡_ {A = ℕ} 0 1 = cc in absurd (omega arith)
@@ -290,7 +290,7 @@ fine-again q s (turn x p a) z e l =
         run = turn x (suc p) a;
         rel = (e .0, omega arith, e .2, omega arith, e .4, e .5);
         low = l;
-        keeps = λ k h. subst (λ (es : List Ev). Acc left (turn x p a) (es ++ k)) (sym b) (e .0, omega arith, h);
+        keeps = λ k h. subst (λ (es : List TurnEvent). Acc left (turn x p a) (es ++ k)) (sym b) (e .0, omega arith, h);
       };
     }
 

@@ -22,8 +22,7 @@ use Rattle.frames.specs.Frames.{readFrames}
 use Rattle.rx.specs.Ending.{replyEnd}
 use Rattle.rx.specs.Reception.{ncsRx}
 use Rattle.station.specs.Entries.{receiveRefusal, receiveOf, nextRefusal, nextOf, sentOf}
-use Rattle.promise.specs.Calls.{handed, Call, reception, decision, sending, net, outcome, step}
-use Rattle.promise.specs.Turns.{over, poll, ack, burstsIn, events, trace}
+use Rattle.promise.specs.Promise.{handed, net, Call, reception, decision, sending, result, step, over, poll, ack, burstsIn, turnEvents, trace}
 
 abbrev nil : Float
 nil = fin false 0 (pos 0)
@@ -57,5 +56,5 @@ more = reception (0x80080000 ∷ []) nil nil handed 8192 []
 
 longest : trace (next ∷ sent ∷ next ∷ more ∷ sent ∷ next ∷ more ∷ sent ∷ next ∷ more ∷ sent ∷ next ∷ more ∷ sent ∷ next ∷ []) (net station [])
     ≡ poll 0 ∷ poll 0 ∷ ack 0 ∷ poll 0 ∷ ack 0 ∷ poll 0 ∷ ack 0 ∷ poll 0 ∷ ack 0 ∷ over 0 ∷ poll 3 ∷ []
-unfolding size units round sum add lt le first fold any hasBit withBit withoutBit lowestBit stop itemAt framesOf headOk parse relaySrcFor isMember onTxDone pollBurst triedOf sourceFor maskWhere pollStage actOf windowStage againStage dueOf ncsNext readFrames replyEnd ncsRx receiveRefusal receiveOf nextRefusal nextOf sentOf outcome step burstsIn events trace
+unfolding size units round sum add lt le first fold any hasBit withBit withoutBit lowestBit stop itemAt framesOf headOk parse relaySrcFor isMember onTxDone pollBurst triedOf sourceFor maskWhere pollStage actOf windowStage againStage dueOf ncsNext readFrames replyEnd ncsRx receiveRefusal receiveOf nextRefusal nextOf sentOf result step burstsIn turnEvents trace
 longest = refl

@@ -27,10 +27,10 @@ use Rattle.frames.specs.Reading.{Reading}
 use Rattle.frames.specs.Frames.{readFrames}
 use Rattle.rx.specs.Ending.{isBusy, putOff, busyWait, Ended, nothingMore, turnOverIn, idleHeard, idleBy, idleEnd, replyHeard, answerBy, goesOn, isReply, replyBy, replyEnd}
 use Rattle.rx.specs.Reception.{Received, airOf, firstReading, receivedOf, ncsRxFrom, ncsRx}
-use Rattle.promise.specs.Turns.{Ev, over, burstsIn, slotsIn, overIf}
+use Rattle.promise.specs.Promise.{TurnEvent, over, overIf, burstsIn}
 use Rattle.promise.proofs.Monitor.{Run, rest, turn, Acc}
 use Rattle.promise.proofs.TurnsWords.{quiet-first, pollack-burst, ack-burst}
-use Rattle.promise.proofs.TurnsLists.{Low}
+use Rattle.promise.proofs.TurnsLists.{slotsIn, Low}
 use Rattle.promise.proofs.TurnsKeeps.{CalmIn, calm-start, frames-calm}
 use Rattle.promise.proofs.TurnsNext.{Rel, Fine, fine-none}
 
@@ -107,7 +107,7 @@ answer-by true p burst heard s t (turn x n k) g a e l =
         run = turn x n (suc k);
         rel = (e .0, omega arith, omega arith, omega arith, omega arith, e .5);
         low = subst Low (sym (a .list)) l;
-        keeps = λ es c. subst (λ (v : List Ev). Acc left (turn x n k) ((v ++ []) ++ es)) (sym (pollack-burst t (p .slot) burst heard (e .5)))
+        keeps = λ es c. subst (λ (v : List TurnEvent). Acc left (turn x n k) ((v ++ []) ++ es)) (sym (pollack-burst t (p .slot) burst heard (e .5)))
             (e .0, omega arith, subst (λ (m : ℕ). Acc (slotsIn m) (turn x n (suc k)) es) (a .list) c);
       };
     }
@@ -120,7 +120,7 @@ answer-by false p burst heard s t (turn x n k) g a e l =
         run = rest;
         rel = subst (Rel rest) (sym (o .turn)) tt;
         low = subst Low (sym i) l;
-        keeps = λ es c. subst (λ (v : List Ev). Acc left (turn x n k) ((v ++ (over (p .slot) ∷ [])) ++ es)) (sym (ack-burst t (p .slot) burst heard (e .5)))
+        keeps = λ es c. subst (λ (v : List TurnEvent). Acc left (turn x n k) ((v ++ (over (p .slot) ∷ [])) ++ es)) (sym (ack-burst t (p .slot) burst heard (e .5)))
             (e .0, omega arith, (e .0, subst (λ (m : ℕ). Acc (slotsIn m) rest es) i c));
       };
     }
@@ -151,7 +151,7 @@ fined : (s : Station) (x : Reading) (r : Run) (e : Ended) → CalmIn s x → End
     → Fined (slotsIn (s .round .list)) r (receivedOf x e)
 fined s x r e c f =
     record {
-      fine = subst (λ (es : List Ev). Fine (slotsIn (s .round .list)) r (e .station) (es ++ overIf (e .over))) (sym (quiet-first (x .words) (e .burst) (c .quiet)))
+      fine = subst (λ (es : List TurnEvent). Fine (slotsIn (s .round .list)) r (e .station) (es ++ overIf (e .over))) (sym (quiet-first (x .words) (e .burst) (c .quiet)))
           (subst (λ (m : ℕ). Fine (slotsIn m) r (e .station) (burstsIn (e .burst) ++ overIf (e .over))) (c .list) (f .fine));
     }
 

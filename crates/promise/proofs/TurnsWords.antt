@@ -1,13 +1,14 @@
 -- Which bursts stand in the words returned: a head is a burst, and the words of events, waves and frames are none. Assumes nothing.
-use mathlib.Core.Path.{_≡_, refl, ap, _∙_}
+use mathlib.Core.Path.{_≡_, refl, sym, ap, _∙_}
 use Prim.Native.Nat.{ℕ, zero, suc, _+_, _*_, _/_, _%_, _≤_, _<_}
 use native.Mathlib.Omega.{arith}
 use mathlib.Core.Bool.{Bool, true, false, cond, _||_}
-use mathlib.Core.List.{List, [], _∷_, _++_}
+use mathlib.Core.List.{List, [], _∷_, _++_, append-assoc}
 use lib.Dec.{eqb}
 use lib.ListN.{length, take, drop}
 use borrow.Author.Tests.{ne-eqb}
 use Rattle.wire.specs.Kinds.{kPollack, kAck, kClose}
+use Rattle.words.specs.Words.{headOf}
 use Rattle.out.specs.Encode.{eventWord, messageWord, missedWord, headWord, waveWord, word12, pack, ctrlWords, chunksOf, chunkSize, chunkWords}
 use Rattle.roster.specs.declared.Member.{Member}
 use Rattle.net.specs.declared.Station.{Station}
@@ -15,7 +16,7 @@ use Rattle.net.specs.declared.Settings.{Settings}
 use Rattle.bursts.specs.Rows.{leastOf}
 use Rattle.bursts.specs.Bursts.{headWords, tinyWords, pollExtra, pollBurst}
 use Rattle.rx.specs.Ending.{ackExtra, ackWords}
-use Rattle.promise.specs.Turns.{Ev, poll, ack, other, burstsIn}
+use Rattle.promise.specs.Promise.{TurnEvent, poll, ack, burstBy, burstsIn}
 
 -- no burst stands in these words
 abbrev pub Quiet : List ℕ → Type 0
@@ -29,18 +30,18 @@ above-head : (w : ℕ) (ws : List ℕ) → 2415919104 ≤ w → burstsIn (w ∷ 
 unfolding burstsIn
 above-head w ws h = rw (ne-eqb (w / 268435456) 8 (λ e. omega arith))
 
-append-by : (b : Bool) (e : Ev) (xs ys : List Ev) (zs : List Ev) → zs ≡ xs ++ ys → cond b (e ∷ zs) zs ≡ cond b (e ∷ xs) xs ++ ys
-append-by true e xs ys zs h = rw h
+append-by : (b : Bool) (e xs ys zs : List TurnEvent) → zs ≡ xs ++ ys → cond b (e ++ zs) zs ≡ cond b (e ++ xs) xs ++ ys
+append-by true e xs ys zs h = ap (λ (l : List TurnEvent). e ++ l) h ∙ sym (append-assoc e xs ys)
 append-by false e xs ys zs h = h
 
 pub bursts-append : (a b : List ℕ) → burstsIn (a ++ b) ≡ burstsIn a ++ burstsIn b
 unfolding burstsIn
 bursts-append [] b = refl
-bursts-append (w ∷ a) b = append-by (eqb (w / 268435456) 8) _ (burstsIn a) (burstsIn b) (burstsIn (a ++ b)) (bursts-append a b)
+bursts-append (w ∷ a) b = append-by (eqb (w / 268435456) 8) (burstBy (headOf w)) (burstsIn a) (burstsIn b) (burstsIn (a ++ b)) (bursts-append a b)
 
 -- words without a burst before others
 pub quiet-first : (a b : List ℕ) → Quiet a → burstsIn (a ++ b) ≡ burstsIn b
-quiet-first a b h = bursts-append a b ∙ ap (λ (x : List Ev). x ++ burstsIn b) h
+quiet-first a b h = bursts-append a b ∙ ap (λ (x : List TurnEvent). x ++ burstsIn b) h
 
 pub quiet-both : (a b : List ℕ) → Quiet a → Quiet b → Quiet (a ++ b)
 quiet-both a b h k = quiet-first a b h ∙ k
@@ -88,16 +89,16 @@ quiet-chunk-words kind size l = quiet-chunks (length l) kind (chunkSize size) l
 -- ### Heads
 
 -- a burst with frames
-pub other-burst : (level : ℕ) (ws : List ℕ) → Quiet ws → burstsIn (headWords 0 0 0 level ++ ws) ≡ other ∷ []
+pub other-burst : (level : ℕ) (ws : List ℕ) → Quiet ws → burstsIn (headWords 0 0 0 level ++ ws) ≡ []
 unfolding burstsIn
-other-burst level ws h = ap (λ (x : List Ev). other ∷ x) (above-head (waveWord level) ws (omega arith) ∙ h)
+other-burst level ws h = above-head (waveWord level) ws (omega arith) ∙ h
 
-abbrev tinyEv : ℕ → ℕ → Ev
-tinyEv kind slot = cond (eqb kind 1 || eqb kind 5) (poll slot) (cond (eqb kind 2 || eqb kind 3) (ack slot) other)
+abbrev tinyBurst : ℕ → ℕ → List TurnEvent
+tinyBurst kind slot = cond (eqb kind 1 || eqb kind 5) (poll slot ∷ []) (cond (eqb kind 2 || eqb kind 3) (ack slot ∷ []) [])
 
 -- a burst without frames
 tiny-head : (kind extra level : ℕ) → kind < 16
-    → burstsIn (tinyWords kind extra level) ≡ tinyEv kind (extra % 64) ∷ []
+    → burstsIn (tinyWords kind extra level) ≡ tinyBurst kind (extra % 64) ++ []
 unfolding burstsIn
 tiny-head kind extra level h =
     let w = headWord 62 kind extra in
@@ -105,9 +106,9 @@ tiny-head kind extra level h =
     let c : w / 2097152 % 128 ≡ 62 = omega arith in
     let n : w / 131072 % 16 ≡ kind = omega arith in
     let x : w % 65536 % 64 ≡ extra % 64 = omega arith in
-    rw (k, c, n, x) (ap (λ (t : List Ev). tinyEv kind (extra % 64) ∷ t) (above-head (waveWord level) [] (omega arith) ∙ quiet-none))
+    rw (k, c, n, x) (ap (λ (t : List TurnEvent). tinyBurst kind (extra % 64) ++ t) (above-head (waveWord level) [] (omega arith) ∙ quiet-none))
 
-pub close-burst : (level : ℕ) → burstsIn (tinyWords kClose 0 level) ≡ other ∷ []
+pub close-burst : (level : ℕ) → burstsIn (tinyWords kClose 0 level) ≡ []
 close-burst level = tiny-head kClose 0 level (omega arith)
 
 extra-by : (t : Bool) (slot a b c : ℕ) → slot < 62

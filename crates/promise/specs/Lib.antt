@@ -1,5 +1,1 @@
-pub mod Calls
-pub mod Links
-pub mod Turns
-pub mod Book
 pub mod Promise

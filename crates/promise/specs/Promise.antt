@@ -1,23 +1,519 @@
--- Item 3 of document 01, whole: one statement over every list of calls from a start that is not refused. The calls are in Calls, the parts in Links, Turns and Book.
+-- Item 3 of document 01, 'Item 3 in full', whole: `Item3`, the last definition, is one statement over every list of calls from a start that is not refused.
+-- In order: the calls, relay links, lists and turns, the book, the premises, what is promised of messages, and the promise.
+-- A later request adds its call to `Call`, and a line for it to `result` and `inBook`, which stand next to it.
+use Prim.Native.Nat.{ℕ, zero, suc, _+_, _/_, _%_, _≤_, _<_}
 use mathlib.Core.Path.{_≡_}
-use mathlib.Core.List.{List}
-use Prim.Native.Nat.{ℕ, _≤_}
-use lib.ListN.{length}
+use mathlib.Core.Bool.{Bool, true, false, not, cond, _&&_, _||_}
+use mathlib.Core.List.{List, [], _∷_, _++_}
+use mathlib.Core.Option.{Option, none, some}
+use lib.Dec.{T, leb, ltb, eqb}
+use lib.ListN.{length, getD}
+use lib.Ieee.{Float}
+use Rattle.bits.specs.Mask.{hasBit, slotsOf}
+use Rattle.wire.specs.Kinds.{tiny, kPoll, kPollack, kAck, kRelay, tUp}
+use Rattle.words.specs.Words.{Heard, lost, heard, Burst, Parsed, malformed, parsed, parse, headOf}
+use Rattle.words.specs.declared.Head.{Head}
+use Rattle.inbox.specs.Messages.{framed, Cut}
 use Rattle.net.specs.declared.Station.{Station}
+use Rattle.net.specs.State.{memberAt}
+use Rattle.net.specs.Net.{isMember}
+use Rattle.next.specs.Next.{ncsNext}
+use Rattle.rx.specs.Reception.{Received, ncsRx}
 use Rattle.config.specs.declared.Given.{Given}
-use Rattle.station.specs.Entries.{startRefusal}
-use Rattle.promise.specs.Calls.{Call, Net, after, started}
-use Rattle.promise.specs.Links.{LinksHold}
-use Rattle.promise.specs.Turns.{TurnsHold, emptyView, trace}
-use Rattle.promise.specs.Book.{Sent, CallsOk, emptyBook, Messages}
+use Rattle.station.specs.Entries.{Outcome, done, unless, startRefusal, startOf, admitOf, receiveOf, nextOf, sentOf, closeOf, freeOf, readRefusal, readingOf}
 
--- of the calls cs from n on: relay links end; turns are fair and bounded; each boat's messages are handed over exactly as sent, each once, when its kept pieces
--- cover it, provided that the pieces are cut from messages (at most 2,046 bytes after the two of the length) as the premises `CallsOk` say
+-- ---- the calls, and the definitions of the entry points run over a list of them
+
+-- the store that a call is lent: the one handed on, or any other
+pub data Lent : Type 0 where
+  handed : Lent
+  another : List ℕ → Lent
+
+-- its bytes
+abbrev pub lentTo : Lent → List ℕ → List ℕ
+lentTo handed store = store
+lentTo (another other) store = other
+
+-- what is handed on: the station that the last call returned, and the store that the last one not refused left
+pub record Net : Type 0 where
+  pub station : Station
+  pub store : List ℕ
+
+-- the two together
+abbrev pub net : Station → List ℕ → Net
+net s store = record { station = s; store = store }
+
+-- what the definitions answer to a call: its outcome; the store that it leaves; the members as each frame is read; the list that it draws up, a mask of
+-- slots; and the slot, if there is one, the waiting for whose reply ends before the burst returned, or behind it, as a turn has its K_ACK included
+pub record Result : Type 0 where
+  pub outcome : Outcome
+  pub store : List ℕ
+  pub seen : List ℕ
+  pub before : Option ℕ
+  pub drew : Option ℕ
+  pub behind : Option ℕ
+
+-- of a call that leaves the store alone, reads no frame, draws up no list and ends no waiting
+abbrev pub plain : Net → Outcome → Result
+plain n o = record { outcome = o; store = n .store; seen = []; before = none; drew = none; behind = none }
+
+-- what f says of a burst, and x of malformed words
+abbrev pub ofBurst : {A : Type 0} → Parsed Burst → A → (Burst → A) → A
+ofBurst malformed x f = x
+ofBurst (parsed b) x f = f b
+
+-- what a call is in the book: a reception brings pieces, a reading reads a cell, a freeing empties a cell's entry, and the other calls change nothing
+pub data InBook : Type 0 where
+  brings : (words numbers : List ℕ) (lent : Lent) → InBook
+  reads : (cell : ℕ) (lent : Lent) → InBook
+  frees : (cell : ℕ) → InBook
+  changesNothing : InBook
+
+-- A call with its arguments, as the entry points take them. `room` is the length of the output lent.
+-- `numbers` are no argument: the full numbers of a reception's pieces, frame by frame, of which eight bits are on air.
+pub data Call : Type 0 where
+  admission : (packed : List ℕ) (relay : ℕ) (now : Float) (room : ℕ) → Call
+  reception : (words : List ℕ) (snr now : Float) (lent : Lent) (room : ℕ) (numbers : List ℕ) → Call
+  decision : (now : Float) (room : ℕ) → Call
+  sending : (now : Float) → Call
+  closing : (count : ℕ) → Call
+  reading : (cell : ℕ) (lent : Lent) → Call
+  freeing : (cell : ℕ) → Call
+
+-- the definitions that the entry points' contracts name
+unfoldable pub result : Call → Net → Result
+result (admission packed relay now room) n = plain n (admitOf (n .station) packed relay now room)
+result (reception words snr now lent room numbers) n =
+    let o = receiveOf (n .station) words snr now (lentTo lent (n .store)) room in
+    let r : Burst → Received = λ b. ncsRx (n .station) b snr now (lentTo lent (n .store)) in
+    record { outcome = o; store = o .store; seen = ofBurst (parse words) [] (λ b. r b .seen); before = none; drew = none; behind = ofBurst (parse words) none (λ b. r b .over) }
+result (decision now room) n =
+    let d = ncsNext (n .station) now in
+    record { outcome = nextOf (n .station) now room; store = n .store; seen = []; before = d .over; drew = d .drew; behind = none }
+result (sending now) n = plain n (sentOf (n .station) now)
+result (closing count) n = plain n (closeOf (n .station) count)
+result (reading cell lent) n =
+    plain n
+    (unless (readRefusal (length (lentTo lent (n .store))) (n .station .count) (n .station .landed) cell) (n .station) (n .store)
+    (done (n .station) (n .store) []))
+result (freeing cell) n = plain n (freeOf (n .station) cell)
+
+-- and the calls as they are in the book
+abbrev pub inBook : Call → InBook
+inBook (admission packed relay now room) = changesNothing
+inBook (reception words snr now lent room numbers) = brings words numbers lent
+inBook (decision now room) = changesNothing
+inBook (sending now) = changesNothing
+inBook (closing count) = changesNothing
+inBook (reading cell lent) = reads cell lent
+inBook (freeing cell) = frees cell
+
+-- refusal, station, words and mask
+abbrev pub outcome : Call → Net → Outcome
+outcome c n = result c n .outcome
+
+-- a refusal of 0 is none
+abbrev pub isRefused : Call → Net → Bool
+isRefused c n = cond (eqb (outcome c n .refusal) 0) false true
+
+-- each call gets the station that the last one returned, and the store that the last one not refused left
+unfoldable pub step : Call → Net → Net
+step c n = net (outcome c n .station) (cond (isRefused c n) (n .store) (result c n .store))
+
+-- any number of calls, in any order
+unfoldable pub after : List Call → Net → Net
+after [] n = n
+after (c ∷ cs) n = after cs (step c n)
+
+-- after a start, with any bytes in the store
+abbrev pub started : Station → Given → List ℕ → Net
+started s g store = net (startOf s g store .station) store
+
+-- ---- relay links
+
+-- relay slots lead from slot i to a member without a relay, whose relay is 63, in at most k steps
+unfoldable pub leads : Station → ℕ → ℕ → Bool
+leads s zero i = isMember (s .used) i && eqb (memberAt s i .via) 63
+leads s (suc k) i = isMember (s .used) i && (eqb (memberAt s i .via) 63 || leads s k (memberAt s i .via))
+
+-- from any member, in at most 61 steps
+abbrev pub LinksHold : Station → Type 0
+LinksHold s = (i : ℕ) → isMember (s .used) i ≡ true → leads s 61 i ≡ true
+
+-- ---- lists and turns, read off what the calls return, never the station's record
+
+-- a next decision draws up a list of slots; the waiting for a slot's reply ends; a burst K_POLL or K_RELAY; a burst K_ACK or K_POLLACK
+pub data TurnEvent : Type 0 where
+  drew : List ℕ → TurnEvent
+  over : ℕ → TurnEvent
+  poll : ℕ → TurnEvent
+  ack : ℕ → TurnEvent
+
+-- the waiting that a result says has ended, if one has
+abbrev pub overIf : Option ℕ → List TurnEvent
+overIf none = []
+overIf (some s) = over s ∷ []
+
+-- the list that it says is drawn up, if one is
+abbrev pub drewIf : Option ℕ → List TurnEvent
+drewIf none = []
+drewIf (some list) = drew (slotsOf list 62 0) ∷ []
+
+-- a burst by its head
+abbrev pub burstBy : Head → List TurnEvent
+burstBy h =
+    cond (eqb (h .code) tiny && (eqb (h .hi) kPoll || eqb (h .hi) kRelay)) (poll (h .extra % 64) ∷ [])
+    (cond (eqb (h .code) tiny && (eqb (h .hi) kPollack || eqb (h .hi) kAck)) (ack (h .extra % 64) ∷ []) [])
+
+-- the bursts in the words returned: each has one head, a word of kind 8
+unfoldable pub burstsIn : List ℕ → List TurnEvent
+burstsIn [] = []
+burstsIn (w ∷ ws) = cond (eqb (w / 268435456) 8) (burstBy (headOf w) ++ burstsIn ws) (burstsIn ws)
+
+-- of one call, in order; a refused one has none
+unfoldable pub turnEvents : Call → Net → List TurnEvent
+turnEvents c n =
+    let r = result c n in
+    cond (isRefused c n) [] ((overIf (r .before) ++ drewIf (r .drew)) ++ (burstsIn (r .outcome .words) ++ overIf (r .behind)))
+
+-- of all the calls
+unfoldable pub trace : List Call → Net → List TurnEvent
+trace [] n = []
+trace (c ∷ cs) n = turnEvents c n ++ trace cs (step c n)
+
+-- x is on the list
+abbrev pub has : ℕ → List ℕ → Bool
+has x [] = false
+has x (y ∷ l) = cond (eqb x y) true (has x l)
+
+-- x taken off it
+abbrev pub without : ℕ → List ℕ → List ℕ
+without x [] = []
+without x (y ∷ l) = cond (eqb x y) (without x l) (y ∷ without x l)
+
+-- the list that stands, and the slots whose turns run
+pub record View : Type 0 where
+  pub list : List ℕ
+  pub run : List ℕ
+
+-- as at a start
+abbrev pub emptyView : View
+emptyView = record { list = []; run = [] }
+
+-- a turn runs from any poll of a listed slot that has no turn running
+abbrev pub begins : View → ℕ → Bool
+begins v s = has s (v .list) && not (has s (v .run))
+
+-- until the waiting for its reply ends; a list stands from the decision that draws it up
+abbrev pub view : View → TurnEvent → View
+view v (drew l) = record { list = l; run = v .run }
+view v (over s) = record { list = v .list; run = without s (v .run) }
+view v (poll s) = record { list = v .list; run = cond (begins v s) (s ∷ v .run) (v .run) }
+view v (ack s) = v
+
+-- the slots whose turns begin, in order
+abbrev pub begun : View → List TurnEvent → List ℕ
+begun v [] = []
+begun v (drew l ∷ es) = begun (view v (drew l)) es
+begun v (over s ∷ es) = begun (view v (over s)) es
+begun v (poll s ∷ es) = cond (begins v s) (s ∷ begun (view v (poll s)) es) (begun (view v (poll s)) es)
+begun v (ack s ∷ es) = begun v es
+
+-- of the slots that begin turns, the last first in `had`: none begins a second until each other slot on l has had one
+abbrev pub Spread : List ℕ → List ℕ → List ℕ → Type 0
+Spread l had [] = Unit {0}
+Spread l had (s ∷ bs) = (T (has s had) → (t : ℕ) → T (has t l) → (t ≡ s → ⊥) → T (has t had)) × Spread l (s ∷ had) bs
+
+-- the polls of s until the waiting for its reply ends, or to the last call
+abbrev pub pollsTill : ℕ → List TurnEvent → ℕ
+pollsTill s [] = 0
+pollsTill s (drew l ∷ es) = pollsTill s es
+pollsTill s (over x ∷ es) = cond (eqb x s) 0 (pollsTill s es)
+pollsTill s (poll x ∷ es) = cond (eqb x s) (suc (pollsTill s es)) (pollsTill s es)
+pollsTill s (ack x ∷ es) = pollsTill s es
+
+-- and its acknowledgements
+abbrev pub acksTill : ℕ → List TurnEvent → ℕ
+acksTill s [] = 0
+acksTill s (drew l ∷ es) = acksTill s es
+acksTill s (over x ∷ es) = cond (eqb x s) 0 (acksTill s es)
+acksTill s (poll x ∷ es) = acksTill s es
+acksTill s (ack x ∷ es) = cond (eqb x s) (suc (acksTill s es)) (acksTill s es)
+
+-- where a turn begins no other runs, and with the poll that begins it it has at most five polls and four acknowledgements
+pub record OneTurn (v : View) (s : ℕ) (es : List TurnEvent) : Type 0 where
+  pub alone : v .run ≡ []
+  pub polls : suc (pollsTill s es) ≤ 5
+  pub acks : acksTill s es ≤ 4
+
+-- at an event, where v is the view before it and es is what follows it: what a list drawn up promises, what the poll that begins a turn promises, and that
+-- no poll is of a slot not listed, and no acknowledgement or end of a waiting falls outside the turns
+abbrev pub AtEvent : View → TurnEvent → List TurnEvent → Type 0
+AtEvent v (drew l) es = Spread l [] (begun (view v (drew l)) es)
+AtEvent v (over s) es = T (has s (v .run))
+AtEvent v (poll s) es = T (has s (v .list)) × (T (begins v s) → OneTurn v s es)
+AtEvent v (ack s) es = T (has s (v .run))
+
+-- at every event
+abbrev pub TurnsHold : View → List TurnEvent → Type 0
+TurnsHold v [] = Unit {0}
+TurnsHold v (e ∷ es) = AtEvent v e es × TurnsHold (view v e) es
+
+-- ---- the book
+
+-- the messages that the boats send: of a slot and a number, the n bytes after the two of the length
+abbrev pub Sent : Type 0
+Sent = ℕ → ℕ → List ℕ
+
+-- one of them
+pub record Message : Type 0 where
+  pub slot : ℕ
+  pub number : ℕ
+
+-- per boat and number the bytes covered, and whether the message is handed over
+pub record Ledger : Type 0 where
+  pub covered : ℕ → ℕ → ℕ → Bool
+  pub handed : ℕ → ℕ → Bool
+
+-- and per cell a message or none
+pub record Book : Type 0 where
+  pub ledger : Ledger
+  pub entry : ℕ → Option Message
+
+-- all is empty at the start
+abbrev pub emptyBook : Book
+emptyBook =
+    record { ledger = record { covered = λ s k i. false; handed = λ s k. false }; entry = λ c. none }
+
+-- what a piece or a call comes to: the ledger or the book that is left, and the messages handed over with it, in order
+pub record Entered (A : Type 0) : Type 0 where
+  pub left : A
+  pub out : List Message
+
+-- nothing covered, entered or handed over
+abbrev pub unchanged : {A : Type 0} → A → Entered A
+unchanged x = record { left = x; out = [] }
+
+-- the same slot and number
+abbrev pub same : ℕ → ℕ → ℕ → ℕ → Bool
+same s k s′ k′ = eqb s s′ && eqb k k′
+
+-- byte i is one of the n from o on
+abbrev pub inside : ℕ → ℕ → ℕ → Bool
+inside o n i = leb o i && ltb i (o + n)
+
+-- the n bytes from o on of message k of slot s covered too
+unfoldable pub cover : ℕ → ℕ → ℕ → ℕ → (ℕ → ℕ → ℕ → Bool) → ℕ → ℕ → ℕ → Bool
+cover s k o n f s′ k′ i = cond (same s k s′ k′ && inside o n i) true (f s′ k′ i)
+
+-- message k of slot s handed over too
+unfoldable pub alsoHanded : ℕ → ℕ → (ℕ → ℕ → Bool) → ℕ → ℕ → Bool
+alsoHanded s k f s′ k′ = cond (same s k s′ k′) true (f s′ k′)
+
+-- the test holds of every number below n
+unfoldable pub allBelow : ℕ → (ℕ → Bool) → Bool
+allBelow zero p = true
+allBelow (suc n) p = p n && allBelow n p
+
+-- the last of the 2 + n bytes of message k of slot s is first covered
+abbrev pub completes : Sent → ℕ → ℕ → Ledger → (ℕ → ℕ → ℕ → Bool) → Bool
+completes M s k l f = not (l .handed s k) && allBelow (2 + length (M s k)) (f s k)
+
+-- a piece of n bytes from o on: with it the message may be handed over
+abbrev pub bookPiece : Sent → ℕ → ℕ → ℕ → ℕ → Ledger → Entered Ledger
+bookPiece M s k o n l =
+    let f = cover s k o n (l .covered) in
+    cond (completes M s k l f)
+    (record { left = record { covered = f; handed = alsoHanded s k (l .handed) }; out = record { slot = s; number = k } ∷ [] })
+    (unchanged (record { covered = f; handed = l .handed }))
+
+-- a boat's piece: an up frame whose slot has a member as the frame is read
+abbrev pub isBoats : ℕ → ℕ → Bool
+isBoats flags seen = eqb (flags / 64) tUp && isMember seen (flags % 64)
+
+-- one that the mask leaves unmarked covers its bytes in the message of its number k
+unfoldable pub bookFrame : Sent → Heard → ℕ → ℕ → Bool → Ledger → Entered Ledger
+bookFrame M lost k seen marked l = unchanged l
+bookFrame M (heard flags field p) k seen marked l =
+    cond (isBoats flags seen && not marked) (bookPiece M (flags % 64) k (field % 65536) (length p) l) (unchanged l)
+
+-- frames in the order the source reads them, from frame i on, with their numbers, the members as each is read and the mask
+unfoldable pub bookFrames : Sent → List Heard → ℕ → List ℕ → List ℕ → ℕ → Ledger → Entered Ledger
+bookFrames M [] i numbers seen mask l = unchanged l
+bookFrames M (f ∷ fs) i numbers seen mask l =
+    let e = bookFrame M f (getD numbers i 0) (getD seen i 0) (hasBit mask i) l in
+    let r = bookFrames M fs (i + 1) numbers seen mask (e .left) in
+    record { left = r .left; out = e .out ++ r .out }
+
+-- the frames read for content: a tiny burst has none
+abbrev pub framesBy : Parsed Burst → List Heard
+framesBy w = ofBurst w [] (λ b. cond (eqb (b .head .code) tiny) [] (b .frames))
+
+-- event 2, as its word has it
+pub record Event2 : Type 0 where
+  pub slot : ℕ
+  pub cell : ℕ
+  pub number : ℕ
+
+-- slot in bits 5-0, cell in 12-6, number mod 256 in 20-13
+abbrev pub eventOf : ℕ → Event2
+eventOf w = record { slot = w % 64; cell = w / 64 % 128; number = w / 8192 % 256 }
+
+-- the events 2 among the words returned
+unfoldable pub eventsIn : List ℕ → List Event2
+eventsIn [] = []
+eventsIn (w ∷ ws) = cond (eqb (w / 268435456) 2) (eventOf w ∷ eventsIn ws) (eventsIn ws)
+
+-- a cell's entry written
+abbrev pub enter : ℕ → Option Message → (ℕ → Option Message) → ℕ → Option Message
+enter c m f d = cond (eqb c d) m (f d)
+
+-- each message into the cell that its event names
+abbrev pub enterAll : List Event2 → List Message → (ℕ → Option Message) → ℕ → Option Message
+enterAll [] [] f = f
+enterAll [] (m ∷ ms) f = f
+enterAll (e ∷ es) [] f = f
+enterAll (e ∷ es) (m ∷ ms) f = enterAll es ms (enter (e .cell) (some m) f)
+
+-- the four answers that the book is fed beside the arguments: refused or not; the members as each piece is read; the mask; the events 2
+pub record Answers : Type 0 where
+  pub refused : Bool
+  pub seen : List ℕ
+  pub mask : ℕ
+  pub events : List Event2
+
+-- from the definitions run over the same calls
+abbrev pub answersOf : Call → Net → Answers
+answersOf c n =
+    record { refused = isRefused c n; seen = result c n .seen; mask = outcome c n .mask; events = eventsIn (outcome c n .words) }
+
+-- a call that is not refused, as it is in the book
+abbrev pub bookDone : Sent → InBook → Answers → Book → Entered Book
+bookDone M (brings words numbers lent) a b =
+    let r = bookFrames M (framesBy (parse words)) 0 numbers (a .seen) (a .mask) (b .ledger) in
+    record { left = record { ledger = r .left; entry = enterAll (a .events) (r .out) (b .entry) }; out = r .out }
+bookDone M (reads cell lent) a b = unchanged b
+bookDone M (frees cell) a b = unchanged (record { ledger = b .ledger; entry = enter cell none (b .entry) })
+bookDone M changesNothing a b = unchanged b
+
+-- a refused call changes nothing
+abbrev pub bookCall : Sent → Call → Net → Book → Entered Book
+bookCall M c n b = cond (answersOf c n .refused) (unchanged b) (bookDone M (inBook c) (answersOf c n) b)
+
+-- ---- the premises on pieces, and on the store lent
+
+-- n is the slot's lowest number not handed over in the book
+abbrev pub Lowest : Ledger → ℕ → ℕ → Type 0
+Lowest l s n = (l .handed s n ≡ false) × ((j : ℕ) → j < n → l .handed s j ≡ true)
+
+-- a piece has eight bits of its number k on air, and is cut from the boat's message of that number, which is at most 128 below and 127 above the lowest number
+-- not handed over as the piece is read
+pub record PieceOk (M : Sent) (l : Ledger) (s k field : ℕ) (p : List ℕ) : Type 0 where
+  pub eight : field / 65536 % 256 ≡ k % 256
+  pub cut : Cut (framed (M s k)) (field % 65536) p
+  pub near : (n : ℕ) → Lowest l s n → (n ≤ k + 128) × (k ≤ n + 127)
+
+-- of a frame, if it is a boat's piece
+abbrev pub FrameOk : Sent → Ledger → Heard → ℕ → ℕ → Type 0
+FrameOk M l lost k seen = Unit {0}
+FrameOk M l (heard flags field p) k seen = isBoats flags seen ≡ true → PieceOk M l (flags % 64) k field p
+
+-- of frames in order, each with the ledger as it is read
+abbrev pub FramesOk : Sent → List Heard → ℕ → List ℕ → List ℕ → ℕ → Ledger → Type 0
+FramesOk M [] i numbers seen mask l = Unit {0}
+FramesOk M (f ∷ fs) i numbers seen mask l =
+    FrameOk M l f (getD numbers i 0) (getD seen i 0)
+    × FramesOk M fs (i + 1) numbers seen mask (bookFrame M f (getD numbers i 0) (getD seen i 0) (hasBit mask i) l .left)
+
+-- only a refused call may be lent another store
+abbrev pub LentOk : Lent → Bool → Type 0
+LentOk handed refused = Unit {0}
+LentOk (another store) refused = refused ≡ true
+
+-- of a call: the premises on pieces bind receptions not refused
+abbrev pub CallOk : Sent → InBook → Answers → Book → Type 0
+CallOk M (brings words numbers lent) a b =
+    LentOk lent (a .refused) × (a .refused ≡ false → FramesOk M (framesBy (parse words)) 0 numbers (a .seen) (a .mask) (b .ledger))
+CallOk M (reads cell lent) a b = LentOk lent (a .refused)
+CallOk M (frees cell) a b = Unit {0}
+CallOk M changesNothing a b = Unit {0}
+
+-- of all the calls
+unfoldable pub CallsOk : Sent → List Call → Net → Book → Type 0
+CallsOk M [] n b = Unit {0}
+CallsOk M (c ∷ cs) n b = CallOk M (inBook c) (answersOf c n) b × CallsOk M cs (step c n) (bookCall M c n b .left)
+
+-- ---- what is promised of messages
+
+-- events 2 and messages pair off one to one, in order: same slot, same number mod 256; each enters the cell that its event names, empty in the book till then
+abbrev pub Pairs : List Event2 → List Message → (ℕ → Option Message) → Type 0
+Pairs [] [] f = Unit {0}
+Pairs [] (m ∷ ms) f = ⊥
+Pairs (e ∷ es) [] f = ⊥
+Pairs (e ∷ es) (m ∷ ms) f =
+    (e .slot ≡ m .slot) × (e .number ≡ m .number % 256) × (f (e .cell) ≡ none) × Pairs es ms (enter (e .cell) (some m) f)
+
+-- of two alike, of one slot and equal mod 256, the lower number comes first: so its event is the earlier one
+abbrev pub Later : Message → List Message → Type 0
+Later m [] = Unit {0}
+Later m (x ∷ xs) = (m .slot ≡ x .slot → m .number % 256 ≡ x .number % 256 → m .number < x .number) × Later m xs
+
+-- so it is of all that a reception hands over
+abbrev pub Rising : List Message → Type 0
+Rising [] = Unit {0}
+Rising (m ∷ ms) = Later m ms × Rising ms
+
+-- none of the messages was handed over before, f, nor is it twice among them
+abbrev pub Once : List Message → (ℕ → ℕ → Bool) → Type 0
+Once [] f = Unit {0}
+Once (m ∷ ms) f = (f (m .slot) (m .number) ≡ false) × Once ms (alsoHanded (m .slot) (m .number) f)
+
+-- a reception's events 2 and the messages that the book hands over in it
+pub record Paired (es : List Event2) (ms : List Message) (b : Book) : Type 0 where
+  pub pairs : Pairs es ms (b .entry)
+  pub rising : Rising ms
+  pub once : Once ms (b .ledger .handed)
+
+-- a reading of the store handed on gives exactly the n bytes of the message entered, or 22 if none is
+abbrev pub ReadsAs : Sent → Option Message → Net → ℕ → Type 0
+ReadsAs M none n cell = readRefusal (length (n .store)) (n .station .count) (n .station .landed) cell ≡ 22
+ReadsAs M (some m) n cell =
+    (readRefusal (length (n .store)) (n .station .count) (n .station .landed) cell ≡ 0)
+    × (readingOf (n .station) (n .store) cell ≡ M (m .slot) (m .number))
+
+-- at a call: what is promised of a reception, refused or not, and of a reading that no earlier check refuses, its cell below the count
+abbrev pub AtCall : Sent → InBook → List Event2 → List Message → Net → Book → Type 0
+AtCall M (brings words numbers lent) es out n b = Paired es out b
+AtCall M (reads cell lent) es out n b = cell < n .station .count → ReadsAs M (b .entry cell) n cell
+AtCall M (frees cell) es out n b = Unit {0}
+AtCall M changesNothing es out n b = Unit {0}
+
+-- at every call, with the net and the book as they are then
+unfoldable pub Holds : Sent → List Call → Net → Book → Type 0
+Holds M [] n b = Unit {0}
+Holds M (c ∷ cs) n b =
+    AtCall M (inBook c) (answersOf c n .events) (bookCall M c n b .out) n b × Holds M cs (step c n) (bookCall M c n b .left)
+
+-- the messages handed over in all the calls, in order
+unfoldable pub handedIn : Sent → List Call → Net → Book → List Message
+handedIn M [] n b = []
+handedIn M (c ∷ cs) n b = bookCall M c n b .out ++ handedIn M cs (step c n) (bookCall M c n b .left)
+
+-- at every call what is promised of it, and in all of them no message handed over twice
+pub record Messages (M : Sent) (n : Net) (cs : List Call) : Type 0 where
+  pub calls : Holds M cs n emptyBook
+  pub once : Once (handedIn M cs n emptyBook) (λ s k. false)
+
+-- ---- the promise
+
+-- of the calls cs from n on: relay links end, in the roster last returned; turns are fair and bounded; and where messages are at most 2,046 bytes long, after
+-- the two of the length, and the calls meet the premises, each is handed over exactly as sent, once, when its kept pieces cover it
 pub record Promise (n : Net) (cs : List Call) : Type 0 where
   pub links : LinksHold (after cs n .station)
   pub turns : TurnsHold emptyView (trace cs n)
   pub messages : (M : Sent) → ((s k : ℕ) → length (M s k) ≤ 2046) → CallsOk M cs n emptyBook → Messages M n cs
 
+-- item 3: from a start that is not refused, of any calls
 abbrev pub Item3 : Type 0
 Item3 =
     (s : Station) (g : Given) (store : List ℕ) → startRefusal g (length store) ≡ 0 → (cs : List Call) → Promise (started s g store) cs
