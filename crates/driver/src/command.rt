@@ -150,13 +150,7 @@ pub fn receive(
 }
 
 // A reception's answer printed, and the command closed.
-pub fn heard(
-    c: Control,
-    a: Answer,
-    mask: u64,
-    t: &mut [u8; 65536],
-    out: &[u32; 8192],
-) -> Control {
+pub fn heard(c: Control, a: Answer, mask: u64, t: &mut [u8; 65536], out: &[u32; 8192]) -> Control {
     match a {
         Answer::Refused(n) => print::word(t, closed(c), n as u32),
         Answer::Words(n) => print::heard(t, closed(c), out, n, mask),

@@ -65,12 +65,12 @@ returns c =
     let s = a .t1 in
     let slot = f .front .result in
     let e : j .if1 .source ≡ pollSource s slot =
-        ⊎-elim
-        (λ x. x .7
-        ∙ rw (ne-eqb slot 255 (x .0 .taken))
-        (x .6 .ensures ∙ ap (λ (v : Surveyed). relaySrcFor (s .hears) (v .needs) (v .able) (v .tried) slot (s .settings .relaysnr)) (x .1 .ensures)))
-        (λ x. x .1 ∙ rw (eq-eqb slot 255 (x .0 .left)))
-        (j .if1 .came) in
+    ⊎-elim
+    (λ x. x .7
+    ∙ rw (ne-eqb slot 255 (x .0 .taken))
+    (x .6 .ensures ∙ ap (λ (v : Surveyed). relaySrcFor (s .hears) (v .needs) (v .able) (v .tried) slot (s .settings .relaysnr)) (x .1 .ensures)))
+    (λ x. x .1 ∙ rw (eq-eqb slot 255 (x .0 .left)))
+    (j .if1 .came) in
     did-as
     (record {
       station = rw (l .poll-list .ensures, t .poll-totals .ensures, w .poll-wait .ensures, e, f .front .ensures);
