@@ -192,8 +192,8 @@ fn read_all(s: Station, c: Control, lent: &mut [u8; 409600], t: &mut [u8; 65536]
 pub fn run(drive: bool) {
     let mut lent = [0u8; 409600];
     let mut t = [0u8; 65536];
-    let g = given::tape_settings();
-    let r = station::start(given::blank(), g, &lent[..64000]);
+    let g = preset::tape_settings();
+    let r = station::start(preset::blank(), g, &lent[..64000]);
     let s = r.station;
     let k = read_all(s, action::first_control(drive, false), &mut lent, &mut t);
     text::flush(&t, k.end);

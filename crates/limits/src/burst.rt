@@ -6,7 +6,7 @@ ghost use Prim.Native.Nat.{_≤_};
 
 // A station of `tape`'s settings over the whole store.
 pub fn fresh(lent: &[u8]) -> Station {
-    let r = station::start(driver::given::blank(), driver::given::tape_settings(), lent);
+    let r = station::start(preset::blank(), preset::tape_settings(), lent);
     r.station
 }
 

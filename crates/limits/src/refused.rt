@@ -3,13 +3,13 @@ use super::burst;
 use super::tell;
 
 pub fn short(t: &mut [u8; 65536], at: usize) -> usize {
-    let g = driver::given::tape_settings();
+    let g = preset::tape_settings();
     let small = [0u8; 6399];
     let cell = [0u8; 6400];
-    let r = station::start(driver::given::blank(), g, &small);
+    let r = station::start(preset::blank(), g, &small);
     let a = r.answer;
     let e = tell::answer(t, at, b"start over 6,399 bytes", a);
-    let q = station::start(driver::given::blank(), g, &cell);
+    let q = station::start(preset::blank(), g, &cell);
     let b = q.answer;
     tell::answer(t, e, b"start over 6,400 bytes", b)
 }

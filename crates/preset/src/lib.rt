@@ -1,0 +1,63 @@
+// The settings of `tape` (document 01, Words), and a station for a first start.
+use config::Given;
+use net::Settings;
+
+// A station for a first start.
+pub fn blank() -> net::Station {
+    net::new(config::settings_of(tape_settings()), 0)
+}
+
+// -20 + 2 * level.
+fn ladder() -> [f32; 17] {
+    [
+        -20.0,
+        -18.0,
+        -16.0,
+        -14.0,
+        -12.0,
+        -10.0,
+        -8.0,
+        -6.0,
+        -4.0,
+        -2.0,
+        0.0,
+        2.0,
+        4.0,
+        6.0,
+        8.0,
+        10.0,
+        12.0,
+    ]
+}
+
+// The settings of `tape`: call `0`, name `PORT`, the rest of NetConfig::new.
+pub fn tape_settings() -> Given {
+    let thresholds = ladder();
+    let durations = [1.0f64; 4];
+    let nobody = [32u8; 7];
+    let name = [b'P', b'O', b'R', b'T', b' ', b' '];
+    let g = Settings {
+        turnaround: 0.3,
+        maxburst: 8.0,
+        replyslack: 1.0,
+        detect: 1.0,
+        beaconevery: 300.0,
+        quickbeacon: 45.0,
+        idleroundgap: 15.0,
+        durations: durations,
+        thresholds: thresholds,
+        margin: 1.0,
+        relaysnr: -8.0,
+        misslimit: 2,
+        beaconlevel: 0,
+        windowslots: 4,
+        call: nobody,
+        name: name,
+    };
+    // 3010936384, the call `0`.
+    let call = wire::calls::bytes_of(3010936384);
+    Given {
+        settings: g,
+        call: call,
+    }
+}
