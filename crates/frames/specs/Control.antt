@@ -69,7 +69,7 @@ abbrev pub reportMember : Air → ℕ → Bool → Member → Member
 reportMember a q forwarded m =
     cond forwarded (withHeard (withDown m (snrFromQ q)) (a .time)) (withDown m (snrFromQ q))
 
--- slot r hears slot k at the level field q; keys of 62 and above are dropped
+-- slot r hears slot k at the level field q, and 63 strikes the entry out; keys of 62 and above are dropped
 abbrev pub hearing : ℕ → ℕ → ℕ → List ℕ → List ℕ
 hearing r k q hears = cond (ltb r 62 && ltb k 62) (set hears (r * 62 + k) (q % 64)) hears
 

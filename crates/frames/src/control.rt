@@ -87,7 +87,7 @@ pub fn report_member(m: Member, here: bool, forwarded: bool, a: Air, q: u8) -> M
     k
 }
 
-// Slot r hears slot a at the level field q; keys of 62 and above are dropped.
+// Slot r hears slot a at the level field q, and 63 strikes the entry out; keys of 62 and above are dropped.
 fn hear(hears: &mut [u8; 3844], here: bool, r: u8, a: u8, q: u8)
     ensures { λ _. ⌜ now (hears .exit) ≡ cond here (hearing r a q (now (hears .entry))) (now (hears .entry)) ⌝ }
 {

@@ -5,7 +5,7 @@ use net::Station;
 
 // Boats 1 and 2 hear boat 0 equally well.
 pub fn ties(t: &mut [u8; 65536], at: usize) -> usize {
-    let mut hears = [255u8; 3844];
+    let mut hears = [63u8; 3844];
     hears[62] = 40;
     hears[124] = 40;
     let low = roster::relay::relayer_for(&hears, 6, 0, 0, -8.0);

@@ -57,7 +57,7 @@ idleWait = waitOf Idle Never
 -- no boat, no message: every slot and every cell is free
 unfoldable pub newStation : Settings → ℕ → Station
 newStation settings count =
-    record { settings = settings; wait = idleWait; round = firstRound; totals = noTotals; used = 0; busy = 0; landed = 0; count = count; members = replicate 62 (newMember blankCall 63 nought); hears = replicate 3844 255; owners = replicate 64 0; cells = replicate 64 emptyCell }
+    record { settings = settings; wait = idleWait; round = firstRound; totals = noTotals; used = 0; busy = 0; landed = 0; count = count; members = replicate 62 (newMember blankCall 63 nought); hears = replicate 3844 63; owners = replicate 64 0; cells = replicate 64 emptyCell }
 
 -- ---- waiting
 

@@ -155,7 +155,7 @@ pub fn new(settings: Settings, count: usize) -> Station
     let round = first_round();
     let totals = no_totals();
     let members = [m; 62];
-    let hears = [255u8; 3844];
+    let hears = [63u8; 3844];
     let owners = [0u64; 64];
     let cells = [c; 64];
     Station {

@@ -1,6 +1,6 @@
 -- `reroute`, `needs_relay`, `relayer_for`, `relay_src_for` and `turn_over` of ncs.rs: the choices of relays.
 -- Slots that are able to relay, tried, or in need of a relayer are masks. `hears` has 62 level fields for each slot: what slot r hears of slot a stands at
--- r * 62 + a, 0 to 63, or 255 for nothing. A level field rises with its decibels (laws `field-le` and `field-lt` of wire), so the better of two is the one with the greater field.
+-- r * 62 + a, 0 to 62, or 63 for nothing. A level field rises with its decibels (laws `field-le` and `field-lt` of wire), so the better of two is the one with the greater field.
 use Prim.Native.Nat.{ℕ, _+_, _*_}
 use mathlib.Core.Bool.{Bool, not, cond, _&&_, _||_}
 use mathlib.Core.List.{List}
@@ -28,13 +28,13 @@ couldRelay m = eqb (m .via) 63 && eqb (m .missed) 0 && isAt (m .lastheard) && is
 abbrev pub needsRelay : Member → Bool
 needsRelay m = eqb (m .via) 63 && (ltb 0 (m .missed) || holesOf (m .up))
 
--- the level field at which slot r hears slot a; 255 where either is no slot
+-- the level field at which slot r hears slot a; 63 where either is no slot
 unfoldable pub heardAt : List ℕ → ℕ → ℕ → ℕ
-heardAt hears r a = cond (ltb r 62 && ltb a 62) (getD hears (r * 62 + a) 0) 255
+heardAt hears r a = cond (ltb r 62 && ltb a 62) (getD hears (r * 62 + a) 0) 63
 
 -- heard at all, and at floor or better
 abbrev pub loudEnough : ℕ → Float → Bool
-loudEnough q floor = ltb q 64 && le floor (fieldDb q)
+loudEnough q floor = ltb q 63 && le floor (fieldDb q)
 
 -- ---- the best of several
 
@@ -92,7 +92,7 @@ relaySrcFor hears needs able tried slot floor = slotOr63 (first (isSource hears 
 
 -- slot r is in `left` and hears a
 abbrev pub hearsIt : List ℕ → ℕ → ℕ → ℕ → Bool
-hearsIt hears left a r = hasBit left r && ltb (heardAt hears r a) 64
+hearsIt hears left a r = hasBit left r && ltb (heardAt hears r a) 63
 
 -- a member of `left` hears a
 unfoldable pub anyHears : List ℕ → ℕ → ℕ → Bool

@@ -1,5 +1,5 @@
 // The choices of relays (reroute, relayer_for, relay_src_for, turn_over of ncs.rs), over masks of slots and the table of who hears whom:
-// hears[r * 62 + a] is the level field at which slot r hears slot a, 0 to 63, or 255 for none.
+// hears[r * 62 + a] is the level field at which slot r hears slot a, 0 to 62, or 63 for none.
 ghost use mathlib.Core.Path.{_≡_};
 ghost use Prim.Native.Nat.{_<_};
 ghost use Rattle.roster.specs.Relays.{lowStep, highStep, isSource, hearsIt, couldRelay, needsRelay, loudEnough, betterLow, betterHigh, bestLow, bestHigh, heardAt, relayerFor, relaySrcFor, anyHears, triedWith, turnOver, promotableAt, isLeaf};
@@ -34,7 +34,7 @@ fn loud_enough(q: u8, floor: f32) -> bool
     ensures { λ r. ⌜ r ≡ loudEnough q floor ⌝ }
 {
     let db = wire::field_db(q);
-    (q < 64) & (db >= floor)
+    (q < 63) & (db >= floor)
 }
 
 // Of equal levels the one looked at first stays: the lowest slot.
@@ -110,15 +110,15 @@ pub fn best_high(hears: &[u8; 3844], able: u64, a: u8, floor: f32) -> u8
     p.slot
 }
 
-// The level field at which slot r hears slot a; 255 where either is no slot.
+// The level field at which slot r hears slot a; 63 where either is no slot.
 pub fn heard_at(hears: &[u8; 3844], r: u8, a: u8) -> u8
     ensures { λ level. ⌜ level ≡ heardAt (now (hears .entry)) r a ⌝ }
 {
     if 62 <= r {
-        return 255;
+        return 63;
     }
     if 62 <= a {
-        return 255;
+        return 63;
     }
     let k = r as usize * 62 + a as usize;
     hears[k]
@@ -186,7 +186,7 @@ fn hears_it(hears: &[u8; 3844], left: u64, a: u8, i: u8) -> bool
     ensures { λ r. ⌜ r ≡ hearsIt (now (hears .entry)) left a i ⌝ }
 {
     let q = heard_at(hears, i, a);
-    bits::has(left, i as usize) & (q < 64)
+    bits::has(left, i as usize) & (q < 63)
 }
 
 // Whether a member of `left` hears a.

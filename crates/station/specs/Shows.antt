@@ -19,4 +19,4 @@ entryOf s slot =
 -- the level at which the boat in slot r hears the one in slot a
 unfoldable pub hearsOf : Station → ℕ → ℕ → Level
 hearsOf s r a =
-    cond (isMember (s .used) r && isMember (s .used) a && ltb (heardAt (s .hears) r a) 64) (snrFromQ (heardAt (s .hears) r a)) Unheard
+    cond (isMember (s .used) r && isMember (s .used) a && ltb (heardAt (s .hears) r a) 63) (snrFromQ (heardAt (s .hears) r a)) Unheard

@@ -14,15 +14,19 @@ use borrow.Author.Tests.{lt-ltb, le-ltb, lt-leb, le-leb}
 use Rattle.bits.proofs.Lists.{le-or-lt}
 use Rattle.level.specs.Consts.{twentyFour}
 use Rattle.level.specs.Order.{totalLt}
-use Rattle.level.specs.declared.Level.the-variants.{Decibels}
+use Rattle.level.specs.declared.Level.the-variants.{Unheard, Decibels}
 use Rattle.level.proofs.Whole.{Whole, whole, le-whole-plus, le-whole-minus, le-whole-across, le-whole-back, total-whole-plus, total-whole-minus, total-whole-across, total-whole-back}
 use Rattle.wire.specs.Fields.{fieldDb, snrFromQ}
 use Rattle.wire.proofs.Table.{all, all-at}
 
--- what a field says is heard
-pub snr-heard : (q : ℕ) → snrFromQ q ≡ Decibels (fieldDb q)
+-- 63 in the low six bits is unheard, and 0 to 62 are decibels
+pub snr-unheard : (q : ℕ) → eqb (q % 64) 63 ≡ true → snrFromQ q ≡ Unheard
 unfolding snrFromQ
-snr-heard q = refl
+snr-unheard q h = rw h
+
+pub snr-heard : (q : ℕ) → eqb (q % 64) 63 ≡ false → snrFromQ q ≡ Decibels (fieldDb q)
+unfolding snrFromQ
+snr-heard q h = rw h
 
 -- `HasValue` as a test
 abbrev hasValue : Float → Bool → ℕ → ℕ → Bool

@@ -65,10 +65,13 @@ pub fn field_db(q: u8) -> f32
     (q % 64) as f32 - 24.0
 }
 
-// The level that a field says.
+// The level that a field says: 63 is a boat that measured nothing.
 pub fn snr_from_q(q: u8) -> Level
     ensures { λ r. ⌜ r ≡ snrFromQ q ⌝ }
 {
+    if q % 64 == 63 {
+        return Level::Unheard;
+    }
     Level::Decibels(field_db(q))
 }
 
