@@ -3,11 +3,13 @@ mod call;
 mod number;
 mod print;
 mod serial;
+mod short;
 
 fn main() {
     number::p_numbers();
     number::ends();
     call::p_calls();
+    short::calls();
     serial::two_bits();
     serial::eight_bits();
     serial::sums();

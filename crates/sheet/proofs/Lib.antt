@@ -1,3 +1,4 @@
 pub mod Rows
 pub mod Places
+pub mod Members
 pub mod Theorems

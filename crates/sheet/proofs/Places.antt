@@ -1,8 +1,7 @@
 -- What stands at each place of the sheet, by the values of its characters. Assumes nothing.
-use mathlib.Core.Path.{_≡_, refl, sym, ap, _∙_, subst}
-use mathlib.Core.List.{List, [], _∷_, _++_, map, flatMap, flatten}
-use mathlib.Core.Logic.{⊎-elim}
-use Prim.Native.Nat.{ℕ, zero, suc, _+_, _-_, _*_, _/_, _%_, _≤_, _<_}
+use mathlib.Core.Path.{_≡_, refl, sym, ap, _∙_}
+use mathlib.Core.List.{List, [], _∷_}
+use Prim.Native.Nat.{ℕ, zero, suc, _+_, _*_, _/_, _%_, _<_}
 use native.Mathlib.Omega.{arith}
 use lib.ListN.{length, getD}
 use Rattle.wire.specs.Call.{digit, char, packed, pad}
@@ -70,7 +69,7 @@ place a b h k =
     ∙ ap (λ (c : ℕ). getD (callsFrom c) b []) (character-at a h)
     ∙ from-at (suc a) b k
 
--- what stands at place k: none for the first, and then the two values of k - 1 in base 38, the first of them one more
+-- what stands at place k + 1: the two values are those of k in base 38, the first of them one more
 pub place-of : (k : ℕ) → suc k < 1407 → getD shortCalls (suc k) [] ≡ pair (suc (k / 38)) (k % 38)
 place-of k h =
     let e : suc k ≡ suc (38 * (k / 38) + k % 38) = omega arith in

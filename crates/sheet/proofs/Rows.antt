@@ -1,4 +1,4 @@
--- Lists of lists that are all equally long, joined: how long they are, and what stands where. Assumes nothing.
+-- Rows that are all equally long, joined: how long they are together, and what stands where. Assumes nothing.
 use mathlib.Core.Path.{_≡_, refl, sym, ap, _∙_}
 use mathlib.Core.List.{List, [], _∷_, _++_, map, flatMap, flatten}
 use Prim.Native.Nat.{ℕ, zero, suc, _+_, _*_, _≤_, _<_}
@@ -51,7 +51,7 @@ module _ {A B : Type 0} (f : A → List B) (m : ℕ) (each : (x : A) → length 
 
 -- ---- rows of m each, one after the other
 
--- each row of the list has m
+-- each row has m
 abbrev pub Even : {A : Type 0} → ℕ → List (List A) → Type 0
 Even m rs = (k : ℕ) → k < length rs → length (getD rs k []) ≡ m
 
@@ -81,13 +81,13 @@ module _ {A : Type 0} (m : ℕ) where
 
 -- ---- a copy of the first n of s at the front of d, and then of the next m of s behind them
 
-pub paste-on : (d s r : List ℕ) (n m : ℕ) → n ≤ length s → length s ≤ length d → take m (drop n s) ≡ r → paste (paste d 0 s n) n r m ≡ paste d 0 s (n + m)
-paste-on d s r n m h k e =
+pub paste-on : (d s r : List ℕ) (n m : ℕ) → n ≤ length s → take m (drop n s) ≡ r → paste (paste d 0 s n) n r m ≡ paste d 0 s (n + m)
+paste-on d s r n m h e =
     let z : 0 + n ≡ n = omega arith in
     let y : 0 + (n + m) ≡ n + m = omega arith in
     let l : length (take n s) ≡ n = length-take-le n s h in
     let front : take n (paste d 0 s n) ≡ take n s = take-at (take n s) (drop (0 + n) d) n l in
     let back : drop (n + m) (paste d 0 s n) ≡ drop (n + m) d =
-        sym (drop-drop m n (paste d 0 s n)) ∙ ap (drop m) (drop-at (take n s) (drop (0 + n) d) n l ∙ ap (λ (i : ℕ). drop i d) z) ∙ drop-drop m n d in
+    sym (drop-drop m n (paste d 0 s n)) ∙ ap (drop m) (drop-at (take n s) (drop (0 + n) d) n l ∙ ap (λ (i : ℕ). drop i d) z) ∙ drop-drop m n d in
     let mid : take m r ≡ take m (drop n s) = ap (take m) (sym e) ∙ take-take m m (drop n s) (omega arith) in
     rw (front, back, mid, ← take-add n m s, y)

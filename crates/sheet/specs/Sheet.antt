@@ -40,13 +40,13 @@ refusal out = cond (ltb (length out) sheetBytes) 4 0
 abbrev pub written : List ℕ → List ℕ
 written out = cond (ltb (length out) sheetBytes) out (sheet ++ drop sheetBytes out)
 
--- one of the 38 characters, and not the space
-pub record IsLetter (c : ℕ) : Type 0 where
+-- one of the 38 characters other than the space
+pub record NotSpace (c : ℕ) : Type 0 where
   pub known : char (digit c) ≡ c
-  pub shown : c ≡ 32 → ⊥
+  pub other : c ≡ 32 → ⊥
 
 -- a call of at most two characters that are not space
 pub data Short : List ℕ → Type 0 where
   empty : Short (pad 7 [])
-  one : {a : ℕ} → IsLetter a → Short (pad 7 (a ∷ []))
-  two : {a b : ℕ} → IsLetter a → IsLetter b → Short (pad 7 (a ∷ b ∷ []))
+  one : {a : ℕ} → NotSpace a → Short (pad 7 (a ∷ []))
+  two : {a b : ℕ} → NotSpace a → NotSpace b → Short (pad 7 (a ∷ b ∷ []))

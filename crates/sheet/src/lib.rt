@@ -1,7 +1,7 @@
 // The sheet of short calls that a port hands out to workboats: every call of up to two characters, in rising order of its number.
 ghost use mathlib.Core.Path.{_≡_};
 ghost use mathlib.Core.List.{[]};
-ghost use Prim.Native.Nat.{_*_, _+_, _≤_, _<_};
+ghost use Prim.Native.Nat.{_*_, _≤_, _<_};
 ghost use lib.ListN.{length, getD};
 ghost use lib.Seq.{paste};
 ghost use Rattle.wire.specs.Call.{packed};
@@ -12,7 +12,7 @@ pub const CALLS: usize = 1407;
 
 pub const SHEET: usize = 9849;
 
-// 38 to the power 5: how often the first two characters count in a call's number.
+// 38 to the power 5: the number of a call is this times that of its first two characters, where none follow.
 const PLACE: u64 = 79235168;
 
 // The whole sheet, to the front of the output; 4 for an output that cannot hold it.
@@ -44,7 +44,7 @@ fn put_call(out: &mut [u8], k: usize)
     }
 }
 
-// The packed number of call k: the numbers of the first two characters go up by one from `0`, which is 38, on.
+// The packed number of call k. The empty call has 0; from `0` on the first two characters count up by one, and those of `0` are 38.
 fn number_at(k: usize) -> u64
     requires { ⌜ k < 1407 ⌝ }
     ensures { λ r. ⌜ r ≡ packed (getD shortCalls k []) ⌝ }

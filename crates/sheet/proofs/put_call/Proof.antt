@@ -12,10 +12,6 @@ use Rattle.sheet.proofs.Theorems.{seven, number-back}
 use borrow.Author.Needs.{needs}
 use Rattle.sheet.proofs.put_call.Statement.{statement}
 use Rattle.sheet.proofs.put_call.Tie as tie
-use Rattle.sheet.proofs.put_call.Reads as reads
-use Rattle.sheet.proofs.put_call.Lts as lts
-use Rattle.sheet.proofs.number_at.Reads as number-at-reads
-use Rattle.wire.proofs.calls.unpack_number.Reads as unpack-number-reads
 
 -- what is read from the number of call k
 is-call : (k : ℕ) {v : ℕ} {r : List ℕ} → k < 1407 → v ≡ packed (getD shortCalls k []) → r ≡ unpacked v → r ≡ getD shortCalls k []

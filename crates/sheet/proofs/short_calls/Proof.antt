@@ -1,26 +1,23 @@
 -- `sheet::short_calls` meets its contract. The invariant: the first k calls of the sheet are pasted. Assumes nothing.
-use mathlib.Core.Path.{_≡_, refl, sym, ap, _∙_}
+use mathlib.Core.Path.{_≡_, refl, ap, _∙_}
 use mathlib.Core.List.{List, [], _++_}
-use Prim.Native.Nat.{ℕ, suc, _+_, _*_, _-_, _≤_, _<_}
+use Prim.Native.Nat.{ℕ, _+_, _*_, _-_, _≤_, _<_}
 use native.Mathlib.Omega.{arith}
-use lib.ListN.{length, getD, take, drop}
-use lib.Seq.{paste, paste-zero, take-all, length-paste}
+use lib.ListN.{length, getD, drop}
+use lib.Seq.{paste, take-all}
 use borrow.Author.Tests.{lt-ltb, le-ltb}
 use Rattle.sheet.specs.Sheet.{shortCalls, sheet}
 use Rattle.sheet.proofs.Rows.{paste-on}
-use Rattle.sheet.proofs.Theorems.{bytes, seven, on-sheet}
+use Rattle.sheet.proofs.Theorems.{bytes, on-sheet}
 use borrow.Author.Needs.{needs}
 use Rattle.sheet.proofs.short_calls.Statement.{statement}
 use Rattle.sheet.proofs.short_calls.Tie as tie
-use Rattle.sheet.proofs.short_calls.Reads as reads
-use Rattle.sheet.proofs.short_calls.Lts as lts
-use Rattle.sheet.proofs.put_call.Reads as put-call-reads
 
 -- the first k calls are there, and one more
-turn : (d : List ℕ) (k : ℕ) → 9849 ≤ length d → k < 1407 → paste (paste d 0 sheet (7 * k)) (7 * k) (getD shortCalls k []) 7 ≡ paste d 0 sheet (7 * (k + 1))
-turn d k h p =
+turn : (d : List ℕ) (k : ℕ) → k < 1407 → paste (paste d 0 sheet (7 * k)) (7 * k) (getD shortCalls k []) 7 ≡ paste d 0 sheet (7 * (k + 1))
+turn d k p =
     let e : 7 * k + 7 ≡ 7 * (k + 1) = omega arith in
-    paste-on d sheet (getD shortCalls k []) (7 * k) 7 (omega (arith, bytes)) (omega (arith, bytes)) (on-sheet k p) ∙ ap (λ (n : ℕ). paste d 0 sheet n) e
+    paste-on d sheet (getD shortCalls k []) (7 * k) 7 (omega (arith, bytes)) (on-sheet k p) ∙ ap (λ (n : ℕ). paste d 0 sheet n) e
 
 -- all of them are there
 whole : (d : List ℕ) (k : ℕ) → k ≡ 1407 → paste d 0 sheet (7 * k) ≡ sheet ++ drop 9849 d
@@ -56,7 +53,7 @@ loop-again c =
     let p = c .before .before .put-call in (
       omega arith,
       omega arith,
-      p .ensures ∙ ap (λ (d : List ℕ). paste d (7 * l .loop .k) (getD shortCalls (l .loop .k) []) 7) (l .loop .inv .2) ∙ turn (a .out .now) (l .loop .k) (omega arith) (omega arith),
+      p .ensures ∙ ap (λ (d : List ℕ). paste d (7 * l .loop .k) (getD shortCalls (l .loop .k) []) 7) (l .loop .inv .2) ∙ turn (a .out .now) (l .loop .k) (omega arith),
     )
 
 same-length : tie.Need-same-length Inv-loop μ-loop
