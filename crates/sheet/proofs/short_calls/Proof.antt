@@ -32,7 +32,7 @@ abbrev μ-loop : tie.MeasureT-loop
 μ-loop out₀ k₀ out k = 1407 - k
 
 returns : tie.Need-returns Inv-loop μ-loop
-returns c = let a = c .before .before .args in rw (lt-ltb (length (a .out .now)) 9849 (c .if1 .taken)) (refl, refl)
+returns c = let a = c .before .before .args in rw (lt-ltb (length (a .out .now)) 9849 (omega arith)) (refl, refl)
 
 loop-holds : tie.Need-loop-holds Inv-loop μ-loop
 loop-holds c = (omega arith, refl, refl)
