@@ -477,7 +477,7 @@ module _ (M : Sent) (small : (s k : ℕ) → length (M s k) ≤ 2046) (n : Net) 
 -- ---- every list of calls
 
 module _ (M : Sent) (small : (s k : ℕ) → length (M s k) ≤ 2046) where
-  call-good : (c : Call) (n : Net) (b : Book) → Tied M n b → CallOk M (inBook c) (answersOf c n) b → CallGood M c n b
+  pub call-good : (c : Call) (n : Net) (b : Book) → Tied M n b → CallOk M (inBook c) (answersOf c n) b → CallGood M c n b
   unfolding result
   call-good (admission packed relay now room) n b t ok =
       quiet-call M (admission packed relay now room) n b t (admission-kept (n .station) packed relay now room) refl refl tt
