@@ -27,4 +27,5 @@ pub mod Item3
 pub mod Marks
 pub mod Runs
 pub mod Alike
+pub mod MarksRun
 pub mod Needed
