@@ -24,6 +24,7 @@ pub mod Receptions
 pub mod Messages
 pub mod Sounds
 pub mod Item3
+pub mod Landings
 pub mod Marks
 pub mod Runs
 pub mod Alike

@@ -1,4 +1,4 @@
--- The marks kept of a boat are those rebuilt from its whole window, and from the book. Assumes nothing.
+-- The marks kept of a boat are those rebuilt from its whole window, from all that landed, and from the book. Assumes nothing.
 use mathlib.Core.Path.{_≡_, refl, sym, ap, ap₂, _∙_, subst}
 use mathlib.Core.Bool.{Bool, true, false, cond, _&&_, _||_, or-false}
 use mathlib.Core.List.{List, [], _∷_}
@@ -6,10 +6,10 @@ use mathlib.Core.Logic.{⊎-elim}
 use Prim.Native.Nat.{ℕ, zero, suc, _+_, _^_, _≤_, _<_}
 use native.Mathlib.Omega.{arith}
 use lib.ListN.{length}
-use lib.Dec.{leb, ltb, eqb}
+use lib.Dec.{ltb, eqb}
 use borrow.Author.Tests.{le-leb, lt-leb, lt-ltb, le-ltb, eq-eqb, ne-eqb}
 use Rattle.bits.specs.Loop.{fold}
-use Rattle.bits.specs.Mask.{hasBit, eitherOf}
+use Rattle.bits.specs.Mask.{hasBit}
 use Rattle.bits.proofs.Bits.{bit, add-same, add-other, add-fits}
 use Rattle.bits.proofs.Laws.{has-none, has-past, has-bit, true-has, has-either, either-fits, has-false, mask-ext}
 use Rattle.bits.proofs.Loops.{fold-keeps-below}
@@ -21,9 +21,11 @@ use Rattle.net.specs.declared.Station.{Station}
 use Rattle.net.specs.State.{memberAt}
 use Rattle.net.specs.Net.{isMember}
 use Rattle.promise.specs.Promise.{Net, Call, step, after, started, Sent, Book, emptyBook, bookCall, inside, CallsOk}
-use Rattle.promise.specs.Marks.{alsoMarked, rebuilt, bookAfter, Booked, MarksFollow}
+use Rattle.promise.specs.Marks.{alsoMarked, rebuilt, Follows, MarksHold, inWindow, landedIn, bookAfter, MarksFollow}
 use Rattle.promise.proofs.Ledgers.{inside-of}
+use Rattle.promise.proofs.Quiet.{windowAt}
 use Rattle.promise.proofs.Messages.{Tied, started-tied, call-good}
+use Rattle.promise.proofs.Landings.{calls-told}
 
 -- ---- what is rebuilt has bit d, below 8, where next + 1 + d is handed over
 
@@ -125,6 +127,21 @@ marks-window w = mask-ext (bitmapOf w) (rebuilt (handedOf w) (w .next)) (omega a
         has-past 8 (bitmapOf w) d (omega arith) a
         ∙ sym (rebuilt-has (handedOf w) (w .next) d ∙ ap (λ (t : Bool). t && handedOf w (w .next + 1 + d)) (past-inside 0 8 d a))
 
+-- a test that says of every number what the window says
+follows : (has : ℕ → Bool) (w : Window) → ((k : ℕ) → has k ≡ handedOf w k) → Follows has w
+follows has w says =
+    record {
+      missing = says (w .next) ∙ next-not-handed w;
+      below = λ j a. says j ∙ handed-low w j a;
+      marks = marks-window w ∙ ap (λ (f : ℕ → Bool). rebuilt f (w .next)) (λ j k. sym (says k) j);
+    }
+
+-- the windows of all slots, those without a member too
+windows-hold : (f : ℕ → ℕ → Bool) (s : Station) → ((i k : ℕ) → f i k ≡ handedOf (windowAt s i) k) → MarksHold f s
+windows-hold f s says i here =
+    follows (f i) (memberAt s i .up)
+    (λ k. says i k ∙ ap (λ (w : Window). handedOf w k) (cond-true (isMember (s .used) i) (memberAt s i .up) freshOf here))
+
 -- ---- the book after the calls
 
 module _ (M : Sent) (small : (s k : ℕ) → length (M s k) ≤ 2046) where
@@ -134,26 +151,17 @@ module _ (M : Sent) (small : (s k : ℕ) → length (M s k) ≤ 2046) where
   calls-tied (c ∷ cs) n b t ok =
       calls-tied cs (step c n) (bookCall M c n b .left) (call-good M small c n b t (ok .0) .tied) (ok .1)
 
-module _ (M : Sent) (n : Net) (b : Book) (tied : Tied M n b) (i : ℕ) (here : isMember (n .station .used) i ≡ true) where
-  abbrev w : Window
-  w = memberAt (n .station) i .up
+-- ---- the theorem
 
-  says : (k : ℕ) → b .ledger .handed i k ≡ handedOf w k
-  says k = tied .tie .numbers i k ∙ ap (λ (x : Window). handedOf x k) (cond-true (isMember (n .station .used) i) w freshOf here)
-
-  tied-marks : Booked (b .ledger) i w
-  tied-marks =
-      record {
-        next = (says (w .next) ∙ next-not-handed w, λ j a. says j ∙ handed-low w j a);
-        marks = marks-window w ∙ ap (λ (f : ℕ → Bool). rebuilt f (w .next)) (λ j k. sym (says k) j);
-      }
-
--- the theorem
 pub marks-follow : MarksFollow
 marks-follow s g store e cs =
+    let n = started s g store in
+    let t = started-tied (λ x k. []) s g store e in
     record {
-      window = λ i here. marks-window (memberAt (after cs (started s g store) .station) i .up);
+      window = λ i here. follows (inWindow (after cs n .station) i) (memberAt (after cs n .station) i .up) (λ k. refl);
+      landed = windows-hold (landedIn cs n (λ x k. false)) (after cs n .station)
+          (calls-told cs n (λ x k. false) (record { view = record { tidy = t .tie .tidy; sound = t .tie .sound }; long = t .long }) (t .tie .numbers));
       book = λ M small ok.
-          tied-marks M (after cs (started s g store)) (bookAfter M cs (started s g store) emptyBook)
-          (calls-tied M small cs (started s g store) emptyBook (started-tied M s g store e) ok);
+          windows-hold (bookAfter M cs n emptyBook .ledger .handed) (after cs n .station)
+          (calls-tied M small cs n emptyBook (started-tied M s g store e) ok .tie .numbers);
     }

@@ -121,7 +121,7 @@ module _ (a : Air) (slot : ℕ) (r : Accepted) (x : Reading) (here : isMember (x
   piece-long = base-kept .long ∙ length-set (x .station .members) (indexOf slot) _ ∙ long
 
 -- its events
-piece-events : (a : Air) (s : Station) (slot : ℕ) (r : Accepted) → slot < 64 → (hasLanded (r .landed) ≡ true → r .cell < 64)
+pub piece-events : (a : Air) (s : Station) (slot : ℕ) (r : Accepted) → slot < 64 → (hasLanded (r .landed) ≡ true → r .cell < 64)
     → eventsIn (pieceEvents a s slot r) ≡ alsoOne (eventFor slot r) []
 piece-events a s slot r low fit = at (hasLanded (r .landed)) refl
   where

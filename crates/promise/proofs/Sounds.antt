@@ -52,13 +52,13 @@ pub record Fit (n : Net) : Type 0 where
 
 -- ---- a piece
 
-accept-land : (t : Table) (w : Window) (store : List ℕ) (slot field : ℕ) (p : List ℕ)
+pub accept-land : (t : Table) (w : Window) (store : List ℕ) (slot field : ℕ) (p : List ℕ)
     → accept t w store slot field p .window ≡ cond (hasLanded (accept t w store slot field p .landed)) (landOf w (accept t w store slot field p .number)) w
 accept-land t w store slot field p =
     accept-cases t w store slot field p (λ x. x .window ≡ cond (hasLanded (x .landed)) (landOf w (x .number)) w)
     (λ e. refl) (λ k e h. refl) (λ k o a q c. refl) (λ k o q. refl)
 
-record FitRead (x : Reading) : Type 0 where
+pub record FitRead (x : Reading) : Type 0 where
   pub view : FitView (viewOf (x .station) (x .store))
   pub long : length (x .station .members) ≡ 62
 
@@ -135,7 +135,7 @@ frame-fit a (heard flags field p) x k f =
     (λ _. cond-keeps (Untouched x) (eqb (length p) 0) x _ (λ _. untouched x) (λ _. control-untouched a (flags % 64) _ (length p) p x))
     (λ _. untouched x)))
 
-step-read-fit : (a : Air) (g : Heard) (x : Reading) → Fine g → FitRead x → FitRead (frameStep a g x)
+pub step-read-fit : (a : Air) (g : Heard) (x : Reading) → Fine g → FitRead x → FitRead (frameStep a g x)
 unfolding frameStep
 step-read-fit a g x k f = let z = frame-fit a g x k f in record { view = z .view; long = z .long }
 
@@ -145,7 +145,7 @@ frames-fit a [] x k f = f
 frames-fit a (g ∷ fs) x (AllFine.more h k) f = frames-fit a fs (frameStep a g x) k (step-read-fit a g x h f)
 
 -- only the store's length counts
-other-store : (t : Table) (store other : List ℕ) → 6400 * t .count ≤ length other → Tidy t store → Tidy t other
+pub other-store : (t : Table) (store other : List ℕ) → 6400 * t .count ≤ length other → Tidy t store → Tidy t other
 other-store t store other h d =
     record {
       some = d .some;
@@ -187,7 +187,7 @@ module _ (n : Net) (words : List ℕ) (snr now : Float) (st : List ℕ) (room : 
   FitOutcome o = Fit (net (o .station) (cond (refusedBy o) (n .store) (o .store)))
 
   -- a reception that is not refused was lent a store for all the cells
-  room-of : receiveRefusal room (length st) (n .station .count) now snr (parse words) ≡ 0 → 6400 * n .station .count ≤ length st
+  pub room-of : receiveRefusal room (length st) (n .station .count) now snr (parse words) ≡ 0 → 6400 * n .station .count ≤ length st
   unfolding receiveRefusal
   room-of = at (ltb room 8192) (ltb (length st / 6400) (n .station .count)) refl
     where

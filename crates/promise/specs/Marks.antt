@@ -1,10 +1,10 @@
 -- The eight marks that a list has of a boat, `MsgIn::bitmap` of stream.rs. The station keeps them as a running value, the low byte of the boat's window, moved
--- when a message lands; here they are rebuilt from every number that is asked for, and `MarksFollow`, the last definition, says that the two are equal.
-use Prim.Native.Nat.{ℕ, _+_, _^_, _≤_}
+-- when a message lands; here they are rebuilt number by number, and `MarksFollow`, the last definition, says that the two are equal after any calls from a start.
+use Prim.Native.Nat.{ℕ, _+_, _%_, _^_, _≤_, _<_}
 use mathlib.Core.Path.{_≡_}
-use mathlib.Core.Bool.{Bool, true, cond}
+use mathlib.Core.Bool.{Bool, true, false, cond}
 use mathlib.Core.List.{List, [], _∷_}
-use lib.ListN.{length}
+use lib.ListN.{length, getD}
 use Rattle.bits.specs.Loop.{fold}
 use Rattle.bits.specs.Mask.{eitherOf}
 use Rattle.stream.specs.declared.window.Window.{Window}
@@ -14,7 +14,9 @@ use Rattle.net.specs.State.{memberAt}
 use Rattle.net.specs.Net.{isMember}
 use Rattle.config.specs.declared.Given.{Given}
 use Rattle.station.specs.Entries.{startRefusal}
-use Rattle.promise.specs.Promise.{Net, Call, step, after, started, Sent, Ledger, Book, emptyBook, bookCall, Lowest, CallsOk}
+use Rattle.promise.specs.Promise.{Net, InBook, brings, reads, frees, changesNothing, Call, inBook, step, after, started, Sent, Book, emptyBook, alsoHanded, Event2, answersOf, bookCall, CallsOk}
+
+-- ---- rebuilding
 
 -- `a | (self.has(self.next + 1 + i) as u8) << i`
 abbrev pub alsoMarked : (ℕ → Bool) → ℕ → ℕ → ℕ → ℕ
@@ -24,30 +26,53 @@ alsoMarked has next i a = eitherOf a (cond (has (next + 1 + i)) (2 ^ i) 0)
 unfoldable pub rebuilt : (ℕ → Bool) → ℕ → ℕ
 rebuilt has next = fold (alsoMarked has next) 8 0 0
 
--- the marks kept of each boat are those that its whole window gives
-abbrev pub MarksHold : Station → Type 0
-MarksHold s =
-    (i : ℕ) → isMember (s .used) i ≡ true → bitmapOf (memberAt s i .up) ≡ rebuilt (handedOf (memberAt s i .up)) (memberAt s i .up .next)
+-- a boat's window follows a test of its numbers: next is the lowest that fails, and the marks are those that the test gives
+pub record Follows (has : ℕ → Bool) (w : Window) : Type 0 where
+  pub missing : has (w .next) ≡ false
+  pub below : (j : ℕ) → j < w .next → has j ≡ true
+  pub marks : bitmapOf w ≡ rebuilt has (w .next)
+
+-- so does that of each boat; f is the test of a slot and a number
+abbrev pub MarksHold : (ℕ → ℕ → Bool) → Station → Type 0
+MarksHold f s = (i : ℕ) → isMember (s .used) i ≡ true → Follows (f i) (memberAt s i .up)
+
+-- ---- the three tests
+
+-- the boats' own windows
+abbrev pub inWindow : Station → ℕ → ℕ → Bool
+inWindow s i k = handedOf (memberAt s i .up) k
+
+-- landed with these events 2 too: an event names slot and cell, and the full number stands with the cell, its owner being slot * 2 ^ 32 + number
+abbrev pub alsoLanded : List Event2 → List ℕ → (ℕ → ℕ → Bool) → ℕ → ℕ → Bool
+alsoLanded [] owners f = f
+alsoLanded (e ∷ es) owners f = alsoLanded es owners (alsoHanded (e .slot) (getD owners (e .cell) 0 % 4294967296) f)
+
+-- in a call: only receptions land messages
+abbrev pub landedBy : InBook → List Event2 → List ℕ → (ℕ → ℕ → Bool) → ℕ → ℕ → Bool
+landedBy (brings words numbers lent) es owners f = alsoLanded es owners f
+landedBy (reads cell lent) es owners f = f
+landedBy (frees cell) es owners f = f
+landedBy changesNothing es owners f = f
+
+-- in all the calls, told by their events 2
+unfoldable pub landedIn : List Call → Net → (ℕ → ℕ → Bool) → ℕ → ℕ → Bool
+landedIn [] n f = f
+landedIn (c ∷ cs) n f = landedIn cs (step c n) (landedBy (inBook c) (answersOf c n .events) (step c n .station .owners) f)
 
 -- the book after the calls
 unfoldable pub bookAfter : Sent → List Call → Net → Book → Book
 bookAfter M [] n b = b
 bookAfter M (c ∷ cs) n b = bookAfter M cs (step c n) (bookCall M c n b .left)
 
--- of one boat: `next` is its lowest number not handed over in the book, and the marks are those that the book gives
-pub record Booked (l : Ledger) (i : ℕ) (w : Window) : Type 0 where
-  pub next : Lowest l i (w .next)
-  pub marks : bitmapOf w ≡ rebuilt (l .handed i) (w .next)
+-- ---- the promise
 
--- so it is of each boat
-abbrev pub MarksBooked : Ledger → Station → Type 0
-MarksBooked l s = (i : ℕ) → isMember (s .used) i ≡ true → Booked l i (memberAt s i .up)
-
--- of the calls cs from n on, in the station last returned; against the book under the premises on messages that item 3 has
+-- of the calls cs from n on, in the station last returned: the marks are those rebuilt from each boat's whole window, from all that landed, and, under item 3's
+-- premises on messages, from what the book has handed over
 pub record Marks (n : Net) (cs : List Call) : Type 0 where
-  pub window : MarksHold (after cs n .station)
+  pub window : MarksHold (inWindow (after cs n .station)) (after cs n .station)
+  pub landed : MarksHold (landedIn cs n (λ s k. false)) (after cs n .station)
   pub book : (M : Sent) → ((s k : ℕ) → length (M s k) ≤ 2046) → CallsOk M cs n emptyBook
-      → MarksBooked (bookAfter M cs n emptyBook .ledger) (after cs n .station)
+      → MarksHold (bookAfter M cs n emptyBook .ledger .handed) (after cs n .station)
 
 -- from a start that is not refused, of any calls
 abbrev pub MarksFollow : Type 0

@@ -1,0 +1,353 @@
+-- With no premise on pieces: a boat's window has handed over exactly the messages whose events 2 the calls returned. Assumes nothing.
+use mathlib.Core.Path.{_≡_, refl, sym, ap, _∙_, subst}
+use mathlib.Core.Bool.{Bool, true, false, cond, _&&_, _||_}
+use mathlib.Core.Option.{none, some}
+use mathlib.Core.List.{List, [], _∷_, _++_, append-nil}
+use mathlib.Core.Logic.{⊎-elim}
+use Prim.Native.Nat.{ℕ, _*_, _/_, _%_, _≤_, _<_}
+use native.Mathlib.Omega.{arith}
+use lib.ListN.{length, getD}
+use lib.Seq.{getD-set-same}
+use lib.Dec.{eqb}
+use lib.Ieee.{Float}
+use borrow.Author.Tests.{eqb-true, eq-eqb, ne-eqb}
+use Rattle.bits.specs.Mask.{hasBit, withBit}
+use Rattle.bits.proofs.Laws.{with-same}
+use Rattle.bits.proofs.Lists.{cond-keeps, cond-true, cases, eq-or-not, never-both}
+use Rattle.wire.specs.Kinds.{tiny, kIdle, tUp, tCtrl}
+use Rattle.words.specs.Words.{Heard, lost, heard, Burst, Parsed, malformed, parsed, parse}
+use Rattle.words.specs.Fine.{Fine, AllFine}
+use Rattle.words.proofs.Fine.{parse-fine}
+use Rattle.inbox.specs.declared.keep.Kept.the-variants.{Yes}
+use Rattle.inbox.proofs.Rule.{yes-is}
+use Rattle.stream.specs.declared.window.Window.{Window}
+use Rattle.stream.specs.declared.table.Room.{Room}
+use Rattle.stream.specs.declared.table.Room.the-variants.{Own, Free, Full}
+use Rattle.stream.specs.Window.{handedOf, landOf, freshOf}
+use Rattle.stream.specs.Table.{Table, Accepted, passed, accept, cellAt, cellFor, cellCount, ownerOf, placeOf, hasRoom, hasLanded, putIn, tableRoom}
+use Rattle.stream.proofs.Rooms.{RoomIs}
+use Rattle.stream.proofs.Tables.{Tidy, table-room, place-in, kept-other}
+use Rattle.stream.proofs.Accepts.{leftAs, answerOf, cellIn, heldAfter, putAs, accept-cases, accept-window}
+use Rattle.net.specs.declared.Station.{Station}
+use Rattle.net.specs.State.{memberAt, tableOf, withWait}
+use Rattle.net.specs.Net.{isMember}
+use Rattle.frames.specs.declared.Air.{Air}
+use Rattle.frames.specs.Reading.{Reading}
+use Rattle.frames.specs.Pieces.{pieceEvents, keptPiece, pieceFrame}
+use Rattle.frames.specs.Frames.{readFrame, frameStep, readFrames}
+use Rattle.rx.specs.Ending.{busyWait, idleEnd, replyEnd, nothingMore, Ended}
+use Rattle.rx.specs.Reception.{Received, airOf, firstReading, receivedOf, ncsRx}
+use Rattle.station.specs.Entries.{Outcome, receiveBy, receiveRefusal, receiveOf, cellRefusal, freeOf}
+use Rattle.promise.specs.Promise.{lentTo, Net, net, Call, admission, reception, decision, sending, closing, reading, freeing, result, inBook, outcome, step, after, alsoHanded, Event2, eventsIn, answersOf}
+use Rattle.promise.specs.Marks.{alsoLanded, landedBy, landedIn}
+use Rattle.promise.proofs.Ledgers.{handed-other}
+use Rattle.promise.proofs.Ties.{View}
+use Rattle.promise.proofs.Pieces.{alsoOne, windowsAfter, viewAfter, eventFor}
+use Rattle.promise.proofs.Quiet.{windowAt, Keeps, kept-self, viewOf, kept-view}
+use Rattle.promise.proofs.Events.{events-none, events-append, append-quiet}
+use Rattle.promise.proofs.QuietRx.{Untouched, untouched, control-untouched, QuietEnd, idle-kept, reply-kept}
+use Rattle.promise.proofs.Readings.{piece-view, piece-events}
+use Rattle.promise.proofs.Messages.{admission-kept, decision-kept, sending-kept, closing-kept, reading-kept}
+use Rattle.promise.proofs.Sounds.{FitView, Fit, FitRead, accept-land, step-read-fit, other-store, room-of, step-fit}
+
+-- ---- the cell of a landed message
+
+-- a piece leaves the cells of landed messages alone, and the cell of a message that lands with it has its number
+pub record Landing (t : Table) (x : Accepted) : Type 0 where
+  pub stays : (c : ℕ) → hasBit (t .landed) c ≡ true → (hasBit (x .table .landed) c ≡ true) × (getD (x .table .owners) c 0 ≡ getD (t .owners) c 0)
+  pub fit : hasLanded (x .landed) ≡ true → x .cell < 64
+  pub whole : hasLanded (x .landed) ≡ true → hasBit (x .table .landed) (x .cell) ≡ true
+  pub number : hasLanded (x .landed) ≡ true → getD (x .table .owners) (x .cell) 0 % 4294967296 ≡ x .number
+
+module _ (t : Table) (w : Window) (store : List ℕ) (slot field : ℕ) (p : List ℕ) (tidy : Tidy t store) where
+  module _ (k : ℕ) (yes : answerOf t slot k (field % 65536) p ≡ Yes) where
+    open-cell : hasBit (t .landed) (cellIn t slot k) ≡ false
+    open-cell =
+        go (tableRoom t slot k) (table-room t store tidy slot k)
+        (yes-is false k (field % 65536) (length p) (hasRoom (tableRoom t slot k)) (cellFor (tableRoom t slot k) (cellAt t (cellIn t slot k))) yes .celled)
+      where
+        go : (r : Room) → RoomIs (t .owners) (t .busy) (t .landed) (ownerOf slot k) (cellCount (t .count)) r → hasRoom r ≡ true → hasBit (t .landed) (placeOf r) ≡ false
+        go (Own c) q h = q .filling .open-yet
+        go (Free c) q h = ⊎-elim (λ e. absurd (never-both (hasBit (t .busy) c) (tidy .taken c e) (q .unused))) (λ e. e) (cases (hasBit (t .landed) c))
+        go Full q h = absurd (never-both false h refl)
+
+    put-landing : Landing t (putAs t w store slot k (field % 65536) p)
+    put-landing =
+        let low = place-in t store tidy slot k .0 in
+        let small = yes-is false k (field % 65536) (length p) (hasRoom (tableRoom t slot k)) (cellFor (tableRoom t slot k) (cellAt t (cellIn t slot k))) yes .low in
+        let long = tidy .owners in
+        record {
+          stays = λ c h.
+              let r = kept-other t (cellIn t slot k) (ownerOf slot k) (putIn store (cellIn t slot k) (heldAfter t store slot k (field % 65536) p) .taken) c
+              (λ e. never-both (hasBit (t .landed) c) h (ap (hasBit (t .landed)) e ∙ open-cell)) in
+              (r .1 ∙ h, r .2);
+          fit = λ b. low;
+          whole = λ b.
+              ap (λ (u : Bool). hasBit (cond u (withBit (t .landed) (cellIn t slot k)) (t .landed)) (cellIn t slot k)) b
+              ∙ with-same (t .landed) (cellIn t slot k) low;
+          number = λ b.
+              ap (λ (o : ℕ). o % 4294967296) (getD-set-same (t .owners) (cellIn t slot k) (ownerOf slot k) 0 (omega arith)) ∙ omega arith;
+        }
+
+  -- a piece that lands nothing and leaves the table alone
+  still : (x : Accepted) → x .table ≡ t → hasLanded (x .landed) ≡ false → Landing t x
+  still x p q =
+      record {
+        stays = λ c h. (ap (λ (u : Table). hasBit (u .landed) c) p ∙ h, ap (λ (u : Table). getD (u .owners) c 0) p);
+        fit = λ h. absurd (never-both (hasLanded (x .landed)) h q);
+        whole = λ h. absurd (never-both (hasLanded (x .landed)) h q);
+        number = λ h. absurd (never-both (hasLanded (x .landed)) h q);
+      }
+
+  accept-landing : Landing t (accept t w store slot field p)
+  accept-landing =
+      accept-cases t w store slot field p (Landing t)
+      (λ e. still (passed t w store 0) refl refl) (λ k e h. still (passed t w store k) refl refl)
+      (λ k o a q c. still (leftAs t w store (cellIn t slot k) k a) refl refl) (λ k o q. put-landing k q)
+
+-- ---- the events so far
+
+abbrev AllWhole : List Event2 → ℕ → Type 0
+AllWhole [] landed = Unit {0}
+AllWhole (e ∷ es) landed = (hasBit landed (e .cell) ≡ true) × AllWhole es landed
+
+-- what landed before, f, and with the events so far is what the windows have handed over; the events' cells hold their messages yet
+pub record Log (f : ℕ → ℕ → Bool) (v : View) (es : List Event2) : Type 0 where
+  pub numbers : (i k : ℕ) → alsoLanded es (v .table .owners) f i k ≡ handedOf (v .windows i) k
+  pub whole : AllWhole es (v .table .landed)
+
+landed-append : (es xs : List Event2) (owners : List ℕ) (f : ℕ → ℕ → Bool) → alsoLanded (es ++ xs) owners f ≡ alsoLanded xs owners (alsoLanded es owners f)
+landed-append [] xs owners f = refl
+landed-append (e ∷ es) xs owners f = landed-append es xs owners (alsoHanded (e .slot) (getD owners (e .cell) 0 % 4294967296) f)
+
+whole-append : (es xs : List Event2) (landed : ℕ) → AllWhole es landed → AllWhole xs landed → AllWhole (es ++ xs) landed
+whole-append [] xs landed a b = b
+whole-append (e ∷ es) xs landed a b = (a .0, whole-append es xs landed (a .1) b)
+
+module _ (t : Table) (x : Accepted) (l : Landing t x) where
+  whole-stays : (es : List Event2) → AllWhole es (t .landed) → AllWhole es (x .table .landed)
+  whole-stays [] a = tt
+  whole-stays (e ∷ es) a = (l .stays (e .cell) (a .0) .0, whole-stays es (a .1))
+
+  landed-stays : (es : List Event2) (f : ℕ → ℕ → Bool) → AllWhole es (t .landed) → alsoLanded es (x .table .owners) f ≡ alsoLanded es (t .owners) f
+  landed-stays [] f a = refl
+  landed-stays (e ∷ es) f a =
+      landed-stays es (alsoHanded (e .slot) (getD (x .table .owners) (e .cell) 0 % 4294967296) f) (a .1)
+      ∙ ap (λ (o : ℕ). alsoLanded es (t .owners) (alsoHanded (e .slot) (o % 4294967296) f)) (l .stays (e .cell) (a .0) .1)
+
+handed-by : (s k : ℕ) (f : ℕ → ℕ → Bool) (i j : ℕ) → s ≡ i → alsoHanded s k f i j ≡ f i j || eqb j k
+unfolding alsoHanded
+handed-by s k f i j e = ap (λ (t : Bool). cond (t && eqb k j) true (f i j)) (eq-eqb s i e) ∙ ⊎-elim yes no (eq-or-not k j)
+  where
+    at : (t u : Bool) → cond t true u ≡ u || t
+    at true true = refl
+    at true false = refl
+    at false true = refl
+    at false false = refl
+
+    yes : k ≡ j → cond (eqb k j) true (f i j) ≡ f i j || eqb j k
+    yes q = ap (λ (t : Bool). cond t true (f i j)) (eq-eqb k j q ∙ sym (eq-eqb j k (sym q))) ∙ at (eqb j k) (f i j)
+
+    no : (k ≡ j → ⊥) → cond (eqb k j) true (f i j) ≡ f i j || eqb j k
+    no q = ap (λ (t : Bool). cond t true (f i j)) (ne-eqb k j q ∙ sym (ne-eqb j k (λ z. q (sym z)))) ∙ at (eqb j k) (f i j)
+
+-- ---- a piece
+
+module _ (f : ℕ → ℕ → Bool) (v : View) (es : List Event2) (log : Log f v es) (fit : FitView v) (slot field : ℕ) (p : List ℕ) (short : length p ≤ 255) where
+  abbrev r : Accepted
+  r = accept (v .table) (v .windows slot) (v .store) slot field p
+
+  landing : Landing (v .table) r
+  landing = accept-landing (v .table) (v .windows slot) (v .store) slot field p (fit .tidy)
+
+  abbrev g : ℕ → ℕ → Bool
+  g = alsoLanded es (r .table .owners) f
+
+  before : (i k : ℕ) → g i k ≡ handedOf (v .windows i) k
+  before i k = ap (λ (h : ℕ → ℕ → Bool). h i k) (landed-stays (v .table) r landing es f (log .whole)) ∙ log .numbers i k
+
+  land-handed : hasLanded (r .landed) ≡ true → (j : ℕ) → handedOf (landOf (v .windows slot) (r .number)) j ≡ handedOf (v .windows slot) j || eqb j (r .number)
+  land-handed q j =
+      ap (λ (w : Window). handedOf w j)
+      (sym (accept-land (v .table) (v .windows slot) (v .store) slot field p ∙ cond-true (hasLanded (r .landed)) (landOf (v .windows slot) (r .number)) (v .windows slot) q))
+      ∙ accept-window (v .table) (v .windows slot) (v .store) slot field p (fit .tidy) short (fit .sound slot) .1 j
+      ∙ ap (λ (t : Bool). handedOf (v .windows slot) j || (t && eqb j (r .number))) q
+
+  after-numbers : (b : Bool) → hasLanded (r .landed) ≡ b → (i k : ℕ)
+      → alsoLanded (alsoOne (cond b (some (record { slot = slot; cell = r .cell; number = r .number % 256 })) none) []) (r .table .owners) g i k
+      ≡ handedOf (windowsAfter (v .windows) slot b (r .number) i) k
+  after-numbers false q i k = before i k
+  after-numbers true q i k =
+      ap (λ (n : ℕ). alsoHanded slot n g i k) (landing .number q)
+      ∙ ⊎-elim
+      (λ e.
+      handed-by slot (r .number) g i k e
+      ∙ ap (λ (t : Bool). t || eqb k (r .number)) (before i k)
+      ∙ sym
+      (ap (λ (t : Bool). handedOf (cond t (landOf (v .windows i) (r .number)) (v .windows i)) k) (eq-eqb slot i e)
+      ∙ subst (λ (i : ℕ). handedOf (landOf (v .windows i) (r .number)) k ≡ handedOf (v .windows i) k || eqb k (r .number)) e (land-handed q k)))
+      (λ z.
+      handed-other slot (r .number) g i k (ap (λ (t : Bool). t && eqb (r .number) k) (ne-eqb slot i z))
+      ∙ before i k
+      ∙ sym (ap (λ (t : Bool). handedOf (cond t (landOf (v .windows i) (r .number)) (v .windows i)) k) (ne-eqb slot i z)))
+      (eq-or-not slot i)
+
+  after-whole : (b : Bool) → hasLanded (r .landed) ≡ b
+      → AllWhole (alsoOne (cond b (some (record { slot = slot; cell = r .cell; number = r .number % 256 })) none) []) (r .table .landed)
+  after-whole false q = tt
+  after-whole true q = (landing .whole q, tt)
+
+  piece-log : Log f (viewAfter v slot r) (es ++ alsoOne (eventFor slot r) [])
+  piece-log =
+      record {
+        numbers = λ i k.
+            ap (λ (h : ℕ → ℕ → Bool). h i k) (landed-append es (alsoOne (eventFor slot r) []) (r .table .owners) f)
+            ∙ after-numbers (hasLanded (r .landed)) refl i k;
+        whole = whole-append es (alsoOne (eventFor slot r) []) (r .table .landed) (whole-stays (v .table) r landing es (log .whole))
+            (after-whole (hasLanded (r .landed)) refl);
+      }
+
+-- ---- a reception
+
+abbrev LogRead : (ℕ → ℕ → Bool) → Reading → Type 0
+LogRead f x = Log f (viewOf (x .station) (x .store)) (eventsIn (x .words))
+
+module _ (f : ℕ → ℕ → Bool) where
+  -- what leaves every message alone and tells of none
+  quiet-log : (v v′ : View) (es es′ : List Event2) → v′ ≡ v → es′ ≡ es ++ [] → Log f v es → Log f v′ es′
+  quiet-log v v′ es es′ p q l = subst (λ (u : View). Log f u es′) (sym p) (subst (Log f v) (sym (q ∙ append-nil es)) l)
+
+  untouched-log : (x y : Reading) → Untouched x y → LogRead f x → LogRead f y
+  untouched-log x y u l =
+      quiet-log (viewOf (x .station) (x .store)) (viewOf (y .station) (y .store)) (eventsIn (x .words)) (eventsIn (y .words))
+      (ap (viewOf (y .station)) (u .store) ∙ kept-view (x .station) (y .station) (x .store) (u .station)) (u .events) l
+
+  module _ (a : Air) (slot field : ℕ) (p : List ℕ) (x : Reading) (fit : FitRead x) (log : LogRead f x) (low : slot < 64) (short : length p ≤ 255)
+      (here : isMember (x .station .used) slot ≡ true) where
+    window-here : windowAt (x .station) slot ≡ memberAt (x .station) slot .up
+    window-here = cond-true (isMember (x .station .used) slot) (memberAt (x .station) slot .up) freshOf here
+
+    abbrev Kept : Accepted → Type 0
+    Kept q = LogRead f (keptPiece a slot q x)
+
+    kept-log : Kept (accept (tableOf (x .station)) (memberAt (x .station) slot .up) (x .store) slot field p)
+    kept-log = subst (λ (w : Window). Kept (accept (tableOf (x .station)) w (x .store) slot field p)) window-here by-view
+      where
+        q : Accepted
+        q = accept (tableOf (x .station)) (windowAt (x .station) slot) (x .store) slot field p
+
+        by-view : Kept q
+        by-view =
+            subst (λ (u : View). Log f u (eventsIn (keptPiece a slot q x .words))) (sym (piece-view a slot q x here (fit .long)))
+            (subst (Log f (viewAfter (viewOf (x .station) (x .store)) slot q))
+            (sym
+            (events-append (x .words) (pieceEvents a (x .station) slot q)
+            ∙ ap (λ (es : List Event2). eventsIn (x .words) ++ es)
+            (piece-events a (x .station) slot q low
+            (landing f (viewOf (x .station) (x .store)) (eventsIn (x .words)) log (fit .view) slot field p short .fit))))
+            (piece-log f (viewOf (x .station) (x .store)) (eventsIn (x .words)) log (fit .view) slot field p short))
+
+  up-log : (a : Air) (slot field : ℕ) (p : List ℕ) (x : Reading) → slot < 64 → length p ≤ 255 → FitRead x → LogRead f x → LogRead f (pieceFrame a slot field p x)
+  unfolding pieceFrame
+  up-log a slot field p x low short fit log =
+      cond-keeps (LogRead f) (isMember (x .station .used) slot) _ x
+      (λ h. cond-keeps (LogRead f) (accept (tableOf (x .station)) (memberAt (x .station) slot .up) (x .store) slot field p .lost) _ _
+      (λ _. log) (λ _. kept-log a slot field p x fit log low short h))
+      (λ _. log)
+
+  frame-log : (a : Air) (g : Heard) (x : Reading) → Fine g → FitRead x → LogRead f x → LogRead f (readFrame a g x)
+  unfolding readFrame
+  frame-log a lost x k fit log = log
+  frame-log a (heard flags field p) x k fit log =
+      cond-keeps (LogRead f) (eqb (flags / 64) tUp) _ _
+      (λ _. up-log a (flags % 64) field p x (omega arith) (omega (arith, k .2)) fit log)
+      (λ _. untouched-log x _
+      (cond-keeps (Untouched x) (eqb (flags / 64) tCtrl) _ x
+      (λ _. cond-keeps (Untouched x) (eqb (length p) 0) x _ (λ _. untouched x) (λ _. control-untouched a (flags % 64) _ (length p) p x))
+      (λ _. untouched x)) log)
+
+  step-log : (a : Air) (g : Heard) (x : Reading) → Fine g → FitRead x → LogRead f x → LogRead f (frameStep a g x)
+  unfolding frameStep
+  step-log a g x k fit log = frame-log a g x k fit log
+
+  frames-log : (a : Air) (fs : List Heard) (x : Reading) → AllFine fs → FitRead x → LogRead f x → LogRead f (readFrames a fs x)
+  unfolding readFrames
+  frames-log a [] x k fit log = log
+  frames-log a (g ∷ fs) x (AllFine.more h k) fit log = frames-log a fs (frameStep a g x) k (step-read-fit a g x h fit) (step-log a g x h fit log)
+
+  abbrev LogReceived : Received → Type 0
+  LogReceived r = Log f (viewOf (r .station) (r .store)) (eventsIn (r .words))
+
+  end-log : (y : Reading) (d : Ended) → LogRead f y → QuietEnd (y .station) d → LogReceived (receivedOf y d)
+  end-log y d log k =
+      quiet-log (viewOf (y .station) (y .store)) (viewOf (d .station) (y .store)) (eventsIn (y .words)) (eventsIn (receivedOf y d .words))
+      (kept-view (y .station) (d .station) (y .store) (k .0)) (append-quiet (y .words) (d .burst) (eventsIn (y .words)) refl (k .1)) log
+
+  abbrev Told : Station → Type 0
+  Told s = (i k : ℕ) → f i k ≡ handedOf (windowAt s i) k
+
+  rx-log : (s : Station) (u : Burst) (snr now : Float) (store : List ℕ) → AllFine (u .frames) → Fit (net s store) → Told s → LogReceived (ncsRx s u snr now store)
+  unfolding ncsRx
+  rx-log s u snr now store k fit told =
+      let a = airOf s (u .head) snr now in
+      let x = firstReading (withWait s (busyWait (s .wait) (u .head) (s .settings) now)) store in
+      let y = readFrames a (u .frames) x in
+      let g : FitRead x = record { view = fit .view; long = fit .long } in
+      let log : LogRead f x = subst (Log f (viewOf s store)) (sym events-none) (record { numbers = told; whole = tt }) in
+      cond-keeps LogReceived (eqb (u .head .code) tiny) _ _
+      (λ _. end-log x (cond (eqb (u .head .hi) kIdle) (idleEnd a (u .head .extra) (x .station)) (nothingMore (x .station))) log
+      (cond-keeps (QuietEnd (x .station)) (eqb (u .head .hi) kIdle) _ _
+      (λ _. idle-kept (x .station) a (u .head .extra) (x .station) (kept-self (x .station)))
+      (λ _. (kept-self (x .station), events-none))))
+      (λ _. end-log y (replyEnd a (u .head) y) (frames-log a (u .frames) x k g log) (reply-kept (y .station) a (u .head) y (kept-self (y .station))))
+
+-- ---- the calls
+
+module _ (f : ℕ → ℕ → Bool) (n : Net) (fit : Fit n) (told : Told f (n .station)) where
+  abbrev TellsAll : Outcome → Type 0
+  TellsAll o = (i k : ℕ) → alsoLanded (eventsIn (o .words)) (o .station .owners) f i k ≡ handedOf (windowAt (o .station) i) k
+
+  module _ (words : List ℕ) (snr now : Float) (st : List ℕ) (room : ℕ) where
+    nothing-told : (i k : ℕ) → alsoLanded (eventsIn []) (n .station .owners) f i k ≡ handedOf (windowAt (n .station) i) k
+    nothing-told i k = ap (λ (es : List Event2). alsoLanded es (n .station .owners) f i k) events-none ∙ told i k
+
+    receive-log : (w : Parsed Burst) → parse words ≡ w → 6400 * n .station .count ≤ length st → TellsAll (receiveBy w (n .station) snr now st)
+    receive-log malformed q h = nothing-told
+    receive-log (parsed u) q h =
+        rx-log f (n .station) u snr now st (parse-fine words u q .frames)
+        (record { view = record { tidy = other-store (tableOf (n .station)) (n .store) st h (fit .view .tidy); sound = fit .view .sound }; long = fit .long }) told .numbers
+
+    received-told : TellsAll (receiveOf (n .station) words snr now st room)
+    unfolding receiveOf
+    received-told =
+        cond-keeps TellsAll (eqb (receiveRefusal room (length st) (n .station .count) now snr (parse words)) 0) _ _
+        (λ q. receive-log (parse words) refl (room-of n words snr now st room fit (eqb-true _ 0 q)))
+        (λ q. nothing-told)
+
+  kept-told : (c : Call) → Keeps (n .station) (outcome c n .station) → Told f (outcome c n .station)
+  kept-told c k i j = told i j ∙ ap (λ (w : Window). handedOf w j) (sym (k .windows i))
+
+  free-told : (cell : ℕ) → Told f (freeOf (n .station) cell .station)
+  unfolding freeOf
+  free-told cell =
+      cond-keeps (λ (o : Outcome). Told f (o .station)) (eqb (cellRefusal (n .station .count) (n .station .landed) cell) 0) _ _ (λ _. told) (λ _. told)
+
+  abbrev next-told : Call → ℕ → ℕ → Bool
+  next-told c = landedBy (inBook c) (answersOf c n .events) (step c n .station .owners) f
+
+  call-told : (c : Call) → Told (next-told c) (step c n .station)
+  unfolding step result
+  call-told (admission packed relay now room) = kept-told (admission packed relay now room) (admission-kept (n .station) packed relay now room)
+  call-told (reception words snr now lent room numbers) = received-told words snr now (lentTo lent (n .store)) room
+  call-told (decision now room) = kept-told (decision now room) (decision-kept (n .station) now room)
+  call-told (sending now) = kept-told (sending now) (sending-kept (n .station) now)
+  call-told (closing count) = kept-told (closing count) (closing-kept (n .station) count)
+  call-told (reading cell lent) = kept-told (reading cell lent) (reading-kept cell lent n)
+  call-told (freeing cell) = free-told cell
+
+-- every list of calls
+pub calls-told : (cs : List Call) (n : Net) (f : ℕ → ℕ → Bool) → Fit n → Told f (n .station) → Told (landedIn cs n f) (after cs n .station)
+unfolding landedIn after
+calls-told [] n f fit told = told
+calls-told (c ∷ cs) n f fit told =
+    calls-told cs (step c n) (landedBy (inBook c) (answersOf c n .events) (step c n .station .owners) f) (step-fit c n fit) (call-told f n fit told c)
