@@ -1,0 +1,2 @@
+pub mod Cents
+pub mod Sums

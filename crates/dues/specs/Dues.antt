@@ -1,0 +1,99 @@
+-- Airtime dues: what each slot is charged and credited in cents, and what the port takes, from the month's bytes.
+-- `figures` are the bytes landed, one figure for each of the 62 slots. A boat's relay is a slot, and 63 is none.
+use Prim.Native.Nat.{ℕ, zero, suc, _+_, _-_, _*_, _/_, min}
+use mathlib.Core.Bool.{Bool, cond, _&&_}
+use mathlib.Core.List.{List, [], _∷_}
+use lib.Dec.{eqb, leb}
+use lib.ListN.{length, getD, replicate}
+use Rattle.bits.specs.Loop.{every}
+use Rattle.net.specs.declared.Station.{Station}
+use Rattle.net.specs.State.{memberAt}
+use Rattle.net.specs.Net.{isMember}
+use Rattle.dues.specs.declared.Bill.{Bill}
+
+-- ---- slots
+
+-- what f says of each of n slots, from slot i on
+unfoldable pub slotsFrom : (ℕ → ℕ) → ℕ → ℕ → List ℕ
+slotsFrom f zero i = []
+slotsFrom f (suc n) i = f i ∷ slotsFrom f n (suc i)
+
+-- and of each of the 62
+abbrev pub perSlot : (ℕ → ℕ) → List ℕ
+perSlot f = slotsFrom f 62 0
+
+unfoldable pub total : List ℕ → ℕ
+total [] = 0
+total (x ∷ xs) = x + total xs
+
+-- ---- cents
+
+-- lots of 256 bytes, a started one counted whole
+unfoldable pub started : ℕ → ℕ
+started n = (n + 255) / 256
+
+-- the first 1,024 bytes free, then 35 cents for each started 256 up to 16,384, then 20 for each started 256
+unfoldable pub chargeOf : ℕ → ℕ
+chargeOf n = 35 * started (min n 16384 - 1024) + 20 * started (n - 16384)
+
+-- rounded down to a cent
+abbrev pub tenth : ℕ → ℕ
+tenth cents = cents / 10
+
+-- rounded up to a cent
+abbrev pub nineTenths : ℕ → ℕ
+nineTenths cents = (9 * cents + 9) / 10
+
+-- ---- a slot's line
+
+-- an empty slot is charged nothing
+abbrev pub chargeBy : ℕ → ℕ → ℕ → ℕ
+chargeBy used slot n = cond (isMember used slot) (chargeOf n) 0
+
+abbrev pub chargeAt : Station → List ℕ → ℕ → ℕ
+chargeAt s figures i = chargeBy (s .used) i (getD figures i 0)
+
+-- the relay that the record of the boat in slot i names
+abbrev pub relayOf : Station → ℕ → ℕ
+relayOf s i = memberAt s i .via
+
+-- what slot r is credited of the charge of slot i: a tenth, where r is its relay
+abbrev pub creditFrom : Station → List ℕ → ℕ → ℕ → ℕ
+creditFrom s figures r i = cond (eqb (relayOf s i) r) (tenth (chargeAt s figures i)) 0
+
+-- and of all charges; nothing is credited to an empty slot
+unfoldable pub creditOf : Station → List ℕ → ℕ → ℕ
+creditOf s figures r = cond (isMember (s .used) r) (total (perSlot (creditFrom s figures r))) 0
+
+-- the same charge by charge, as the code has it: what a relay is credited of one
+abbrev pub tenthTo : ℕ → ℕ → ℕ → ℕ
+tenthTo used relay cents = cond (isMember used relay) (tenth cents) 0
+
+-- what the port takes of a charge: the whole, or nine tenths of that of a boat with a relay
+abbrev pub takingBy : ℕ → ℕ → ℕ
+takingBy relay cents = cond (eqb relay 63) cents (nineTenths cents)
+
+abbrev pub takingOf : Station → List ℕ → ℕ → ℕ
+takingOf s figures i = takingBy (relayOf s i) (chargeAt s figures i)
+
+-- boat by boat
+unfoldable pub takingsOf : Station → List ℕ → ℕ
+takingsOf s figures = total (perSlot (takingOf s figures))
+
+-- ---- the answer
+
+-- 26: a figure above 1,000,000,000, one of an empty slot too, or not 62 figures
+unfoldable pub figuresOk : List ℕ → Bool
+figuresOk figures = eqb (length figures) 62 && every (λ i. leb (getD figures i 0) 1000000000) 62 0
+
+abbrev pub duesRefusal : List ℕ → ℕ
+duesRefusal figures = cond (figuresOk figures) 0 26
+
+abbrev pub noBill : ℕ → Bill
+noBill refusal = record { refusal = refusal; charges = replicate 62 0; credits = replicate 62 0; takings = 0 }
+
+unfoldable pub duesOf : Station → List ℕ → Bill
+duesOf s figures =
+    cond (eqb (duesRefusal figures) 0)
+    (record { refusal = 0; charges = perSlot (chargeAt s figures); credits = perSlot (creditOf s figures); takings = takingsOf s figures })
+    (noBill (duesRefusal figures))

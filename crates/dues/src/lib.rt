@@ -1,0 +1,121 @@
+// Airtime dues: ports share the radio cost by the bytes that landed. Each boat's month is charged in cents, a part of it is credited to its relay, and the
+// rest is the port's. The station is only read.
+ghost use mathlib.Core.Path.{_≡_};
+ghost use Rattle.dues.specs.Dues.{started, chargeOf, chargeBy, tenthTo, takingBy, figuresOk, noBill, duesOf};
+use net::Station;
+
+// The answer: each slot's charge and credit, an empty one's 0, and the port's takings.
+pub struct Bill {
+    pub refusal: u8,
+    pub charges: [u32; 62],
+    pub credits: [u32; 62],
+    pub takings: u64,
+}
+
+// How many lots of 256 bytes are started.
+fn lots(n: u32) -> u32
+    ensures { λ r. ⌜ r ≡ started n ⌝ }
+{
+    if n % 256 == 0 { n / 256 } else { n / 256 + 1 }
+}
+
+// A month of n bytes, in cents. The 60 lots from 1,024 to 16,384 come to 2,100.
+fn charge(n: u32) -> u32
+    ensures { λ r. ⌜ r ≡ chargeOf n ⌝ }
+{
+    if n <= 1024 {
+        return 0;
+    }
+    if n <= 16384 {
+        return 35 * lots(n - 1024);
+    }
+    2100 + 20 * lots(n - 16384)
+}
+
+// An empty slot is charged nothing.
+fn charge_in(used: u64, slot: u8, n: u32) -> u32
+    ensures { λ r. ⌜ r ≡ chargeBy used slot n ⌝ }
+{
+    if net::is_member(used, slot) {
+        return charge(n);
+    }
+    0
+}
+
+// What the relay gets of a charge; a relay without a member gets nothing, and 63 is none.
+fn tenth_to(used: u64, relay: u8, cents: u32) -> u32
+    ensures { λ r. ⌜ r ≡ tenthTo used relay cents ⌝ }
+{
+    if net::is_member(used, relay) {
+        return cents / 10;
+    }
+    0
+}
+
+// What the port takes of a charge: all but the tenth that goes to a relay.
+fn taking(relay: u8, cents: u32) -> u32
+    ensures { λ r. ⌜ r ≡ takingBy relay cents ⌝ }
+{
+    if relay == 63 {
+        return cents;
+    }
+    cents - cents / 10
+}
+
+// There are 62 figures, none above 1,000,000,000.
+fn figures_ok(figures: &[u32]) -> bool
+    ensures { λ r. ⌜ r ≡ figuresOk (now (figures .entry)) ⌝ }
+{
+    if figures.len() != 62 {
+        return false;
+    }
+    let mut i: usize = 0;
+    while i < 62 {
+        if 1000000000 < figures[i] {
+            return false;
+        }
+        i += 1;
+    }
+    true
+}
+
+fn no_bill(refusal: u8) -> Bill
+    ensures { λ r. ⌜ r ≡ noBill refusal ⌝ }
+{
+    let none = [0u32; 62];
+    Bill {
+        refusal: refusal,
+        charges: none,
+        credits: none,
+        takings: 0,
+    }
+}
+
+// The month's dues: `figures` are the bytes landed, one for each slot.
+pub fn dues(s: Station, figures: &[u32]) -> Bill
+    ensures { λ r. ⌜ r ≡ duesOf s (now (figures .entry)) ⌝ }
+{
+    if !figures_ok(figures) {
+        return no_bill(26);
+    }
+    let mut charges = [0u32; 62];
+    let mut credits = [0u32; 62];
+    let mut takings: u64 = 0;
+    let mut i: usize = 0;
+    while i < 62 {
+        let m = s.members[i];
+        let relay = m.via;
+        let cents = charge_in(s.used, i as u8, figures[i]);
+        let v = net::index(relay);
+        charges[i] = cents;
+        credits[v] = credits[v] + tenth_to(s.used, relay, cents);
+        takings = takings + taking(relay, cents) as u64;
+        i += 1;
+    }
+    Bill {
+        refusal: 0,
+        charges: charges,
+        credits: credits,
+        takings: takings,
+    }
+}
