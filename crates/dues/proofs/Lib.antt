@@ -1,2 +1,3 @@
 pub mod Cents
 pub mod Sums
+pub mod Lines

@@ -1,123 +1,112 @@
+-- Assumes nothing.
+use Prim.Native.Nat.{_≤_, _-_}
+use native.Mathlib.Omega.{arith}
+use mathlib.Core.Path.{_≡_, refl, sym, _∙_}
+use mathlib.Core.Bool.{true}
+use borrow.Author.Tests.{not-true, not-false}
+use Rattle.dues.specs.Dues.{figuresOk, duesOf}
+use Rattle.dues.proofs.Lines.{Reckoned, reckoned-start, line-lt, reckoned-turn, credit-below, taking-below, reckoned-end, figures-many, credit-most, takings-most}
 use Rattle.dues.proofs.dues.Statement.{statement}
 use Rattle.dues.proofs.dues.Tie as tie
-use Rattle.dues.proofs.dues.Reads as reads
-use Rattle.dues.proofs.dues.Lts as lts
-use Rattle.dues.proofs.charge_in.Reads as charge-in-reads
-use Rattle.dues.proofs.figures_ok.Reads as figures-ok-reads
-use Rattle.dues.proofs.no_bill.Reads as no-bill-reads
-use Rattle.dues.proofs.taking.Reads as taking-reads
-use Rattle.dues.proofs.tenth_to.Reads as tenth-to-reads
-use Rattle.net.proofs.index.Reads as index-reads
 
 abbrev Inv-loop : tie.InvT-loop
-Inv-loop figures s charges₀ credits₀ takings₀ i₀ charges credits takings i = ?
+Inv-loop figures s charges₀ credits₀ takings₀ i₀ charges credits takings i =
+    (i ≤ 62) × (figuresOk figures ≡ true) × Reckoned s figures charges credits takings i
 
 abbrev μ-loop : tie.MeasureT-loop
-μ-loop figures s charges₀ credits₀ takings₀ i₀ charges credits takings i = ?
+μ-loop figures s charges₀ credits₀ takings₀ i₀ charges credits takings i = 62 - i
 
--- src/lib.rt:98:9
 figures-ok-requires : tie.Need-figures-ok-requires Inv-loop μ-loop
-figures-ok-requires c κs = ?
+figures-ok-requires c κs = tt
 
--- src/lib.rt:99:9
 no-bill-requires : tie.Need-no-bill-requires Inv-loop μ-loop
-no-bill-requires c κs = ?
+no-bill-requires c κs = tt
 
--- src/lib.rt:99:9
 returns : tie.Need-returns Inv-loop μ-loop
-returns c = ?
+unfolding duesOf
+returns c = rw (c .no-bill .ensures, ← c .before .before .figures-ok .ensures, not-true (c .before .before .figures-ok .result) (c .before .if1 .taken))
 
--- src/lib.rt:105:5
 loop-holds : tie.Need-loop-holds Inv-loop μ-loop
-loop-holds c = ?
+loop-holds c =
+    (omega arith, sym (c .before .figures-ok .ensures) ∙ not-false _ (c .if1 .left), reckoned-start _ _)
 
--- src/lib.rt:106:17
 mul-m : tie.Need-mul-m Inv-loop μ-loop
-mul-m c = ?
+mul-m c = omega arith
 
--- src/lib.rt:106:17
 element-copy-out-m : tie.Need-element-copy-out-m Inv-loop μ-loop
-element-copy-out-m c = ?
+element-copy-out-m c = omega arith
 
--- src/lib.rt:108:39
 cast-charge-in : tie.Need-cast-charge-in Inv-loop μ-loop
-cast-charge-in c = ?
+cast-charge-in c = omega arith
 
--- src/lib.rt:108:48
 mul-charge-in : tie.Need-mul-charge-in Inv-loop μ-loop
-mul-charge-in c = ?
+mul-charge-in c = omega arith
 
--- src/lib.rt:108:48
 shared-slice-read-charge-in : tie.Need-shared-slice-read-charge-in Inv-loop μ-loop
-shared-slice-read-charge-in c = ?
+shared-slice-read-charge-in c = let l = c .before .before .before .loop in omega (arith, figures-many _ (l .inv .1))
 
--- src/lib.rt:108:13
 charge-in-requires : tie.Need-charge-in-requires Inv-loop μ-loop
-charge-in-requires c κs = ?
+charge-in-requires c κs = tt
 
--- src/lib.rt:109:13
 index-requires : tie.Need-index-requires Inv-loop μ-loop
-index-requires c κs = ?
+index-requires c κs = tt
 
--- src/lib.rt:110:9
 mul-charges : tie.Need-mul-charges Inv-loop μ-loop
-mul-charges c = ?
+mul-charges c = omega arith
 
--- src/lib.rt:110:9
 array-write-charges : tie.Need-array-write-charges Inv-loop μ-loop
-array-write-charges c = ?
+array-write-charges c = omega arith
 
--- src/lib.rt:111:22
 mul-credits : tie.Need-mul-credits Inv-loop μ-loop
-mul-credits c = ?
+mul-credits c = omega (arith, line-lt (c .before .before .before .before .before .before .before .before .before .args .t1) (c .before .before .before .before .before .loop .i) _ (c .index .ensures))
 
--- src/lib.rt:111:22
 array-read-credits : tie.Need-array-read-credits Inv-loop μ-loop
-array-read-credits c = ?
+array-read-credits c = omega (arith, line-lt (c .before .before .before .before .before .before .before .before .before .args .t1) (c .before .before .before .before .before .loop .i) _ (c .index .ensures))
 
--- src/lib.rt:111:35
 tenth-to-requires : tie.Need-tenth-to-requires Inv-loop μ-loop
-tenth-to-requires c κs = ?
+tenth-to-requires c κs = tt
 
--- src/lib.rt:111:22
 add-credits : tie.Need-add-credits Inv-loop μ-loop
-add-credits c = ?
+add-credits c =
+    let l = c .before .before .before .before .before .before .loop in
+    let h = c .before .before .before .before .before .loop-test .taken in
+    let x = c .before .index in
+    let a = credit-below _ _ _ _ _ (l .i) h (l .inv .2) _ _ _ _ (c .before .before .charge-in .ensures) (x .ensures) (c .tenth-to .ensures) refl in
+    omega (arith, credit-most _ (l .inv .1) (c .before .before .before .before .before .before .before .before .before .before .args .t1) (x .result))
 
--- src/lib.rt:111:9
 mul-credits-2 : tie.Need-mul-credits-2 Inv-loop μ-loop
-mul-credits-2 c = ?
+mul-credits-2 c = omega (arith, line-lt (c .before .before .before .before .before .before .before .before .before .before .args .t1) (c .before .before .before .before .before .before .loop .i) _ (c .before .index .ensures))
 
--- src/lib.rt:111:9
 array-write-credits : tie.Need-array-write-credits Inv-loop μ-loop
-array-write-credits c = ?
+array-write-credits c = omega (arith, line-lt (c .before .before .before .before .before .before .before .before .before .before .args .t1) (c .before .before .before .before .before .before .loop .i) _ (c .before .index .ensures))
 
--- src/lib.rt:112:29
 taking-requires : tie.Need-taking-requires Inv-loop μ-loop
-taking-requires c κs = ?
+taking-requires c κs = tt
 
--- src/lib.rt:112:29
 cast-takings : tie.Need-cast-takings Inv-loop μ-loop
-cast-takings c = ?
+cast-takings c = omega arith
 
--- src/lib.rt:112:19
 add-takings : tie.Need-add-takings Inv-loop μ-loop
-add-takings c = ?
+add-takings c =
+    let l = c .before .before .before .before .before .before .before .loop in
+    let h = c .before .before .before .before .before .before .loop-test .taken in
+    let a = taking-below _ _ _ _ _ (l .i) h (l .inv .2) _ _ _ _ (c .before .before .before .charge-in .ensures) (c .before .before .index .ensures) (c .before .tenth-to .ensures) (c .taking .ensures) in
+    omega (arith, takings-most _ (l .inv .1) (c .before .before .before .before .before .before .before .before .before .before .before .args .t1))
 
--- src/lib.rt:113:9
 add-i : tie.Need-add-i Inv-loop μ-loop
-add-i c = ?
+add-i c = omega arith
 
--- src/lib.rt:105:5
 loop-less : tie.Need-loop-less Inv-loop μ-loop
-loop-less c = ?
+loop-less c = omega arith
 
--- src/lib.rt:105:5
 loop-again : tie.Need-loop-again Inv-loop μ-loop
-loop-again c = ?
+loop-again c =
+    let l = c .before .before .before .before .before .before .before .loop in
+    let h = c .before .before .before .before .before .before .loop-test .taken in
+    (omega arith, l .inv .1, reckoned-turn _ _ _ _ _ (l .i) h (l .inv .2) _ _ _ _ (c .before .before .before .charge-in .ensures) (c .before .before .index .ensures) (c .before .tenth-to .ensures) (c .taking .ensures))
 
--- src/lib.rt:95:1
 returns-2 : tie.Need-returns-2 Inv-loop μ-loop
-returns-2 c = ?
+returns-2 c = let l = c .before .loop in reckoned-end _ _ _ _ _ (l .i) (c .loop-test .left) (l .inv .1) (l .inv .2)
 
 pub dues-spec : {M : Type 1} → statement M
 dues-spec =
