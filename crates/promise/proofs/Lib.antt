@@ -3,6 +3,7 @@ pub mod Rosters
 pub mod LinksNext
 pub mod LinksRx
 pub mod Links
+pub mod Dues
 pub mod Chains
 pub mod Monitor
 pub mod TurnsWords

@@ -23,7 +23,8 @@ use Rattle.admit.specs.Admission.{seatOf, slotOf, isFull, leadsTo, viaFor}
 use Rattle.config.specs.declared.Given.{Given}
 use Rattle.config.specs.Checks.{settingsOf}
 use Rattle.station.specs.Entries.{Outcome, done, refused, unless, check1, checkRelay, startRefusal, startOf, admitRefusal, admitOf, receiveBy, receiveRefusal, receiveOf, nextRefusal, nextOf, sentOf, closeRefusal, closeOf, readRefusal, cellRefusal, freeOf}
-use Rattle.promise.specs.Promise.{lentTo, Net, Call, admission, reception, decision, sending, closing, reading, freeing, result, outcome, step, after, started, LinksHold}
+use Rattle.dues.specs.Dues.{duesRefusal}
+use Rattle.promise.specs.Promise.{lentTo, Net, Call, admission, reception, decision, sending, closing, reading, freeing, charging, result, outcome, step, after, started, LinksHold}
 use Rattle.promise.proofs.Rosters.{Keeps, RelayOk, kept-none, kept-holds}
 use Rattle.promise.proofs.LinksNext.{next-kept}
 use Rattle.promise.proofs.LinksRx.{admit-kept, rx-kept}
@@ -107,6 +108,7 @@ call-kept (closing count) n k = closing-kept (n .station) count k
 call-kept (reading cell lent) n k =
     unless-kept (readRefusal (length (lentTo lent (n .store))) (n .station .count) (n .station .landed) cell) (n .station) (n .store) _ k (λ _. k)
 call-kept (freeing cell) n k = freeing-kept (n .station) cell k
+call-kept (charging figures) n k = unless-kept (duesRefusal figures) (n .station) (n .store) _ k (λ _. k)
 
 -- ---- the start, and every list of calls
 

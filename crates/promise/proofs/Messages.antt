@@ -38,7 +38,8 @@ use Rattle.rx.specs.Reception.{Received, airOf, firstReading, receivedOf, ncsRx
 use Rattle.config.specs.declared.Given.{Given}
 use Rattle.config.specs.Checks.{settingsOk, settingsOf}
 use Rattle.station.specs.Entries.{Outcome, refused, done, receivedAs, receiveBy, receiveRefusal, receiveOf, admitRefusal, admitOf, nextRefusal, nextOf, sentOf, check1, closeRefusal, closeOf, startRefusal, startOf, cellRefusal, check22, readRefusal, readingOf, freeOf}
-use Rattle.promise.specs.Promise.{Lent, handed, another, lentTo, Net, net, ofBurst, Call, admission, reception, decision, sending, closing, reading, freeing, result, inBook, outcome, isRefused, step, started, Sent, Message, Ledger, Book, emptyBook, Entered, unchanged, bookFrames, framesBy, Event2, eventsIn, enter, enterAll, answersOf, bookDone, bookCall, FramesOk, LentOk, CallOk, CallsOk, Once, Paired, ReadsAs, AtCall, Holds, handedIn, Messages}
+use Rattle.dues.specs.Dues.{duesRefusal}
+use Rattle.promise.specs.Promise.{Lent, handed, another, lentTo, Net, net, ofBurst, Call, admission, reception, decision, sending, closing, reading, freeing, charging, result, inBook, outcome, isRefused, step, started, Sent, Message, Ledger, Book, emptyBook, Entered, unchanged, bookFrames, framesBy, Event2, eventsIn, enter, enterAll, answersOf, bookDone, bookCall, FramesOk, LentOk, CallOk, CallsOk, Once, Paired, ReadsAs, AtCall, Holds, handedIn, Messages}
 use Rattle.promise.proofs.Ledgers.{none-below}
 use Rattle.promise.proofs.Ties.{View, Use, Vacant, Comes, useOf, useAt, heldAt, FineAt, entryOf, Tie, not-vacant, not-whole, use-vacant}
 use Rattle.promise.proofs.Quiet.{windowIn, Keeps, kept-self, viewOf, kept-view}
@@ -219,6 +220,11 @@ unfolding result
 reading-kept c lent n =
     cond-keeps (KeepsOutcome (n .station)) (eqb (readRefusal (length (lentTo lent (n .store))) (n .station .count) (n .station .landed) c) 0) _ _
     (λ _. kept-self (n .station)) (λ _. kept-self (n .station))
+
+pub charging-kept : (figures : List ℕ) (n : Net) → KeepsOutcome (n .station) (outcome (charging figures) n)
+unfolding result
+charging-kept figures n =
+    cond-keeps (KeepsOutcome (n .station)) (eqb (duesRefusal figures) 0) _ _ (λ _. kept-self (n .station)) (λ _. kept-self (n .station))
 
 -- ---- freeing
 
@@ -487,6 +493,7 @@ module _ (M : Sent) (small : (s k : ℕ) → length (M s k) ≤ 2046) where
   call-good (closing count) n b t ok = quiet-call M (closing count) n b t (closing-kept (n .station) count) refl refl tt
   call-good (reading cell lent) n b t ok = quiet-call M (reading cell lent) n b t (reading-kept cell lent n) refl refl (reads M n b t cell)
   call-good (freeing cell) n b t ok = freeing-good M n b t cell
+  call-good (charging figures) n b t ok = quiet-call M (charging figures) n b t (charging-kept figures n) refl refl tt
 
   calls-hold : (cs : List Call) (n : Net) (b : Book) → Tied M n b → CallsOk M cs n b → Holds M cs n b
   unfolding CallsOk Holds

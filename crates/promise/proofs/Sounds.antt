@@ -32,14 +32,14 @@ use Rattle.rx.specs.Ending.{busyWait, idleEnd, replyEnd, nothingMore, Ended}
 use Rattle.rx.specs.Reception.{Received, airOf, firstReading, receivedOf, ncsRx}
 use Rattle.config.specs.declared.Given.{Given}
 use Rattle.station.specs.Entries.{Outcome, receiveBy, receiveRefusal, check1, check2, check3, receiveOf, startRefusal, cellRefusal, freeOf}
-use Rattle.promise.specs.Promise.{Lent, lentTo, Net, net, Call, admission, reception, decision, sending, closing, reading, freeing, result, outcome, isRefused, step, after, started}
+use Rattle.promise.specs.Promise.{Lent, lentTo, Net, net, Call, admission, reception, decision, sending, closing, reading, freeing, charging, result, outcome, isRefused, step, after, started}
 use Rattle.promise.proofs.Ties.{View}
 use Rattle.promise.proofs.Pieces.{windowsAfter}
 use Rattle.promise.proofs.Quiet.{windowAt, Keeps, kept-self, viewOf, kept-view}
 use Rattle.promise.proofs.Events.{events-none}
 use Rattle.promise.proofs.QuietRx.{Untouched, untouched, control-untouched, QuietEnd, idle-kept, reply-kept}
 use Rattle.promise.proofs.Readings.{piece-view, piece-long}
-use Rattle.promise.proofs.Messages.{started-tied, admission-kept, decision-kept, sending-kept, closing-kept, reading-kept, refusedBy, same-cond}
+use Rattle.promise.proofs.Messages.{started-tied, admission-kept, decision-kept, sending-kept, closing-kept, reading-kept, charging-kept, refusedBy, same-cond}
 
 -- one to 64 cells, all in the store, and no message in two of them; every slot's window in its bounds
 pub record FitView (v : View) : Type 0 where
@@ -251,6 +251,7 @@ step-fit (sending now) n f = quiet-fit (sending now) n f (sending-kept (n .stati
 step-fit (closing count) n f = quiet-fit (closing count) n f (closing-kept (n .station) count) refl
 step-fit (reading cell lent) n f = quiet-fit (reading cell lent) n f (reading-kept cell lent n) refl
 step-fit (freeing cell) n f = freeing-fit cell n f
+step-fit (charging figures) n f = quiet-fit (charging figures) n f (charging-kept figures n) refl
 
 pub after-fit : (cs : List Call) (n : Net) → Fit n → Fit (after cs n)
 unfolding after

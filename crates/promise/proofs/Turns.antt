@@ -24,7 +24,8 @@ use Rattle.admit.specs.Admission.{seatOf, isFull, viaFor}
 use Rattle.next.specs.Next.{ncsNext}
 use Rattle.rx.specs.Reception.{ncsRx}
 use Rattle.station.specs.Entries.{Outcome, refused, done, unless, startRefusal, startOf, admitted, admitOf, receiveBy, receiveRefusal, receiveOf, nextOf, sentOf, closeOf, freeOf, readRefusal, check1, admitRefusal, nextRefusal, closeRefusal, cellRefusal}
-use Rattle.promise.specs.Promise.{lentTo, Net, ofBurst, Call, admission, reception, decision, sending, closing, reading, freeing, result, outcome, step, started, TurnEvent, overIf, drewIf, burstsIn, turnEvents, trace, emptyView, TurnsHold}
+use Rattle.dues.specs.Dues.{duesRefusal}
+use Rattle.promise.specs.Promise.{lentTo, Net, ofBurst, Call, admission, reception, decision, sending, closing, reading, freeing, charging, result, outcome, step, started, TurnEvent, overIf, drewIf, burstsIn, turnEvents, trace, emptyView, TurnsHold}
 use Rattle.promise.proofs.Monitor.{Run, rest, turn, Acc, accepted}
 use Rattle.promise.proofs.TurnsWords.{Quiet, quiet-none}
 use Rattle.promise.proofs.TurnsLists.{slotsIn, Low, low-none, list-none}
@@ -115,6 +116,7 @@ module _ (r : Run) (n : Net) (e : Rel r (n .station .wait .turn)) (l : Low (n .s
       let t = withRound s (withClosing (s .round) true count) in
       fine-quiet left r (closeRefusal count) s t [] [] [] quiet-none (fine-none r t e l) same
 
+  -- a reading, and dues: the station and the store stay
   fine-reading : (n : ℕ) (store : List ℕ) → Fine left r (unless n s store (done s store []) .station) (said (unless n s store (done s store [])) [] [])
   fine-reading n store = fine-quiet left r n s s store store [] quiet-none same same
 
@@ -133,6 +135,7 @@ module _ (r : Run) (n : Net) (e : Rel r (n .station .wait .turn)) (l : Low (n .s
   fine-call (closing count) = fine-closing count
   fine-call (reading cell lent) = fine-reading (readRefusal (length (lentTo lent (n .store))) (s .count) (s .landed) cell) (n .store)
   fine-call (freeing cell) = fine-freeing cell
+  fine-call (charging figures) = fine-reading (duesRefusal figures) (n .store)
 
 -- ### Every list of calls
 

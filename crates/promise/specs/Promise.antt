@@ -21,6 +21,7 @@ use Rattle.next.specs.Next.{ncsNext}
 use Rattle.rx.specs.Reception.{Received, ncsRx}
 use Rattle.config.specs.declared.Given.{Given}
 use Rattle.station.specs.Entries.{Outcome, done, unless, startRefusal, startOf, admitOf, receiveOf, nextOf, sentOf, closeOf, freeOf, readRefusal, readingOf}
+use Rattle.dues.specs.Dues.{duesRefusal}
 
 -- ---- the calls, and the definitions of the entry points run over a list of them
 
@@ -79,6 +80,7 @@ pub data Call : Type 0 where
   closing : (count : ℕ) → Call
   reading : (cell : ℕ) (lent : Lent) → Call
   freeing : (cell : ℕ) → Call
+  charging : (figures : List ℕ) → Call
 
 -- the definitions that the entry points' contracts name
 unfoldable pub result : Call → Net → Result
@@ -97,6 +99,8 @@ result (reading cell lent) n =
     (unless (readRefusal (length (lentTo lent (n .store))) (n .station .count) (n .station .landed) cell) (n .station) (n .store)
     (done (n .station) (n .store) []))
 result (freeing cell) n = plain n (freeOf (n .station) cell)
+result (charging figures) n =
+    plain n (unless (duesRefusal figures) (n .station) (n .store) (done (n .station) (n .store) []))
 
 -- and the calls as they are in the book
 abbrev pub inBook : Call → InBook
@@ -107,6 +111,7 @@ inBook (sending now) = changesNothing
 inBook (closing count) = changesNothing
 inBook (reading cell lent) = reads cell lent
 inBook (freeing cell) = frees cell
+inBook (charging figures) = changesNothing
 
 -- refusal, station, words and mask
 abbrev pub outcome : Call → Net → Outcome
