@@ -11,7 +11,7 @@ use borrow.Author.Tests.{eq-eqb, ne-eqb}
 use Rattle.net.specs.declared.Station.{Station}
 use Rattle.net.specs.Net.{isMember}
 use Rattle.net.proofs.Laws.{member-lt, member-none}
-use Rattle.dues.specs.Dues.{slotsFrom, perSlot, total, chargeOf, tenth, chargeAt, relayOf, creditFrom, creditOf, tenthTo, takingBy, takingOf, takingsOf}
+use Rattle.dues.specs.Dues.{slotsFrom, perSlot, total, chargeOf, tenthOf, chargeAt, relayOf, creditFrom, creditOf, tenthTo, takingBy, takingOf, takingsOf}
 use Rattle.dues.proofs.Cents.{whole}
 use Rattle.dues.proofs.Sums.{sum-ext, sum-none, sum-both, sum-swap, sum-given}
 
@@ -46,7 +46,7 @@ module _ (s : Station) (figures : List ℕ) where
       (λ r l q. sum-if (isMember (s .used) r) (creditFrom s figures r) 62 0)
       ∙ sum-swap (λ r i. cond (isMember (s .used) r) (creditFrom s figures r i) 0) 62 0 62 0
       ∙ sum-ext _ (λ i. tenthTo (s .used) (relayOf s i) (chargeAt s figures i)) 62 0
-      (λ i l q. sum-given (isMember (s .used)) (relayOf s i) (tenth (chargeAt s figures i)) (member-lt (s .used) (relayOf s i)))
+      (λ i l q. sum-given (isMember (s .used)) (relayOf s i) (tenthOf (chargeAt s figures i)) (member-lt (s .used) (relayOf s i)))
 
   module _ (relays : (i : ℕ) → isMember (s .used) i ≡ true → (relayOf s i ≡ 63) ⊎ (isMember (s .used) (relayOf s i) ≡ true)) where
     line-parts : (i : ℕ) → chargeAt s figures i ≡ tenthTo (s .used) (relayOf s i) (chargeAt s figures i) + takingOf s figures i

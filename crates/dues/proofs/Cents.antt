@@ -8,13 +8,13 @@ use native.Mathlib.Omega.{arith}
 use mathlib.Core.Logic.{⊎-elim}
 use Rattle.bits.proofs.Lists.{le-or-lt}
 use Rattle.net.specs.Net.{isMember}
-use Rattle.dues.specs.Dues.{started, chargeOf, tenth, nineTenths, chargeBy}
+use Rattle.dues.specs.Dues.{started, chargeOf, tenthOf, nineTenths, chargeBy}
 
 -- law of dues: the charge less its tenth, rounded down, is its nine tenths, rounded up
-pub less-tenth : (cents : ℕ) → cents - tenth cents ≡ nineTenths cents
+pub less-tenth : (cents : ℕ) → cents - tenthOf cents ≡ nineTenths cents
 less-tenth cents = omega arith
 
-pub whole : (cents : ℕ) → cents ≡ tenth cents + nineTenths cents
+pub whole : (cents : ℕ) → cents ≡ tenthOf cents + nineTenths cents
 whole cents = omega arith
 
 -- lots of 256 bytes, as they are counted
@@ -26,7 +26,7 @@ pub lots-begun : (n : ℕ) → (n % 256 ≡ 0 → ⊥) → n / 256 + 1 ≡ start
 unfolding started
 lots-begun n e = omega arith
 
-pub started-most : (n k : ℕ) → n ≤ 256 * k → started n ≤ k
+started-most : (n k : ℕ) → n ≤ 256 * k → started n ≤ k
 unfolding started
 started-most n k h = omega arith
 

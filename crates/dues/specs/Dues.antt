@@ -1,5 +1,5 @@
 -- Airtime dues: what each slot is charged and credited in cents, and what the port takes, from the month's bytes.
--- `figures` are the bytes landed, one figure for each of the 62 slots. A boat's relay is a slot, and 63 is none.
+-- `figures` are the bytes landed in the month, one figure for each of the 62 slots. A boat's relay is a slot, and 63 is none.
 use Prim.Native.Nat.{ℕ, zero, suc, _+_, _-_, _*_, _/_, min}
 use mathlib.Core.Bool.{Bool, cond, _&&_}
 use mathlib.Core.List.{List, [], _∷_}
@@ -28,7 +28,7 @@ total (x ∷ xs) = x + total xs
 
 -- ---- cents
 
--- lots of 256 bytes, a started one counted whole
+-- how many times 256 bytes are started
 unfoldable pub started : ℕ → ℕ
 started n = (n + 255) / 256
 
@@ -36,15 +36,15 @@ started n = (n + 255) / 256
 unfoldable pub chargeOf : ℕ → ℕ
 chargeOf n = 35 * started (min n 16384 - 1024) + 20 * started (n - 16384)
 
--- rounded down to a cent
-abbrev pub tenth : ℕ → ℕ
-tenth cents = cents / 10
+-- a tenth, rounded down to a cent
+abbrev pub tenthOf : ℕ → ℕ
+tenthOf cents = cents / 10
 
--- rounded up to a cent
+-- nine tenths, rounded up to a cent
 abbrev pub nineTenths : ℕ → ℕ
 nineTenths cents = (9 * cents + 9) / 10
 
--- ---- a slot's line
+-- ---- a slot's line: its charge, its credit, and what the port takes of the charge
 
 -- an empty slot is charged nothing
 abbrev pub chargeBy : ℕ → ℕ → ℕ → ℕ
@@ -59,17 +59,17 @@ relayOf s i = memberAt s i .via
 
 -- what slot r is credited of the charge of slot i: a tenth, where r is its relay
 abbrev pub creditFrom : Station → List ℕ → ℕ → ℕ → ℕ
-creditFrom s figures r i = cond (eqb (relayOf s i) r) (tenth (chargeAt s figures i)) 0
+creditFrom s figures r i = cond (eqb (relayOf s i) r) (tenthOf (chargeAt s figures i)) 0
 
--- and of all charges; nothing is credited to an empty slot
+-- and of all charges; an empty slot is credited nothing
 unfoldable pub creditOf : Station → List ℕ → ℕ → ℕ
 creditOf s figures r = cond (isMember (s .used) r) (total (perSlot (creditFrom s figures r))) 0
 
--- the same charge by charge, as the code has it: what a relay is credited of one
+-- the same from the charge's side, as the code has it: what a relay is credited of it
 abbrev pub tenthTo : ℕ → ℕ → ℕ → ℕ
-tenthTo used relay cents = cond (isMember used relay) (tenth cents) 0
+tenthTo used relay cents = cond (isMember used relay) (tenthOf cents) 0
 
--- what the port takes of a charge: the whole, or nine tenths of that of a boat with a relay
+-- the whole charge, or nine tenths for a boat with a relay
 abbrev pub takingBy : ℕ → ℕ → ℕ
 takingBy relay cents = cond (eqb relay 63) cents (nineTenths cents)
 
@@ -82,16 +82,19 @@ takingsOf s figures = total (perSlot (takingOf s figures))
 
 -- ---- the answer
 
--- 26: a figure above 1,000,000,000, one of an empty slot too, or not 62 figures
+-- 62 figures, each up to 1,000,000,000, those of empty slots too
 unfoldable pub figuresOk : List ℕ → Bool
 figuresOk figures = eqb (length figures) 62 && every (λ i. leb (getD figures i 0) 1000000000) 62 0
 
+-- 26: a figure too large, or not 62 figures
 abbrev pub duesRefusal : List ℕ → ℕ
 duesRefusal figures = cond (figuresOk figures) 0 26
 
+-- a refusal's number alone
 abbrev pub noBill : ℕ → Bill
 noBill refusal = record { refusal = refusal; charges = replicate 62 0; credits = replicate 62 0; takings = 0 }
 
+-- the refusal, each slot's charge and credit, and the takings
 unfoldable pub duesOf : Station → List ℕ → Bill
 duesOf s figures =
     cond (eqb (duesRefusal figures) 0)

@@ -1,7 +1,7 @@
 // Airtime dues: ports share the radio cost by the bytes that landed. Each boat's month is charged in cents, a part of it is credited to its relay, and the
 // rest is the port's. The station is only read.
 ghost use mathlib.Core.Path.{_≡_};
-ghost use Rattle.dues.specs.Dues.{started, chargeOf, chargeBy, tenthTo, takingBy, figuresOk, noBill, duesOf};
+ghost use Rattle.dues.specs.Dues.{started, chargeOf, chargeBy, tenthOf, tenthTo, takingBy, figuresOk, noBill, duesOf};
 use net::Station;
 
 // The answer: each slot's charge and credit, an empty one's 0, and the port's takings.
@@ -12,7 +12,7 @@ pub struct Bill {
     pub takings: u64,
 }
 
-// How many lots of 256 bytes are started.
+// How many times 256 bytes are started.
 fn lots(n: u32) -> u32
     ensures { λ r. ⌜ r ≡ started n ⌝ }
 {
@@ -37,29 +37,39 @@ fn charge_in(used: u64, slot: u8, n: u32) -> u32
     ensures { λ r. ⌜ r ≡ chargeBy used slot n ⌝ }
 {
     if net::is_member(used, slot) {
-        return charge(n);
+        charge(n)
+    } else {
+        0
     }
-    0
 }
 
-// What the relay gets of a charge; a relay without a member gets nothing, and 63 is none.
+// Rounded down to a cent.
+fn tenth(cents: u32) -> u32
+    ensures { λ r. ⌜ r ≡ tenthOf cents ⌝ }
+{
+    cents / 10
+}
+
+// What the relay is credited of a charge: an empty slot gets nothing, and 63 is no relay.
 fn tenth_to(used: u64, relay: u8, cents: u32) -> u32
     ensures { λ r. ⌜ r ≡ tenthTo used relay cents ⌝ }
 {
     if net::is_member(used, relay) {
-        return cents / 10;
+        tenth(cents)
+    } else {
+        0
     }
-    0
 }
 
-// What the port takes of a charge: all but the tenth that goes to a relay.
+// What the port takes of a charge: all of it, or what the tenth for a relay leaves.
 fn taking(relay: u8, cents: u32) -> u32
     ensures { λ r. ⌜ r ≡ takingBy relay cents ⌝ }
 {
     if relay == 63 {
-        return cents;
+        cents
+    } else {
+        cents - tenth(cents)
     }
-    cents - cents / 10
 }
 
 // There are 62 figures, none above 1,000,000,000.

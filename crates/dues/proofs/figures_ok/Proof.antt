@@ -35,7 +35,8 @@ shared-slice-read-if2 c = omega arith
 returns-2 : tie.Need-returns-2 Inv-loop μ-loop
 returns-2 c =
     let l = c .before .before .before .loop in
-    sym (every-stop _ 62 (l .i) (c .before .before .loop-test .taken) (lt-leb _ _ (c .if2 .taken))) ∙ l .inv .2
+    let x = getD (c .before .before .before .before .before .args .figures .now) (l .i) 0 in
+    sym (every-stop _ 62 (l .i) (c .before .before .loop-test .taken) (lt-leb x 1000000000 (omega arith))) ∙ l .inv .2
 
 add-i : tie.Need-add-i Inv-loop μ-loop
 add-i c = omega arith
@@ -46,10 +47,11 @@ loop-less c = omega arith
 loop-again : tie.Need-loop-again Inv-loop μ-loop
 loop-again c =
     let l = c .before .before .before .loop in
-    (omega arith, l .inv .1, sym (every-pass _ 62 (l .i) (c .before .before .loop-test .taken) (le-leb _ _ (c .if2 .left))) ∙ l .inv .2)
+    let x = getD (c .before .before .before .before .before .args .figures .now) (l .i) 0 in
+    (omega arith, l .inv .1, sym (every-pass _ 62 (l .i) (c .before .before .loop-test .taken) (le-leb x 1000000000 (omega arith))) ∙ l .inv .2)
 
 returns-3 : tie.Need-returns-3 Inv-loop μ-loop
-returns-3 c = sym (every-end _ _ _ (c .loop-test .left)) ∙ c .before .loop .inv .2
+returns-3 c = sym (every-end _ _ _ (omega arith)) ∙ c .before .loop .inv .2
 
 pub figures-ok-spec : {M : Type 1} → statement M
 figures-ok-spec =
