@@ -54,11 +54,8 @@ fn tenth(cents: u32) -> u32
 fn tenth_to(used: u64, relay: u8, cents: u32) -> u32
     ensures { λ r. ⌜ r ≡ tenthTo used relay cents ⌝ }
 {
-    if net::is_member(used, relay) {
-        tenth(cents)
-    } else {
-        0
-    }
+    let here = net::is_member(used, relay);
+    if here { tenth(cents) } else { 0 }
 }
 
 // What the port takes of a charge: all of it, or what the tenth for a relay leaves.
