@@ -11,14 +11,13 @@ use lib.Seq.{getD-set-same, getD-set-other}
 use borrow.Author.Tests.{eq-eqb, ne-eqb, eqb-true, leb-true}
 use Rattle.bits.specs.Loop.{every}
 use Rattle.bits.proofs.Loops.{every-all}
-use Rattle.bits.proofs.Lists.{cases, eq-or-not, lt-or-le, below, and-true}
-use Rattle.roster.specs.declared.Member.{Member}
+use Rattle.bits.proofs.Lists.{eq-or-not, lt-or-le, below, and-true}
 use Rattle.roster.specs.Members.{noMember}
 use Rattle.net.specs.declared.Station.{Station}
 use Rattle.net.specs.State.{indexOf}
 use Rattle.net.specs.Net.{isMember}
 use Rattle.net.proofs.Laws.{index-lt, index-is, member-none}
-use Rattle.dues.specs.Dues.{slotsFrom, perSlot, total, chargeBy, chargeAt, relayOf, creditFrom, creditOf, tenthTo, takingBy, takingOf, takingsOf, figuresOk, duesOf}
+use Rattle.dues.specs.Dues.{slotsFrom, perSlot, total, chargeAt, relayOf, creditFrom, creditOf, tenthTo, takingBy, takingOf, takingsOf, figuresOk, duesOf}
 use Rattle.dues.proofs.Cents.{slot-most}
 use Rattle.dues.proofs.Sums.{slots-are, sum-turn, sum-end, sum-most}
 

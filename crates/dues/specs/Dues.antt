@@ -22,6 +22,7 @@ slotsFrom f (suc n) i = f i ∷ slotsFrom f n (suc i)
 abbrev pub perSlot : (ℕ → ℕ) → List ℕ
 perSlot f = slotsFrom f 62 0
 
+-- their sum
 unfoldable pub total : List ℕ → ℕ
 total [] = 0
 total (x ∷ xs) = x + total xs
@@ -29,12 +30,12 @@ total (x ∷ xs) = x + total xs
 -- ---- cents
 
 -- how many times 256 bytes are started
-unfoldable pub started : ℕ → ℕ
-started n = (n + 255) / 256
+unfoldable pub started256 : ℕ → ℕ
+started256 n = (n + 255) / 256
 
 -- the first 1,024 bytes free, then 35 cents for each started 256 up to 16,384, then 20 for each started 256
 unfoldable pub chargeOf : ℕ → ℕ
-chargeOf n = 35 * started (min n 16384 - 1024) + 20 * started (n - 16384)
+chargeOf n = 35 * started256 (min n 16384 - 1024) + 20 * started256 (n - 16384)
 
 -- a tenth, rounded down to a cent
 abbrev pub tenthOf : ℕ → ℕ
@@ -50,6 +51,7 @@ nineTenths cents = (9 * cents + 9) / 10
 abbrev pub chargeBy : ℕ → ℕ → ℕ → ℕ
 chargeBy used slot n = cond (isMember used slot) (chargeOf n) 0
 
+-- the charge of slot i
 abbrev pub chargeAt : Station → List ℕ → ℕ → ℕ
 chargeAt s figures i = chargeBy (s .used) i (getD figures i 0)
 
@@ -69,14 +71,15 @@ creditOf s figures r = cond (isMember (s .used) r) (total (perSlot (creditFrom s
 abbrev pub tenthTo : ℕ → ℕ → ℕ → ℕ
 tenthTo used relay cents = cond (isMember used relay) (tenthOf cents) 0
 
--- the whole charge, or nine tenths for a boat with a relay
+-- what the port takes of a charge: the whole, or nine tenths for a boat with a relay
 abbrev pub takingBy : ℕ → ℕ → ℕ
 takingBy relay cents = cond (eqb relay 63) cents (nineTenths cents)
 
+-- what it takes of slot i's
 abbrev pub takingOf : Station → List ℕ → ℕ → ℕ
 takingOf s figures i = takingBy (relayOf s i) (chargeAt s figures i)
 
--- boat by boat
+-- its takings, boat by boat
 unfoldable pub takingsOf : Station → List ℕ → ℕ
 takingsOf s figures = total (perSlot (takingOf s figures))
 

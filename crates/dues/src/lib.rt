@@ -1,7 +1,7 @@
 // Airtime dues: ports share the radio cost by the bytes that landed. Each boat's month is charged in cents, a part of it is credited to its relay, and the
 // rest is the port's. The station is only read.
 ghost use mathlib.Core.Path.{_≡_};
-ghost use Rattle.dues.specs.Dues.{started, chargeOf, chargeBy, tenthOf, tenthTo, takingBy, figuresOk, noBill, duesOf};
+ghost use Rattle.dues.specs.Dues.{started256, chargeOf, chargeBy, tenthOf, tenthTo, takingBy, figuresOk, noBill, duesOf};
 use net::Station;
 
 // The answer: each slot's charge and credit, an empty one's 0, and the port's takings.
@@ -10,92 +10,6 @@ pub struct Bill {
     pub charges: [u32; 62],
     pub credits: [u32; 62],
     pub takings: u64,
-}
-
-// How many times 256 bytes are started.
-fn lots(n: u32) -> u32
-    ensures { λ r. ⌜ r ≡ started n ⌝ }
-{
-    if n % 256 == 0 { n / 256 } else { n / 256 + 1 }
-}
-
-// A month of n bytes, in cents. The 60 lots from 1,024 to 16,384 come to 2,100.
-fn charge(n: u32) -> u32
-    ensures { λ r. ⌜ r ≡ chargeOf n ⌝ }
-{
-    if n <= 1024 {
-        return 0;
-    }
-    if n <= 16384 {
-        return 35 * lots(n - 1024);
-    }
-    2100 + 20 * lots(n - 16384)
-}
-
-// An empty slot is charged nothing.
-fn charge_in(used: u64, slot: u8, n: u32) -> u32
-    ensures { λ r. ⌜ r ≡ chargeBy used slot n ⌝ }
-{
-    if net::is_member(used, slot) {
-        charge(n)
-    } else {
-        0
-    }
-}
-
-// Rounded down to a cent.
-fn tenth(cents: u32) -> u32
-    ensures { λ r. ⌜ r ≡ tenthOf cents ⌝ }
-{
-    cents / 10
-}
-
-// What the relay is credited of a charge: an empty slot gets nothing, and 63 is no relay.
-fn tenth_to(used: u64, relay: u8, cents: u32) -> u32
-    ensures { λ r. ⌜ r ≡ tenthTo used relay cents ⌝ }
-{
-    let here = net::is_member(used, relay);
-    if here { tenth(cents) } else { 0 }
-}
-
-// What the port takes of a charge: all of it, or what the tenth for a relay leaves.
-fn taking(relay: u8, cents: u32) -> u32
-    ensures { λ r. ⌜ r ≡ takingBy relay cents ⌝ }
-{
-    if relay == 63 {
-        cents
-    } else {
-        cents - tenth(cents)
-    }
-}
-
-// There are 62 figures, none above 1,000,000,000.
-fn figures_ok(figures: &[u32]) -> bool
-    ensures { λ r. ⌜ r ≡ figuresOk (now (figures .entry)) ⌝ }
-{
-    if figures.len() != 62 {
-        return false;
-    }
-    let mut i: usize = 0;
-    while i < 62 {
-        if 1000000000 < figures[i] {
-            return false;
-        }
-        i += 1;
-    }
-    true
-}
-
-fn no_bill(refusal: u8) -> Bill
-    ensures { λ r. ⌜ r ≡ noBill refusal ⌝ }
-{
-    let none = [0u32; 62];
-    Bill {
-        refusal: refusal,
-        charges: none,
-        credits: none,
-        takings: 0,
-    }
 }
 
 // The month's dues: `figures` are the bytes landed, one for each slot.
@@ -124,5 +38,92 @@ pub fn dues(s: Station, figures: &[u32]) -> Bill
         charges: charges,
         credits: credits,
         takings: takings,
+    }
+}
+
+// There are 62 figures, none above 1,000,000,000.
+fn figures_ok(figures: &[u32]) -> bool
+    ensures { λ r. ⌜ r ≡ figuresOk (now (figures .entry)) ⌝ }
+{
+    if figures.len() != 62 {
+        return false;
+    }
+    let mut i: usize = 0;
+    while i < 62 {
+        if 1000000000 < figures[i] {
+            return false;
+        }
+        i += 1;
+    }
+    true
+}
+
+// A refusal's number alone.
+fn no_bill(refusal: u8) -> Bill
+    ensures { λ r. ⌜ r ≡ noBill refusal ⌝ }
+{
+    let none = [0u32; 62];
+    Bill {
+        refusal: refusal,
+        charges: none,
+        credits: none,
+        takings: 0,
+    }
+}
+
+// An empty slot is charged nothing.
+fn charge_in(used: u64, slot: u8, n: u32) -> u32
+    ensures { λ r. ⌜ r ≡ chargeBy used slot n ⌝ }
+{
+    if net::is_member(used, slot) {
+        charge(n)
+    } else {
+        0
+    }
+}
+
+// A month of n bytes, in cents. From 1,024 to 16,384 there are 60 times 256, which come to 2,100.
+fn charge(n: u32) -> u32
+    ensures { λ r. ⌜ r ≡ chargeOf n ⌝ }
+{
+    if n <= 1024 {
+        return 0;
+    }
+    if n <= 16384 {
+        return 35 * started(n - 1024);
+    }
+    2100 + 20 * started(n - 16384)
+}
+
+// How many times 256 bytes are started.
+fn started(n: u32) -> u32
+    ensures { λ r. ⌜ r ≡ started256 n ⌝ }
+{
+    if n % 256 == 0 { n / 256 } else { n / 256 + 1 }
+}
+
+// What the relay is credited of a charge: an empty slot gets nothing, and 63 is no relay.
+fn tenth_to(used: u64, relay: u8, cents: u32) -> u32
+    ensures { λ r. ⌜ r ≡ tenthTo used relay cents ⌝ }
+{
+    let here = net::is_member(used, relay);
+    if here { tenth(cents) } else { 0 }
+}
+
+// Rounded down to a cent.
+fn tenth(cents: u32) -> u32
+    ensures { λ r. ⌜ r ≡ tenthOf cents ⌝ }
+{
+    cents / 10
+}
+
+// What the port takes of a charge: all of it, or what the tenth for a relay leaves.
+fn taking(relay: u8, cents: u32) -> u32
+    ensures { λ r. ⌜ r ≡ takingBy relay cents ⌝ }
+{
+    if relay == 63 {
+        cents
+    } else {
+        cents - tenth(cents)
     }
 }

@@ -1,6 +1,6 @@
 -- The dues add up after any calls from a start: relay links lead from a boat to a boat, so each credit stands on a line. Assumes nothing.
 use mathlib.Core.Path.{_≡_}
-use mathlib.Core.Bool.{Bool, true, _||_}
+use mathlib.Core.Bool.{true, _||_}
 use mathlib.Core.List.{List}
 use mathlib.Core.Logic.{_⊎_, inl, inr}
 use Prim.Native.Nat.{ℕ}
