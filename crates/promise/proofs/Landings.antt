@@ -38,7 +38,7 @@ use Rattle.frames.specs.Frames.{readFrame, frameStep, readFrames}
 use Rattle.rx.specs.Ending.{busyWait, idleEnd, replyEnd, nothingMore, Ended}
 use Rattle.rx.specs.Reception.{Received, airOf, firstReading, receivedOf, ncsRx}
 use Rattle.station.specs.Entries.{Outcome, receiveBy, receiveRefusal, receiveOf, cellRefusal, freeOf}
-use Rattle.promise.specs.Promise.{lentTo, Net, net, Call, admission, reception, decision, sending, closing, reading, freeing, result, inBook, outcome, step, after, alsoHanded, Event2, eventsIn, answersOf}
+use Rattle.promise.specs.Promise.{lentTo, Net, net, Call, admission, reception, decision, sending, closing, reading, freeing, charging, result, inBook, outcome, step, after, alsoHanded, Event2, eventsIn, answersOf}
 use Rattle.promise.specs.Marks.{alsoLanded, landedBy, landedIn}
 use Rattle.promise.proofs.Ledgers.{handed-other}
 use Rattle.promise.proofs.Ties.{View}
@@ -47,7 +47,7 @@ use Rattle.promise.proofs.Quiet.{windowAt, Keeps, kept-self, viewOf, ke
 use Rattle.promise.proofs.Events.{events-none, events-append, append-quiet}
 use Rattle.promise.proofs.QuietRx.{Untouched, untouched, control-untouched, QuietEnd, idle-kept, reply-kept}
 use Rattle.promise.proofs.Readings.{piece-view, piece-events}
-use Rattle.promise.proofs.Messages.{admission-kept, decision-kept, sending-kept, closing-kept, reading-kept}
+use Rattle.promise.proofs.Messages.{admission-kept, decision-kept, sending-kept, closing-kept, reading-kept, charging-kept}
 use Rattle.promise.proofs.Sounds.{FitView, Fit, FitRead, accept-land, step-read-fit, other-store, room-of, step-fit}
 
 -- ---- the cell of a landed message
@@ -344,6 +344,7 @@ module _ (f : ℕ → ℕ → Bool) (n : Net) (fit : Fit n) (told : Told f (n .s
   call-told (closing count) = kept-told (closing count) (closing-kept (n .station) count)
   call-told (reading cell lent) = kept-told (reading cell lent) (reading-kept cell lent n)
   call-told (freeing cell) = free-told cell
+  call-told (charging figures) = kept-told (charging figures) (charging-kept figures n)
 
 -- every list of calls
 pub calls-told : (cs : List Call) (n : Net) (f : ℕ → ℕ → Bool) → Fit n → Told f (n .station) → Told (landedIn cs n f) (after cs n .station)
