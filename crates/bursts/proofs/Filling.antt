@@ -2,7 +2,7 @@
 -- Assumes nothing.
 use mathlib.Core.Path.{_≡_, refl, sym, ap, _∙_}
 use mathlib.Core.Bool.{Bool, true, false}
-use mathlib.Core.List.{List, [], _++_}
+use mathlib.Core.List.{List, [], _∷_, _++_}
 use Prim.Native.Nat.{ℕ, zero, suc, _+_, _-_, _*_, _<_, _≤_}
 use native.Mathlib.Nat.{mul-suc}
 use native.Mathlib.Omega.{arith}
@@ -10,7 +10,13 @@ use lib.ListN.{length, take, drop, length-append}
 use lib.Seq.{sets, sets-eq, take-at, length-take-le}
 use Rattle.bits.specs.Loop.{fold}
 use Rattle.bits.proofs.Loops.{fold-turn, fold-end}
-use Rattle.bursts.specs.Rows.{Filled, rowWhere, rowIf, rowsOf}
+use Rattle.bursts.specs.Rows.{Filled, rowWhere, rowIf, rowsOn, rowsOf}
+
+-- of at most n bytes
+pub front-most : (n : ℕ) (l : List ℕ) → length (take n l) ≤ n
+front-most zero l = omega arith
+front-most (suc n) [] = omega arith
+front-most (suc n) (x ∷ l) = let h = front-most n l in omega arith
 
 -- no row
 pub filled-none : (rows : List ℕ) (n : ℕ) → n ≤ length rows → Filled (take n rows) rows n
@@ -29,31 +35,37 @@ filled-row rows n row h =
     }
 
 module _ (p : ℕ → List ℕ → Bool) (row : ℕ → List ℕ) (w : ℕ) where
-  -- the first n bytes are the rows of the slots below i, each of w bytes
-  pub record Rows (i n : ℕ) (rows : List ℕ) : Type 0 where
-    pub most : n ≤ w * i
+  -- the first n bytes are the bytes bs and behind them the rows of the slots below i, each of w bytes
+  pub record Rows (bs : List ℕ) (i n : ℕ) (rows : List ℕ) : Type 0 where
+    pub most : n ≤ w * i + length bs
     pub count : n ≡ length (take n rows)
-    pub rest : fold (rowIf p row) (62 - i) i (take n rows) ≡ rowsOf p row
+    pub rest : fold (rowIf p row) (62 - i) i (take n rows) ≡ rowsOn p row bs
 
-  pub rows-start : (rows : List ℕ) → Rows 0 0 rows
-  unfolding rowsOf
+  pub rows-from : (rows : List ℕ) (n : ℕ) → n ≤ length rows → Rows (take n rows) 0 n rows
+  unfolding rowsOn
+  rows-from rows n h =
+      let e = length-take-le n rows h in
+      record { most = omega arith; count = sym e; rest = refl }
+
+  pub rows-start : (rows : List ℕ) → Rows [] 0 0 rows
+  unfolding rowsOn
   rows-start rows = record { most = omega arith; count = refl; rest = refl }
 
   most-by : (t : Bool) (bs r : List ℕ) → length r ≡ w → length (rowWhere t bs r) ≤ length bs + w
   most-by true bs r e = omega (arith, length-append bs r)
   most-by false bs r e = omega arith
 
-  pub rows-turn : {i n m : ℕ} {rows more : List ℕ} → length (row i) ≡ w → i < 62 → Rows i n rows → Filled (rowIf p row i (take n rows)) more m → Rows (i + 1) m more
-  rows-turn {i} {n} {m} {rows} {more} e h a f =
+  pub rows-turn : {bs : List ℕ} {i n m : ℕ} {rows more : List ℕ} → length (row i) ≡ w → i < 62 → Rows bs i n rows → Filled (rowIf p row i (take n rows)) more m → Rows bs (i + 1) m more
+  rows-turn {bs} {i} {n} {m} {rows} {more} e h a f =
       record {
         most = omega (arith, most-by (p i (take n rows)) (take n rows) (row i) e, f .count, a .most, a .count);
         count = f .count ∙ sym (ap length (f .front));
         rest = rw (f .front) (sym (fold-turn (rowIf p row) 62 i (take n rows) h) ∙ a .rest);
       }
 
-  pub rows-end : {i n : ℕ} {rows : List ℕ} → 62 ≤ i → Rows i n rows → Filled (rowsOf p row) rows n
-  rows-end {i} {n} {rows} h a =
-      let e : take n rows ≡ rowsOf p row = sym (fold-end (rowIf p row) 62 i (take n rows) h) ∙ a .rest in
+  pub rows-end : {bs : List ℕ} {i n : ℕ} {rows : List ℕ} → 62 ≤ i → Rows bs i n rows → Filled (rowsOn p row bs) rows n
+  rows-end {bs} {i} {n} {rows} h a =
+      let e : take n rows ≡ rowsOn p row bs = sym (fold-end (rowIf p row) 62 i (take n rows) h) ∙ a .rest in
       record { front = e; count = a .count ∙ ap length e }
 
   -- 62 rows at most
@@ -63,6 +75,6 @@ module _ (p : ℕ → List ℕ → Bool) (row : ℕ → List ℕ) (w : ℕ) wher
   bound e (suc n) i bs =
       omega (arith, bound e n (suc i) (rowIf p row i bs), most-by (p i bs) bs (row i) (e i), mul-suc w n)
 
-  pub rows-most : ((i : ℕ) → length (row i) ≡ w) → length (rowsOf p row) ≤ w * 62
-  unfolding rowsOf
-  rows-most e = omega (arith, bound e 62 0 [])
+  pub rows-most : ((i : ℕ) → length (row i) ≡ w) → (bs : List ℕ) → length (rowsOn p row bs) ≤ length bs + w * 62
+  unfolding rowsOn
+  rows-most e bs = bound e 62 0 bs

@@ -4,3 +4,5 @@ pub mod Saying
 pub mod Moves
 pub mod Levels
 pub mod Listing
+pub mod Waiting
+pub mod Listed

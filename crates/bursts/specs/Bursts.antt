@@ -1,6 +1,6 @@
 -- `poll_burst`, `acks_burst`, `beacon` and `rx_list_burst` of ncs.rs.
 use mathlib.Core.Path.{_≡_, refl}
-use Prim.Native.Nat.{ℕ, _+_, _*_, _/_, _%_}
+use Prim.Native.Nat.{ℕ, zero, suc, _+_, _*_, _/_, _%_}
 use mathlib.Core.Bool.{Bool, false, not, cond, _&&_, _||_}
 use mathlib.Core.List.{List, [], _∷_, _++_}
 use lib.Dec.{eqb}
@@ -8,7 +8,9 @@ use lib.ListN.{length, getD, set}
 use lib.IntN.{pos}
 use lib.Ieee.{Float, nan, binary64, ofInt}
 use Rattle.bits.specs.Loop.{fold}
-use Rattle.bits.specs.Mask.{hasBit, bothOf, eitherOf}
+use Rattle.bits.specs.Mask.{hasBit, withoutBit, bothOf, eitherOf, minusOf, lowestBit}
+use Rattle.bits.specs.declared.Found.{Found}
+use Rattle.bits.specs.declared.Found.the-variants as found
 use Rattle.level.specs.Consts.{nought}
 use Rattle.wire.specs.Call.{packCall}
 use Rattle.wire.specs.Kinds.{kPoll, kRelay, cBeacon, cAcks, cTree, cRxlist}
@@ -20,7 +22,7 @@ use Rattle.net.specs.declared.Settings.{Settings}
 use Rattle.net.specs.declared.Turn.the-variants.{Sending}
 use Rattle.net.specs.State.{withWait, withRound, withMembers, withToack, withTreenews, withRxdirty, withBeacon, oneList}
 use Rattle.net.specs.Net.{plus, times, waitOf, levelIn, downLevel, slotLen, Said, said}
-use Rattle.bursts.specs.Rows.{seated, leastOf, ackRows, treeRows, listRows, anyHoles, leastReach, leastDirect}
+use Rattle.bursts.specs.Rows.{seated, leastOf, ackRows, ackRowsOn, treeRows, listRows, anyHoles, leastReach, leastDirect}
 
 -- the head of a burst, and of one without frames
 abbrev pub headWords : ℕ → ℕ → ℕ → ℕ → List ℕ
@@ -87,9 +89,18 @@ nameBytes n = getD n 0 0 ∷ getD n 1 0 ∷ getD n 2 0 ∷ getD n 3 0 ∷ getD n
 abbrev pub beaconPayload : Settings → List ℕ
 beaconPayload g = (cBeacon ∷ packCall (g .call)) ++ (nameBytes (g .name) ++ (1 ∷ g .windowslots ∷ []))
 
--- who the beacon lists: the nine lowest members
+-- who the beacon lists: boats waiting for acknowledgement first, by slot, then others by slot, nine in all
 unfoldable pub beaconRows : Station → List ℕ
-beaconRows s = ackRows s (s .used) 9
+beaconRows s = ackRowsOn s (minusOf (s .used) (s .round .toack)) 9 (ackRows s (acked s) 9)
+
+-- the mask without its k lowest slots
+abbrev pub withoutFound : Found → ℕ → ℕ
+withoutFound (found.At i) m = withoutBit m i
+withoutFound found.Nothing m = m
+
+unfoldable pub beyond : ℕ → ℕ → ℕ
+beyond zero m = m
+beyond (suc k) m = beyond k (withoutFound (lowestBit m) m)
 
 abbrev pub beaconWords : Station → List ℕ
 beaconWords s =
@@ -100,9 +111,10 @@ abbrev pub windowEnd : Settings → Float → ℕ → Float
 windowEnd g now acks =
     plus (plus (plus (plus (plus now (getD (g .durations) (acks % 4) nan)) (g .turnaround)) (times (ofInt binary64 (pos (g .windowslots))) (slotLen g))) nought) (g .replyslack)
 
+-- those waiting and not listed go on waiting
 unfoldable pub beaconOf : Station → Float → Said
 beaconOf s now =
-    said (withRound (sends s) (withBeacon (s .round) 0 (windowEnd (s .settings) now ((length (beaconRows s) + 17) / 18)) (plus now (s .settings .beaconevery))))
+    said (withRound (sends s) (withBeacon (s .round) (beyond 9 (acked s)) (windowEnd (s .settings) now ((length (beaconRows s) + 17) / 18)) (plus now (s .settings .beaconevery))))
     (beaconWords s)
 
 -- ---- rx_list_burst

@@ -36,18 +36,25 @@ rowWhere told bs row = cond told (bs ++ row) bs
 abbrev pub rowIf : (ℕ → List ℕ → Bool) → (ℕ → List ℕ) → ℕ → List ℕ → List ℕ
 rowIf p row i bs = rowWhere (p i bs) bs (row i)
 
-unfoldable pub rowsOf : (ℕ → List ℕ → Bool) → (ℕ → List ℕ) → List ℕ
-rowsOf p row = fold (rowIf p row) 62 0 []
+-- behind the rows bs that stand there already
+unfoldable pub rowsOn : (ℕ → List ℕ → Bool) → (ℕ → List ℕ) → List ℕ → List ℕ
+rowsOn p row bs = fold (rowIf p row) 62 0 bs
 
--- slot and packed call of the members in the mask, `most` of them at most
+abbrev pub rowsOf : (ℕ → List ℕ → Bool) → (ℕ → List ℕ) → List ℕ
+rowsOf p row = rowsOn p row []
+
+-- slot and packed call of the members in the mask, `most` rows in all
 abbrev pub ackRow : Station → ℕ → List ℕ
 ackRow s i = i ∷ packCall (seated s i .call)
 
 abbrev pub ackAt : ℕ → ℕ → ℕ → List ℕ → Bool
 ackAt mask most i bs = hasBit mask i && ltb (length bs / 6) most
 
+abbrev pub ackRowsOn : Station → ℕ → ℕ → List ℕ → List ℕ
+ackRowsOn s mask most bs = rowsOn (ackAt mask most) (ackRow s) bs
+
 abbrev pub ackRows : Station → ℕ → ℕ → List ℕ
-ackRows s mask most = rowsOf (ackAt mask most) (ackRow s)
+ackRows s mask most = ackRowsOn s mask most []
 
 -- a leaf and its relay, or a member that moved
 abbrev pub treeRow : Station → ℕ → List ℕ

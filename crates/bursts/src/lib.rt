@@ -3,9 +3,12 @@ ghost use mathlib.Core.Path.{_≡_};
 ghost use mathlib.Core.List.{[], _∷_, _++_};
 ghost use Prim.Native.Nat.{_-_};
 ghost use lib.ListN.{replicate, take};
-ghost use Rattle.out.specs.Encode.{Wrote};
+ghost use Rattle.bits.specs.Mask.{lowestBit};
+ghost use Rattle.wire.specs.Kinds.{cAcks};
+ghost use Rattle.out.specs.Encode.{Wrote, chunkWords};
 ghost use Rattle.net.specs.Net.{Did};
-ghost use Rattle.bursts.specs.Bursts.{pollExtra, pollKind, pollLevel, pollBurst, acksBurst, beaconPayload, windowEnd, beaconOf, tellOf, tellAll, rxListBurst};
+ghost use Rattle.bursts.specs.Bursts.{pollExtra, pollKind, pollLevel, pollBurst, acksBurst, beaconPayload, withoutFound, beyond, windowEnd, beaconOf, tellOf, tellAll, rxListBurst};
+use bits::Found;
 use net::Settings;
 use net::Station;
 use roster::Member;
@@ -72,7 +75,7 @@ pub fn acks_burst(mut s: Station, o: &mut [u32], at: &mut usize) -> Station
     let moved = bits::both(s.round.treenews, s.used);
     let all = bits::either(known, moved);
     let mut acks = [0u8; 372];
-    let n = rows::ack_rows(s, known, 62, &mut acks);
+    let n = rows::ack_rows(s, known, &mut acks);
     let mut tree = [0u8; 372];
     let k = rows::tree_rows(s, all, moved, &mut tree);
     let a = out::put_head(o, *at, 0, 0, 0, rows::least_reach(s, all));
@@ -122,17 +125,47 @@ fn window_end(g: Settings, time: f64, acks: usize) -> f64
     time + dur + g.turnaround + g.windowslots as f64 * net::slot_len(g) + 0.0 + g.replyslack
 }
 
-// The beacon opens a check-in window. It lists the nine lowest members.
+// C_ACKS frames of three entries.
+fn put_acks(o: &mut [u32], at: usize, rows: &[u8; 744], n: usize) -> usize
+    ensures { λ r. ⌜ Wrote (now (o .entry)) at (chunkWords cAcks 18 (take n (now (rows .entry)))) (now (o .exit)) r ⌝ }
+{
+    out::put_rows(o, at, 5, rows, n, 18)
+}
+
+// The mask without its lowest slot.
+fn without_lowest(mask: u64) -> u64
+    ensures { λ r. ⌜ r ≡ withoutFound (lowestBit mask) mask ⌝ }
+{
+    match bits::lowest(mask) {
+        Found::At(i) => bits::without(mask, i),
+        Found::Nothing => mask,
+    }
+}
+
+// The mask without its nine lowest slots.
+fn beyond_nine(mask: u64) -> u64
+    ensures { λ r. ⌜ r ≡ beyond 9 mask ⌝ }
+{
+    let mut m = mask;
+    let mut i: usize = 0;
+    while i < 9 {
+        m = without_lowest(m);
+        i += 1;
+    }
+    m
+}
+
+// The beacon opens a check-in window. Those waiting for acknowledgement whom it does not list go on waiting.
 pub fn beacon(mut s: Station, time: f64, o: &mut [u32], at: &mut usize) -> Station
     ensures { λ r. ⌜ Did (beaconOf s time) r (now (o .entry)) (now (at .entry)) (now (o .exit)) (now (at .exit)) ⌝ }
 {
     let g = s.settings;
-    let mut acks = [0u8; 372];
-    let n = rows::ack_rows(s, s.used, 9, &mut acks);
+    let mut acks = [0u8; 744];
+    let n = rows::beacon_rows(s, &mut acks);
     let p = beacon_payload(g);
     let a = out::put_head(o, *at, 0, 0, 0, g.beaconlevel as u32);
     let b = out::put_ctrl(o, a, &p, 14);
-    *at = out::put_chunks(o, b, 5, &acks, n, 18);
+    *at = put_acks(o, b, &acks, n);
     let w = s.wait;
     let v = net::sending(w);
     s.wait = v;
@@ -140,7 +173,8 @@ pub fn beacon(mut s: Station, time: f64, o: &mut [u32], at: &mut usize) -> Stati
     let end = window_end(g, time, (n + 17) / 18);
     s.round.nextbeacon = soon;
     s.round.windowend = end;
-    s.round.toack = 0;
+    let waiting = beyond_nine(bits::both(s.round.toack, s.used));
+    s.round.toack = waiting;
     s
 }
 

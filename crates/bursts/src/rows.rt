@@ -5,7 +5,8 @@ ghost use Prim.Native.Nat.{_+_, _≤_, _%_};
 ghost use lib.ListN.{length, take};
 ghost use Rattle.wire.specs.Call.{packCall};
 ghost use Rattle.stream.specs.Window.{bitmapOf};
-ghost use Rattle.bursts.specs.Rows.{Filled, rowWhere, ackRows, treeRows, listRows, anyHoles, leastOf, leastIf, orFloor, reachBy, leastReach, leastDirect};
+ghost use Rattle.bursts.specs.Bursts.{beaconRows};
+ghost use Rattle.bursts.specs.Rows.{Filled, rowWhere, ackRows, ackRowsOn, treeRows, listRows, anyHoles, leastOf, leastIf, orFloor, reachBy, leastReach, leastDirect};
 use net::Settings;
 use net::Station;
 use roster::Member;
@@ -30,11 +31,12 @@ fn ack_row(rows: &mut [u8], n: usize, told: bool, m: Member, i: u8) -> usize
     n
 }
 
-// The entries of ack_frames: slot and call of the members in the mask, `most` of them at most.
-pub fn ack_rows(s: Station, mask: u64, most: usize, rows: &mut [u8; 372]) -> usize
-    ensures { λ r. ⌜ Filled (ackRows s mask most) (now (rows .exit)) r ⌝ }
+// The entries of ack_frames behind n bytes of them: slot and call of the members in the mask, `most` rows in all.
+fn ack_rows_on(s: Station, mask: u64, most: usize, rows: &mut [u8], from: usize) -> usize
+    requires { ⌜ from + 372 ≤ length (now rows) ⌝ }
+    ensures { λ r. ⌜ Filled (ackRowsOn s mask most (take from (now (rows .entry)))) (now (rows .exit)) r ⌝ }
 {
-    let mut n: usize = 0;
+    let mut n = from;
     let mut i: usize = 0;
     while i < 62 {
         let m = s.members[i];
@@ -42,6 +44,22 @@ pub fn ack_rows(s: Station, mask: u64, most: usize, rows: &mut [u8; 372]) -> usi
         i += 1;
     }
     n
+}
+
+pub fn ack_rows(s: Station, mask: u64, rows: &mut [u8; 372]) -> usize
+    ensures { λ r. ⌜ Filled (ackRows s mask 62) (now (rows .exit)) r ⌝ }
+{
+    ack_rows_on(s, mask, 62, rows, 0)
+}
+
+// Who the beacon lists: boats waiting for acknowledgement first, then others, nine in all.
+pub fn beacon_rows(s: Station, rows: &mut [u8; 744]) -> usize
+    ensures { λ r. ⌜ Filled (beaconRows s) (now (rows .exit)) r ⌝ }
+{
+    let waiting = bits::both(s.round.toack, s.used);
+    let others = bits::minus(s.used, s.round.toack);
+    let n = ack_rows_on(s, waiting, 9, rows, 0);
+    ack_rows_on(s, others, 9, rows, n)
 }
 
 // Two bytes: a leaf and its relay, or a member that moved.

@@ -1,16 +1,14 @@
 -- Assumes nothing.
-use mathlib.Core.Path.{refl}
 use native.Mathlib.Omega.{arith}
 use Rattle.out.proofs.Laws.{then, wrote-as}
-use Rattle.bursts.specs.Rows.{ackAt, ackRow}
-use Rattle.bursts.specs.Bursts.{beaconOf, beaconRows}
-use Rattle.bursts.proofs.Filling.{rows-most}
+use Rattle.bursts.specs.Bursts.{beaconOf}
+use Rattle.bursts.proofs.Waiting.{beacon-most}
 use borrow.Author.Needs.{needs}
 use Rattle.bursts.proofs.beacon.Statement.{statement}
 use Rattle.bursts.proofs.beacon.Tie as tie
 
-ack-rows-requires : tie.Need-ack-rows-requires
-ack-rows-requires c κs = tt
+beacon-rows-requires : tie.Need-beacon-rows-requires
+beacon-rows-requires c κs = tt
 
 beacon-payload-requires : tie.Need-beacon-payload-requires
 beacon-payload-requires c κs = tt
@@ -24,46 +22,53 @@ put-head-requires c κs = tt
 put-ctrl-requires : tie.Need-put-ctrl-requires
 put-ctrl-requires c κs = tt
 
-put-chunks-requires : tie.Need-put-chunks-requires
-put-chunks-requires c κs = tt
+put-acks-requires : tie.Need-put-acks-requires
+put-acks-requires c κs = tt
 
 sending-requires : tie.Need-sending-requires
 sending-requires c κs = tt
 
 add-window-end : tie.Need-add-window-end
 add-window-end c =
-    let a = c .before .before .before .before .before .before .before .before .before .before .before .before .before .before .before .before .before .before .before .before .before .before .before .before .args in
-    omega (arith, c .before .before .before .before .before .before .before .before .before .before .before .before .before .before .before .before .before .before .before .before .ack-rows .ensures .count, rows-most (ackAt (a .s .used) 9) (ackRow (a .s)) 6 (λ i. refl))
+    omega (arith, c .before .before .before .before .before .before .before .before .before .before .before .before .before .before .before .before .before .before .before .before .beacon-rows .ensures .count, beacon-most (c .before .before .before .before .before .before .before .before .before .before .before .before .before .before .before .before .before .before .before .before .before .before .before .before .args .s))
 
 window-end-requires : tie.Need-window-end-requires
 window-end-requires c κs = tt
+
+both-requires : tie.Need-both-requires
+both-requires c κs = tt
+
+beyond-nine-requires : tie.Need-beyond-nine-requires
+beyond-nine-requires c κs = tt
 
 same-length : tie.Need-same-length
 same-length c = search needs
 
 returns : tie.Need-returns
-unfolding beaconOf beaconRows
+unfolding beaconOf
 returns c =
     record {
-      station = rw (c .before .before .before .before .before .sending .ensures, c .before .before .before .window-end .ensures, c .before .before .before .before .before .before .before .before .before .before .before .before .before .before .before .before .before .before .before .before .before .before .before .before .ack-rows .ensures .count);
+      station = rw (c .before .before .before .before .before .before .before .sending .ensures, c .before .before .before .before .before .window-end .ensures, c .before .before .before .before .before .before .before .before .before .before .before .before .before .before .before .before .before .before .before .before .before .before .before .before .before .before .beacon-rows .ensures .count, c .before .beyond-nine .ensures, c .before .before .both .ensures);
       wrote =
           wrote-as
-          (then (c .before .before .before .before .before .before .before .before .before .before .before .before .before .before .before .before .before .before .before .put-head .ensures) (then (c .before .before .before .before .before .before .before .before .before .before .before .before .before .before .put-ctrl .ensures) (c .before .before .before .before .before .before .before .before .before .put-chunks .ensures)))
-          (rw (c .before .before .before .before .before .before .before .before .before .before .before .before .before .before .before .before .before .before .before .before .before .before .before .beacon-payload .ensures, c .before .before .before .before .before .before .before .before .before .before .before .before .before .before .before .before .before .before .before .before .before .before .before .before .ack-rows .ensures .front));
+          (then (c .before .before .before .before .before .before .before .before .before .before .before .before .before .before .before .before .before .before .before .before .before .put-head .ensures) (then (c .before .before .before .before .before .before .before .before .before .before .before .before .before .before .before .before .put-ctrl .ensures) (c .before .before .before .before .before .before .before .before .before .before .before .put-acks .ensures)))
+          (rw (c .before .before .before .before .before .before .before .before .before .before .before .before .before .before .before .before .before .before .before .before .before .before .before .before .before .beacon-payload .ensures, c .before .before .before .before .before .before .before .before .before .before .before .before .before .before .before .before .before .before .before .before .before .before .before .before .before .before .beacon-rows .ensures .front));
     }
 
 pub beacon-spec : {M : Type 1} → statement M
 beacon-spec =
     tie.close
     (tie.spec
-    ack-rows-requires
+    beacon-rows-requires
     beacon-payload-requires
     cast-put-head
     put-head-requires
     put-ctrl-requires
-    put-chunks-requires
+    put-acks-requires
     sending-requires
     add-window-end
     window-end-requires
+    both-requires
+    beyond-nine-requires
     same-length
     returns)

@@ -1,64 +1,13 @@
 -- Assumes nothing.
-use mathlib.Core.Path.{refl}
-use Prim.Native.Nat.{_≤_, _-_}
 use native.Mathlib.Omega.{arith}
-use Rattle.bursts.specs.Rows.{ackAt, ackRow}
-use Rattle.bursts.proofs.Filling.{Rows, rows-start, rows-turn, rows-end}
 use Rattle.bursts.proofs.rows.ack_rows.Statement.{statement}
 use Rattle.bursts.proofs.rows.ack_rows.Tie as tie
 
-abbrev Inv-loop : tie.InvT-loop
-Inv-loop mask most rows₀ s n₀ i₀ rows n i = (i ≤ 62) × Rows (ackAt mask most) (ackRow s) 6 i n rows
+ack-rows-on-requires : tie.Need-ack-rows-on-requires
+ack-rows-on-requires c κs = omega arith
 
-abbrev μ-loop : tie.MeasureT-loop
-μ-loop mask most rows₀ s n₀ i₀ rows n i = 62 - i
-
-loop-holds : tie.Need-loop-holds Inv-loop μ-loop
-loop-holds c = (omega arith, rows-start _ _ 6 _)
-
-mul-m : tie.Need-mul-m Inv-loop μ-loop
-mul-m c = omega arith
-
-element-copy-out-m : tie.Need-element-copy-out-m Inv-loop μ-loop
-element-copy-out-m c = omega arith
-
-has-requires : tie.Need-has-requires Inv-loop μ-loop
-has-requires c κs = tt
-
-cast-ack-row : tie.Need-cast-ack-row Inv-loop μ-loop
-cast-ack-row c = omega arith
-
-ack-row-requires : tie.Need-ack-row-requires Inv-loop μ-loop
-ack-row-requires c κs = omega (arith, c .before .before .before .before .loop .inv .1 .most, c .before .ack-row-arg .given .0)
-
-add-i : tie.Need-add-i Inv-loop μ-loop
-add-i c = omega arith
-
-loop-less : tie.Need-loop-less Inv-loop μ-loop
-loop-less c = omega arith
-
-loop-again : tie.Need-loop-again Inv-loop μ-loop
-loop-again c =
-    let l = c .before .before .before .before .before .loop in
-    let h = c .before .before .before .before .loop-test .taken in
-    (omega arith, rows-turn _ _ 6 refl h (l .inv .1) (rw (← l .inv .1 .count, ← c .before .has .ensures) (c .ack-row .ensures)))
-
-returns : tie.Need-returns Inv-loop μ-loop
-returns c = rows-end _ _ 6 (c .loop-test .left) (c .before .loop .inv .1)
+returns : tie.Need-returns
+returns c = c .ack-rows-on .ensures
 
 pub ack-rows-spec : {M : Type 1} → statement M
-ack-rows-spec =
-    tie.close
-    (tie.spec
-    Inv-loop
-    μ-loop
-    loop-holds
-    mul-m
-    element-copy-out-m
-    has-requires
-    cast-ack-row
-    ack-row-requires
-    add-i
-    loop-less
-    loop-again
-    returns)
+ack-rows-spec = tie.close (tie.spec ack-rows-on-requires returns)

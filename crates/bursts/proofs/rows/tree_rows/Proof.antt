@@ -1,5 +1,6 @@
 -- Assumes nothing.
 use mathlib.Core.Path.{refl}
+use mathlib.Core.List.{[]}
 use Prim.Native.Nat.{_≤_, _-_}
 use native.Mathlib.Omega.{arith}
 use Rattle.bursts.specs.Rows.{treeAt, treeRow}
@@ -8,7 +9,7 @@ use Rattle.bursts.proofs.rows.tree_rows.Statement.{statement}
 use Rattle.bursts.proofs.rows.tree_rows.Tie as tie
 
 abbrev Inv-loop : tie.InvT-loop
-Inv-loop mask moved rows₀ s n₀ i₀ rows n i = (i ≤ 62) × Rows (treeAt s mask moved) (treeRow s) 2 i n rows
+Inv-loop mask moved rows₀ s n₀ i₀ rows n i = (i ≤ 62) × Rows (treeAt s mask moved) (treeRow s) 2 [] i n rows
 
 abbrev μ-loop : tie.MeasureT-loop
 μ-loop mask moved rows₀ s n₀ i₀ rows n i = 62 - i
