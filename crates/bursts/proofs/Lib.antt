@@ -6,3 +6,4 @@ pub mod Levels
 pub mod Listing
 pub mod Waiting
 pub mod Listed
+pub mod Timing

@@ -6,12 +6,13 @@ use mathlib.Core.List.{List, [], _∷_, _++_}
 use lib.Dec.{eqb}
 use lib.ListN.{length, getD, set}
 use lib.IntN.{pos}
-use lib.Ieee.{Float, nan, binary64, ofInt}
+use lib.Ieee.{Float, nan, binary64, sub, ofInt, ofBits, round}
 use Rattle.bits.specs.Loop.{fold}
 use Rattle.bits.specs.Mask.{hasBit, withoutBit, bothOf, eitherOf, minusOf, lowestBit}
 use Rattle.bits.specs.declared.Found.{Found}
 use Rattle.bits.specs.declared.Found.the-variants as found
 use Rattle.level.specs.Consts.{nought}
+use Rattle.rounding.specs.Round.{announced}
 use Rattle.wire.specs.Call.{packCall}
 use Rattle.wire.specs.Kinds.{kPoll, kRelay, cBeacon, cAcks, cTree, cRxlist}
 use Rattle.out.specs.Encode.{headWord, waveWord, ctrlWords, chunkWords}
@@ -85,9 +86,48 @@ acksBurst s = said (withRound (sends s) (withTreenews (withToack (s .round) 0) 0
 abbrev pub nameBytes : List ℕ → List ℕ
 nameBytes n = getD n 0 0 ∷ getD n 1 0 ∷ getD n 2 0 ∷ getD n 3 0 ∷ getD n 4 0 ∷ getD n 5 0 ∷ []
 
+-- 1000.0
+abbrev pub thousand : Float
+thousand = ofBits binary64 0x408f_4000_0000_0000
+
+pub thousand-is : thousand ≡ round binary64 false 1000 1
+unfolding ofBits round
+thousand-is = refl
+
+-- the duration of a beacon with this many frames after the first
+abbrev pub beaconLasts : Settings → ℕ → Float
+beaconLasts g acks = getD (g .durations) (acks % 4) nan
+
+-- where the burst of slot 0 starts after the beacon's own start, dur - lead + turnaround + lead + rx_latency, in milliseconds
+abbrev pub firstMs : Settings → ℕ → ℕ
+firstMs g acks =
+    announced (times (plus (plus (plus (sub binary64 (beaconLasts g acks) (g .lead)) (g .turnaround)) (g .lead)) (g .latency)) thousand)
+
+-- and the slot length, 1 at least
+abbrev pub orOne : ℕ → ℕ
+orOne n = cond (eqb n 0) 1 n
+
+abbrev pub lenMs : Settings → ℕ
+lenMs g = orOne (announced (times (slotLen g) thousand))
+
+-- lowest byte first
+abbrev pub twoBytes : ℕ → List ℕ
+twoBytes n = (n % 256) ∷ (n / 256) ∷ []
+
+-- the window's timing, with `prime` set
+abbrev pub timing : Settings → ℕ → List ℕ
+timing g acks = cond (g .prime) (twoBytes (firstMs g acks) ++ twoBytes (lenMs g)) []
+
 -- the station's packed call, the net's name, open, the window's slots
-abbrev pub beaconPayload : Settings → List ℕ
-beaconPayload g = (cBeacon ∷ packCall (g .call)) ++ (nameBytes (g .name) ++ (1 ∷ g .windowslots ∷ []))
+abbrev pub namePayload : Settings → List ℕ
+namePayload g = (cBeacon ∷ packCall (g .call)) ++ (nameBytes (g .name) ++ (1 ∷ g .windowslots ∷ []))
+
+-- the first frame of a beacon with this many frames after it, and its length
+unfoldable pub beaconPayload : Settings → ℕ → List ℕ
+beaconPayload g acks = namePayload g ++ timing g acks
+
+abbrev pub beaconSize : Settings → ℕ
+beaconSize g = cond (g .prime) 18 14
 
 -- who the beacon lists: boats waiting for acknowledgement first, by slot, then others by slot, nine in all
 unfoldable pub beaconRows : Station → List ℕ
@@ -102,19 +142,23 @@ unfoldable pub beyond : ℕ → ℕ → ℕ
 beyond zero m = m
 beyond (suc k) m = beyond k (withoutFound (lowestBit m) m)
 
+-- the frames after the first: three rows each
+abbrev pub beaconAcks : Station → ℕ
+beaconAcks s = (length (beaconRows s) + 17) / 18
+
 abbrev pub beaconWords : Station → List ℕ
 beaconWords s =
-    headWords 0 0 0 (s .settings .beaconlevel) ++ (ctrlWords (beaconPayload (s .settings)) ++ chunkWords cAcks 18 (beaconRows s))
+    headWords 0 0 0 (s .settings .beaconlevel) ++ (ctrlWords (beaconPayload (s .settings) (beaconAcks s)) ++ chunkWords cAcks 18 (beaconRows s))
 
 -- now + dur + turnaround + window_slots * slot_len + 0.0 (no chorus) + reply_slack, of a beacon with this many frames after the first
 abbrev pub windowEnd : Settings → Float → ℕ → Float
 windowEnd g now acks =
-    plus (plus (plus (plus (plus now (getD (g .durations) (acks % 4) nan)) (g .turnaround)) (times (ofInt binary64 (pos (g .windowslots))) (slotLen g))) nought) (g .replyslack)
+    plus (plus (plus (plus (plus now (beaconLasts g acks)) (g .turnaround)) (times (ofInt binary64 (pos (g .windowslots))) (slotLen g))) nought) (g .replyslack)
 
 -- those waiting and not listed go on waiting
 unfoldable pub beaconOf : Station → Float → Said
 beaconOf s now =
-    said (withRound (sends s) (withBeacon (s .round) (beyond 9 (acked s)) (windowEnd (s .settings) now ((length (beaconRows s) + 17) / 18)) (plus now (s .settings .beaconevery))))
+    said (withRound (sends s) (withBeacon (s .round) (beyond 9 (acked s)) (windowEnd (s .settings) now (beaconAcks s)) (plus now (s .settings .beaconevery))))
     (beaconWords s)
 
 -- ---- rx_list_burst

@@ -1,13 +1,13 @@
 // The bursts of the next decision (poll_burst, acks_burst, beacon, rx_list_burst of ncs.rs).
 ghost use mathlib.Core.Path.{_≡_};
 ghost use mathlib.Core.List.{[], _∷_, _++_};
-ghost use Prim.Native.Nat.{_-_};
-ghost use lib.ListN.{replicate, take};
+ghost use Prim.Native.Nat.{_-_, _/_, _%_};
+ghost use lib.ListN.{replicate, take, set};
 ghost use Rattle.bits.specs.Mask.{lowestBit};
 ghost use Rattle.wire.specs.Kinds.{cAcks};
 ghost use Rattle.out.specs.Encode.{Wrote, chunkWords};
 ghost use Rattle.net.specs.Net.{Did};
-ghost use Rattle.bursts.specs.Bursts.{pollExtra, pollKind, pollLevel, pollBurst, acksBurst, beaconPayload, withoutFound, beyond, windowEnd, beaconOf, tellOf, tellAll, rxListBurst};
+ghost use Rattle.bursts.specs.Bursts.{pollExtra, pollKind, pollLevel, pollBurst, acksBurst, beaconLasts, firstMs, lenMs, namePayload, beaconPayload, beaconSize, withoutFound, beyond, windowEnd, beaconOf, tellOf, tellAll, rxListBurst};
 use bits::Found;
 use net::Settings;
 use net::Station;
@@ -91,8 +91,8 @@ pub fn acks_burst(mut s: Station, o: &mut [u32], at: &mut usize) -> Station
 
 // ---- beacon
 
-fn beacon_payload(g: Settings) -> [u8; 32]
-    ensures { λ r. ⌜ r ≡ beaconPayload g ++ replicate 18 0 ⌝ }
+fn name_payload(g: Settings) -> [u8; 32]
+    ensures { λ r. ⌜ r ≡ namePayload g ++ replicate 18 0 ⌝ }
 {
     let call = g.call;
     let c = wire::calls::pack_call(call);
@@ -115,14 +115,69 @@ fn beacon_payload(g: Settings) -> [u8; 32]
     p
 }
 
+fn beacon_lasts(g: Settings, acks: usize) -> f64
+    ensures { λ r. ⌜ r ≡ beaconLasts g acks ⌝ }
+{
+    let k = acks % 4;
+    let d = g.durations;
+    d[k]
+}
+
+// Where the burst of slot 0 starts after the beacon's own start, in milliseconds.
+fn first_ms(g: Settings, acks: usize) -> u16
+    ensures { λ r. ⌜ r ≡ firstMs g acks ⌝ }
+{
+    let first = beacon_lasts(g, acks) - g.lead + g.turnaround + g.lead + g.latency;
+    rounding::whole_ms(first * 1000.0)
+}
+
+// The slot length, 1 at least.
+fn len_ms(g: Settings) -> u16
+    ensures { λ r. ⌜ r ≡ lenMs g ⌝ }
+{
+    let n = rounding::whole_ms(net::slot_len(g) * 1000.0);
+    if n == 0 { 1 } else { n }
+}
+
+// The window's timing behind the first 14 bytes.
+fn with_timing(p: [u8; 32], first: u16, len: u16) -> [u8; 32]
+    ensures { λ r. ⌜ r ≡ set (set (set (set p 14 (first % 256)) 15 (first / 256)) 16 (len % 256)) 17 (len / 256) ⌝ }
+{
+    let mut q = p;
+    q[14] = (first % 256) as u8;
+    q[15] = (first / 256) as u8;
+    q[16] = (len % 256) as u8;
+    q[17] = (len / 256) as u8;
+    q
+}
+
+// The first frame of a beacon with this many frames after it, and how many bytes it has.
+fn beacon_payload(g: Settings, acks: usize) -> [u8; 32]
+    ensures { λ r. ⌜ r ≡ beaconPayload g acks ++ replicate (32 - beaconSize g) 0 ⌝ }
+{
+    let p = name_payload(g);
+    if g.prime {
+        return with_timing(p, first_ms(g, acks), len_ms(g));
+    }
+    p
+}
+
+fn beacon_size(g: Settings) -> usize
+    ensures { λ r. ⌜ r ≡ beaconSize g ⌝ }
+{
+    if g.prime { 18 } else { 14 }
+}
+
 // When the check-in window of a beacon of 1 + acks frames ends.
 fn window_end(g: Settings, time: f64, acks: usize) -> f64
     ensures { λ r. ⌜ r ≡ windowEnd g time acks ⌝ }
 {
-    let k = acks % 4;
-    let d = g.durations;
-    let dur = d[k];
-    time + dur + g.turnaround + g.windowslots as f64 * net::slot_len(g) + 0.0 + g.replyslack
+    time
+        + beacon_lasts(g, acks)
+        + g.turnaround
+        + g.windowslots as f64 * net::slot_len(g)
+        + 0.0
+        + g.replyslack
 }
 
 // C_ACKS frames of three entries.
@@ -162,15 +217,16 @@ pub fn beacon(mut s: Station, time: f64, o: &mut [u32], at: &mut usize) -> Stati
     let g = s.settings;
     let mut acks = [0u8; 744];
     let n = rows::beacon_rows(s, &mut acks);
-    let p = beacon_payload(g);
+    let more = (n + 17) / 18;
+    let p = beacon_payload(g, more);
     let a = out::put_head(o, *at, 0, 0, 0, g.beaconlevel as u32);
-    let b = out::put_ctrl(o, a, &p, 14);
+    let b = out::put_ctrl(o, a, &p, beacon_size(g));
     *at = put_acks(o, b, &acks, n);
     let w = s.wait;
     let v = net::sending(w);
     s.wait = v;
     let soon = time + g.beaconevery;
-    let end = window_end(g, time, (n + 17) / 18);
+    let end = window_end(g, time, more);
     s.round.nextbeacon = soon;
     s.round.windowend = end;
     let waiting = beyond_nine(bits::both(s.round.toack, s.used));

@@ -11,14 +11,14 @@ use Rattle.wire.specs.Call.{numberOf, unpackCall}
 use Rattle.net.specs.declared.Settings.{Settings}
 use Rattle.config.specs.declared.Given.{Given}
 
--- seconds and the four control burst durations: 0 to 1,000,000
+-- seconds, lead and latency (U7) among them, and the four control burst durations: 0 to 1,000,000
 abbrev pub spanOk : Float → Bool
 spanOk t = upTo 1000000 t
 
 abbrev pub secondsOk : Settings → Bool
 secondsOk g =
     spanOk (g .turnaround) && spanOk (g .maxburst) && spanOk (g .replyslack) && spanOk (g .detect) && spanOk (g .beaconevery) && spanOk (g .quickbeacon)
-    && spanOk (g .idleroundgap)
+    && spanOk (g .idleroundgap) && spanOk (g .lead) && spanOk (g .latency)
 
 abbrev pub durationsOk : List Float → Bool
 durationsOk d = spanOk (getD d 0 nan) && spanOk (getD d 1 nan) && spanOk (getD d 2 nan) && spanOk (getD d 3 nan)
@@ -40,4 +40,4 @@ settingsOk x =
 
 -- the settings of a start: the call is read as any call is
 abbrev pub settingsOf : Given → Settings
-settingsOf x = record { turnaround = x .settings .turnaround; maxburst = x .settings .maxburst; replyslack = x .settings .replyslack; detect = x .settings .detect; beaconevery = x .settings .beaconevery; quickbeacon = x .settings .quickbeacon; idleroundgap = x .settings .idleroundgap; durations = x .settings .durations; thresholds = x .settings .thresholds; margin = x .settings .margin; relaysnr = x .settings .relaysnr; misslimit = x .settings .misslimit; beaconlevel = x .settings .beaconlevel; windowslots = x .settings .windowslots; call = unpackCall (x .call); name = x .settings .name }
+settingsOf x = record { turnaround = x .settings .turnaround; maxburst = x .settings .maxburst; replyslack = x .settings .replyslack; detect = x .settings .detect; beaconevery = x .settings .beaconevery; quickbeacon = x .settings .quickbeacon; idleroundgap = x .settings .idleroundgap; durations = x .settings .durations; thresholds = x .settings .thresholds; margin = x .settings .margin; relaysnr = x .settings .relaysnr; misslimit = x .settings .misslimit; beaconlevel = x .settings .beaconlevel; windowslots = x .settings .windowslots; call = unpackCall (x .call); name = x .settings .name; prime = x .settings .prime; lead = x .settings .lead; latency = x .settings .latency }

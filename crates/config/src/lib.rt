@@ -20,6 +20,8 @@ fn seconds_ok(g: Settings) -> bool
         & level::span_ok(g.beaconevery)
         & level::span_ok(g.quickbeacon)
         & level::span_ok(g.idleroundgap)
+        & level::span_ok(g.lead)
+        & level::span_ok(g.latency)
 }
 
 fn durations_ok(d: [f64; 4]) -> bool

@@ -77,13 +77,18 @@ fn length_of(command: u32) -> usize {
     }
 }
 
+// A start may have the settings of the beacon's timing too.
+fn length_ok(command: u32, len: usize) -> bool {
+    (len == length_of(command)) | ((command == 8) & (len == 199))
+}
+
 // The flags of a command's one frame; 256 where the words are anything else. Only an admission has flags.
 fn flags_of(words: &[u32], command: u32) -> u32 {
     let i = words::item_at(words, 0);
     let words::Item::Frame { flags, field, len } = i else {
         return 256;
     };
-    if (words::size_of(i) != words.len()) | (field != 0) | (len != length_of(command)) {
+    if (words::size_of(i) != words.len()) | (field != 0) | !length_ok(command, len) {
         return 256;
     }
     if (flags != 0) & (command != 3) {
@@ -168,7 +173,7 @@ fn admit(s: Station, words: &[u32], now: f64, out: &mut [u32; 8192]) -> Answered
 
 // A fresh start.
 fn start(s: Station, words: &[u32], lent: &[u8]) -> Answered {
-    let p = words::payload(words, 0, 182);
+    let p = words::payload(words, 0, 199);
     if (255 < flags_of(words, 8)) | given::has_nan(&p) {
         return malformed(s);
     }

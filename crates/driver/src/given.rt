@@ -1,4 +1,4 @@
-// The settings in the 182 bytes of `drive`.
+// The settings in the bytes of `drive`: 182, or 199 with those of the beacon's timing (prime, lead, latency) behind them.
 use super::number::f32_at;
 use super::number::f64_at;
 use super::number::nan32_at;
@@ -32,7 +32,7 @@ fn has_nan32(p: &[u8; 255]) -> bool {
 }
 
 pub fn has_nan(p: &[u8; 255]) -> bool {
-    has_nan64(p) | has_nan32(p)
+    has_nan64(p) | has_nan32(p) | nan64_at(p, 183) | nan64_at(p, 191)
 }
 
 fn thresholds(p: &[u8; 255]) -> [f32; 17] {
@@ -72,6 +72,9 @@ pub fn given(p: &[u8; 255]) -> Given {
         windowslots: p[169],
         call: nobody,
         name: name,
+        prime: p[182] != 0,
+        lead: f64_at(p, 183),
+        latency: f64_at(p, 191),
     };
     Given {
         settings: g,

@@ -47,6 +47,9 @@ pub struct Settings {
     pub windowslots: u8,
     pub call: [u8; 7],
     pub name: [u8; 6],
+    pub prime: bool,
+    pub lead: f64,
+    pub latency: f64,
 }
 
 // Sets are masks of slots, the round's list too: its lowest slot is the front. rxsent: the round whose received list was looked at, 0 for

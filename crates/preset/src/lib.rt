@@ -30,7 +30,7 @@ fn ladder() -> [f32; 17] {
     ]
 }
 
-// The settings of `tape`: call `0`, name `PORT`, the rest of NetConfig::new.
+// The settings of `tape`: call `0`, name `PORT`, `prime` false, the rest of NetConfig::new.
 pub fn tape_settings() -> Given {
     let thresholds = ladder();
     let durations = [1.0f64; 4];
@@ -53,6 +53,9 @@ pub fn tape_settings() -> Given {
         windowslots: 4,
         call: nobody,
         name: name,
+        prime: false,
+        lead: 0.0,
+        latency: 0.0,
     };
     // 3010936384, the call `0`.
     let call = wire::calls::bytes_of(3010936384);

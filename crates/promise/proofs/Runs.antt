@@ -45,7 +45,7 @@ nought = fin false 0 (pos 0)
 abbrev pub plain : Given
 plain =
     record {
-      settings = record { turnaround = nought; maxburst = nought; replyslack = nought; detect = nought; beaconevery = nought; quickbeacon = nought; idleroundgap = nought; durations = replicate 4 nought; thresholds = replicate 17 nought; margin = nought; relaysnr = nought; misslimit = 1; beaconlevel = 0; windowslots = 0; call = replicate 7 32; name = replicate 6 32 };
+      settings = record { turnaround = nought; maxburst = nought; replyslack = nought; detect = nought; beaconevery = nought; quickbeacon = nought; idleroundgap = nought; durations = replicate 4 nought; thresholds = replicate 17 nought; margin = nought; relaysnr = nought; misslimit = 1; beaconlevel = 0; windowslots = 0; call = replicate 7 32; name = replicate 6 32; prime = false; lead = nought; latency = nought };
       call = replicate 5 0;
     }
 

@@ -26,7 +26,7 @@ use Rattle.net.specs.declared.Turn.the-variants.{Idle, Sending, Waiting}
 use Rattle.net.specs.State.{memberAt, withWait, withRound, withRxsent, withRxdirty, oneList}
 use Rattle.net.specs.Net.{isMember, idleWait, Said, said}
 use Rattle.bursts.specs.Rows.{ackRows, treeRows, listRows, leastReach, leastDirect}
-use Rattle.bursts.specs.Bursts.{acked, movedIn, ackedOrMoved, acksBurst, beaconPayload, beaconRows, beaconOf, listSent, rxListBurst, sends, tellAt, tellAll, listTold, listWords}
+use Rattle.bursts.specs.Bursts.{acked, movedIn, ackedOrMoved, acksBurst, beaconPayload, beaconAcks, beaconRows, beaconOf, listSent, rxListBurst, sends, tellAt, tellAll, listTold, listWords}
 use Rattle.bursts.specs.Reroute.{sourceFor, rerouteOf}
 use Rattle.bursts.proofs.Masks.{mask-past}
 use Rattle.next.specs.declared.Act.{Act}
@@ -163,8 +163,8 @@ fine-acks s l = stage-other rest (acksBurst s) tt l (acks-other s)
 beacon-other : (s : Station) (now : Float) → burstsIn (beaconOf s now .words) ≡ []
 unfolding beaconOf
 beacon-other s now =
-    w.other-burst (s .settings .beaconlevel) (ctrlWords (beaconPayload (s .settings)) ++ chunkWords cAcks 18 (beaconRows s))
-    (w.quiet-both (ctrlWords (beaconPayload (s .settings))) (chunkWords cAcks 18 (beaconRows s)) (w.quiet-ctrl (beaconPayload (s .settings)))
+    w.other-burst (s .settings .beaconlevel) (ctrlWords (beaconPayload (s .settings) (beaconAcks s)) ++ chunkWords cAcks 18 (beaconRows s))
+    (w.quiet-both (ctrlWords (beaconPayload (s .settings) (beaconAcks s))) (chunkWords cAcks 18 (beaconRows s)) (w.quiet-ctrl (beaconPayload (s .settings) (beaconAcks s)))
     (w.quiet-chunk-words cAcks 18 (beaconRows s)))
 
 fine-beacon : (s : Station) (now : Float) → Low (s .round .list) → Stage (slotsIn (s .round .list)) rest (spoke (beaconOf s now))

@@ -2,13 +2,16 @@
 use native.Mathlib.Omega.{arith}
 use Rattle.out.proofs.Laws.{then, wrote-as}
 use Rattle.bursts.specs.Bursts.{beaconOf}
-use Rattle.bursts.proofs.Waiting.{beacon-most}
+use Rattle.bursts.proofs.Waiting.{beacon-most, payload-front}
 use borrow.Author.Needs.{needs}
 use Rattle.bursts.proofs.beacon.Statement.{statement}
 use Rattle.bursts.proofs.beacon.Tie as tie
 
 beacon-rows-requires : tie.Need-beacon-rows-requires
 beacon-rows-requires c κs = tt
+
+add-more : tie.Need-add-more
+add-more c = omega (arith, c .beacon-rows .ensures .count, beacon-most (c .before .before .before .before .args .s))
 
 beacon-payload-requires : tie.Need-beacon-payload-requires
 beacon-payload-requires c κs = tt
@@ -19,6 +22,9 @@ cast-put-head c = search needs
 put-head-requires : tie.Need-put-head-requires
 put-head-requires c κs = tt
 
+beacon-size-requires : tie.Need-beacon-size-requires
+beacon-size-requires c κs = tt
+
 put-ctrl-requires : tie.Need-put-ctrl-requires
 put-ctrl-requires c κs = tt
 
@@ -27,10 +33,6 @@ put-acks-requires c κs = tt
 
 sending-requires : tie.Need-sending-requires
 sending-requires c κs = tt
-
-add-window-end : tie.Need-add-window-end
-add-window-end c =
-    omega (arith, c .before .before .before .before .before .before .before .before .before .before .before .before .before .before .before .before .before .before .before .before .beacon-rows .ensures .count, beacon-most (c .before .before .before .before .before .before .before .before .before .before .before .before .before .before .before .before .before .before .before .before .before .before .before .before .args .s))
 
 window-end-requires : tie.Need-window-end-requires
 window-end-requires c κs = tt
@@ -47,12 +49,13 @@ same-length c = search needs
 returns : tie.Need-returns
 unfolding beaconOf
 returns c =
+    let g = c .before .before .before .before .before .before .before .before .before .before .before .before .before .before .before .before .before .before .before .before .before .before .before .before .before .before .before .before .before .before .before .args .s .settings in
     record {
-      station = rw (c .before .before .before .before .before .before .before .sending .ensures, c .before .before .before .before .before .window-end .ensures, c .before .before .before .before .before .before .before .before .before .before .before .before .before .before .before .before .before .before .before .before .before .before .before .before .before .before .beacon-rows .ensures .count, c .before .beyond-nine .ensures, c .before .before .both .ensures);
+      station = rw (c .before .before .before .before .before .before .before .sending .ensures, c .before .before .before .before .before .window-end .ensures, c .before .before .before .before .before .before .before .before .before .before .before .before .before .before .before .before .before .before .before .before .before .before .before .before .before .before .before .beacon-rows .ensures .count, c .before .beyond-nine .ensures, c .before .before .both .ensures);
       wrote =
           wrote-as
-          (then (c .before .before .before .before .before .before .before .before .before .before .before .before .before .before .before .before .before .before .before .before .before .put-head .ensures) (then (c .before .before .before .before .before .before .before .before .before .before .before .before .before .before .before .before .put-ctrl .ensures) (c .before .before .before .before .before .before .before .before .before .before .before .put-acks .ensures)))
-          (rw (c .before .before .before .before .before .before .before .before .before .before .before .before .before .before .before .before .before .before .before .before .before .before .before .before .before .beacon-payload .ensures, c .before .before .before .before .before .before .before .before .before .before .before .before .before .before .before .before .before .before .before .before .before .before .before .before .before .before .beacon-rows .ensures .front));
+          (then (c .before .before .before .before .before .before .before .before .before .before .before .before .before .before .before .before .before .before .before .before .before .before .put-head .ensures) (then (c .before .before .before .before .before .before .before .before .before .before .before .before .before .before .before .before .put-ctrl .ensures) (c .before .before .before .before .before .before .before .before .before .before .before .put-acks .ensures)))
+          (rw (c .before .before .before .before .before .before .before .before .before .before .before .before .before .before .before .before .before .before .before .before .before .before .before .before .before .before .beacon-payload .ensures, c .before .before .before .before .before .before .before .before .before .before .before .before .before .before .before .before .before .beacon-size .ensures, payload-front g _, c .before .before .before .before .before .before .before .before .before .before .before .before .before .before .before .before .before .before .before .before .before .before .before .before .before .before .before .beacon-rows .ensures .front, c .before .before .before .before .before .before .before .before .before .before .before .before .before .before .before .before .before .before .before .before .before .before .before .before .before .before .before .beacon-rows .ensures .count));
     }
 
 pub beacon-spec : {M : Type 1} → statement M
@@ -60,13 +63,14 @@ beacon-spec =
     tie.close
     (tie.spec
     beacon-rows-requires
+    add-more
     beacon-payload-requires
     cast-put-head
     put-head-requires
+    beacon-size-requires
     put-ctrl-requires
     put-acks-requires
     sending-requires
-    add-window-end
     window-end-requires
     both-requires
     beyond-nine-requires

@@ -24,8 +24,14 @@ span-ok-requires-6 c κs = search needs
 span-ok-requires-7 : tie.Need-span-ok-requires-7
 span-ok-requires-7 c κs = search needs
 
+span-ok-requires-8 : tie.Need-span-ok-requires-8
+span-ok-requires-8 c κs = search needs
+
+span-ok-requires-9 : tie.Need-span-ok-requires-9
+span-ok-requires-9 c κs = search needs
+
 returns : tie.Need-returns
-returns c = rw (c .span-ok7 .ensures, c .before .span-ok6 .ensures, c .before .before .span-ok5 .ensures, c .before .before .before .span-ok4 .ensures, c .before .before .before .before .span-ok3 .ensures, c .before .before .before .before .before .span-ok2 .ensures, c .before .before .before .before .before .before .span-ok .ensures)
+returns c = rw (c .span-ok9 .ensures, c .before .span-ok8 .ensures, c .before .before .span-ok7 .ensures, c .before .before .before .span-ok6 .ensures, c .before .before .before .before .span-ok5 .ensures, c .before .before .before .before .before .span-ok4 .ensures, c .before .before .before .before .before .before .span-ok3 .ensures, c .before .before .before .before .before .before .before .span-ok2 .ensures, c .before .before .before .before .before .before .before .before .span-ok .ensures)
 
 pub seconds-ok-spec : {M : Type 1} → statement M
 seconds-ok-spec =
@@ -38,4 +44,6 @@ seconds-ok-spec =
     span-ok-requires-5
     span-ok-requires-6
     span-ok-requires-7
+    span-ok-requires-8
+    span-ok-requires-9
     returns)
