@@ -14,7 +14,7 @@ use Rattle.roster.specs.declared.Member.{Member}
 use Rattle.roster.specs.Members.{promotedAt, reroutedTo}
 use Rattle.roster.specs.Relays.{couldRelay, needsRelay, bestHigh, relaySrcFor, promotableAt, isLeaf}
 use Rattle.net.specs.declared.Station.{Station}
-use Rattle.net.specs.State.{withMembers, memberAt, alsoNews}
+use Rattle.net.specs.State.{withMembers, withTotals, memberAt, alsoNews, tallied}
 use Rattle.net.specs.Net.{isMember, Said, said}
 use Rattle.bursts.specs.declared.reroute.Surveyed.{Surveyed}
 use Rattle.bursts.specs.Rows.{seated, maskWhere}
@@ -47,6 +47,10 @@ sourceFor s slot = relaySrcFor (s .hears) (needsOf s) (ableOf s) (triedOf s) slo
 abbrev pub surveyOf : Station → Surveyed
 surveyOf s = record { able = ableOf s; needs = needsOf s; tried = triedOf s }
 
+-- a boat that changes its relay starts anew with no missed poll: the total of silent boats goes with it
+abbrev pub withSeated : Station → ℕ → Member → Station
+withSeated s i k = withTotals (withMembers s (set (s .members) i k)) (tallied s (seated s i) k)
+
 -- ---- promotion, for all at once
 
 -- thresholds[0] + margin
@@ -61,7 +65,7 @@ promotedBy (Decibels snr) m = promotedAt m snr
 abbrev pub promoteWith : Level → ℕ → Said → Said
 promoteWith Unheard i x = x
 promoteWith (Decibels snr) i x =
-    said (alsoNews (withMembers (x .station) (set (x .station .members) i (promotedAt (seated (x .station) i) snr))) i)
+    said (alsoNews (withSeated (x .station) i (promotedAt (seated (x .station) i) snr)) i)
     (x .words ++ (eventWord 5 i 63 ∷ []))
 
 unfoldable pub promoteAt : Float → ℕ → Said → Said
@@ -93,7 +97,7 @@ newRelay s c = relayFrom (s .hears) (ableOf s) (seated s c .via) c (s .settings 
 abbrev pub moveTo : ℕ → ℕ → Said → Said
 moveTo r c x =
     cond (eqb r 63) x
-    (said (alsoNews (withMembers (x .station) (set (x .station .members) c (reroutedTo (seated (x .station) c) r))) c)
+    (said (alsoNews (withSeated (x .station) c (reroutedTo (seated (x .station) c) r)) c)
     (x .words ++ (eventWord 5 c r ∷ [])))
 
 -- slot c is one of the leaves, and to be moved

@@ -83,6 +83,12 @@ fn promote(mut s: Station, o: &mut [u32], at: &mut usize) -> Station
         let moved = level::is_heard(x);
         let k = promote_member(m, x);
         s.members[i] = k;
+        let silent = roster::tally(
+            s.totals.silent,
+            g.misslimit <= m.missed,
+            g.misslimit <= k.missed,
+        );
+        s.totals.silent = silent;
         let news = with_if(s.round.treenews, moved, i);
         s.round.treenews = news;
         end = routed(moved, i, 63, o, end);
@@ -154,6 +160,9 @@ fn move_leaves(mut s: Station, leaves: u64, able: u64, o: &mut [u32], at: &mut u
         let moved = r != 63;
         let k = moved_to(m, r);
         s.members[c] = k;
+        let limit = s.settings.misslimit;
+        let silent = roster::tally(s.totals.silent, limit <= m.missed, limit <= k.missed);
+        s.totals.silent = silent;
         free = without_if(free, moved, c);
         let news = with_if(s.round.treenews, moved, c);
         s.round.treenews = news;

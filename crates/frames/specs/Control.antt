@@ -11,7 +11,7 @@ use Rattle.out.specs.Encode.{missedWord}
 use Rattle.roster.specs.declared.Member.{Member}
 use Rattle.roster.specs.Members.{withHeard, withDown, withCaps, withVersion, receivedAt, reachedAt, missedOne, isWilling}
 use Rattle.net.specs.declared.Station.{Station}
-use Rattle.net.specs.State.{memberAt, withMember, withRound, withHears, withActivity}
+use Rattle.net.specs.State.{memberAt, withMember, withCounted, withRound, withHears, withActivity}
 use Rattle.net.specs.Net.{isMember, Said, said}
 use Rattle.admit.specs.Admission.{seatOf, slotOf, admitBy}
 use Rattle.admit.specs.declared.Seat.{Seat}
@@ -145,7 +145,7 @@ kidEvents c b = cond (leb 128 b) [] (missedWord c ∷ [])
 abbrev pub kidBy : Air → ℕ → ℕ → ℕ → Said → Said
 kidBy a slot c b x =
     cond (isKid (x .station) c slot)
-    (said (withMember (x .station) c (kidMember a b (memberAt (x .station) c))) (x .words ++ kidEvents c b)) x
+    (said (withCounted (x .station) c (kidMember a b (memberAt (x .station) c))) (x .words ++ kidEvents c b)) x
 
 unfoldable pub kidEntry : Air → List ℕ → ℕ → ℕ → Said → Said
 kidEntry a p slot e x = kidBy a slot (getD p e 0) (getD p (e + 1) 0) x

@@ -306,6 +306,9 @@ fn kids(
         let ok = is_kid(m, net::is_member(s.used, c), slot);
         let k = kid_member(m, ok, b, a);
         s.members[i] = k;
+        let limit = s.settings.misslimit;
+        let silent = roster::tally(s.totals.silent, limit <= m.missed, limit <= k.missed);
+        s.totals.silent = silent;
         put = kid_event(ok, b, c, o, put);
         e += 2;
     }

@@ -45,7 +45,7 @@ abbrev pub firstRound : Round
 firstRound = record { list = 0; toack = 0; treenews = 0; windowend = nought; nextbeacon = nought; nextround = nought; txat = nought; number = 0; rxsent = 0; closeleft = 0; closed = false; traffic = false; rxdirty = false; activity = false }
 
 abbrev pub noTotals : Totals
-noTotals = record { polls = 0; relays = 0; rxlists = 0; rounds = 0; replies = 0 }
+noTotals = record { polls = 0; relays = 0; rxlists = 0; rounds = 0; replies = 0; silent = 0 }
 
 abbrev pub waitOf : Turn → Clock → Wait
 waitOf turn deadline = record { turn = turn; deadline = deadline }

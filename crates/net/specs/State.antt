@@ -8,7 +8,7 @@ use lib.Ieee.{Float}
 use Rattle.bits.specs.Stop.{stop}
 use Rattle.bits.specs.Mask.{withBit}
 use Rattle.roster.specs.declared.Member.{Member}
-use Rattle.roster.specs.Members.{noMember}
+use Rattle.roster.specs.Members.{noMember, silentAt, tally}
 use Rattle.stream.specs.Table.{Table}
 use Rattle.net.specs.declared.Station.{Station}
 use Rattle.net.specs.declared.Round.{Round}
@@ -123,23 +123,27 @@ alsoNews s i = withRound s (withTreenews (s .round) (withBit (s .round .treenews
 
 abbrev pub withPolls : Totals → ℕ → Totals
 withPolls t n =
-    record { polls = n; relays = t .relays; rxlists = t .rxlists; rounds = t .rounds; replies = t .replies }
+    record { polls = n; relays = t .relays; rxlists = t .rxlists; rounds = t .rounds; replies = t .replies; silent = t .silent }
 
 abbrev pub withRelays : Totals → ℕ → Totals
 withRelays t n =
-    record { polls = t .polls; relays = n; rxlists = t .rxlists; rounds = t .rounds; replies = t .replies }
+    record { polls = t .polls; relays = n; rxlists = t .rxlists; rounds = t .rounds; replies = t .replies; silent = t .silent }
 
 abbrev pub withRxlists : Totals → ℕ → Totals
 withRxlists t n =
-    record { polls = t .polls; relays = t .relays; rxlists = n; rounds = t .rounds; replies = t .replies }
+    record { polls = t .polls; relays = t .relays; rxlists = n; rounds = t .rounds; replies = t .replies; silent = t .silent }
 
 abbrev pub withRounds : Totals → ℕ → Totals
 withRounds t n =
-    record { polls = t .polls; relays = t .relays; rxlists = t .rxlists; rounds = n; replies = t .replies }
+    record { polls = t .polls; relays = t .relays; rxlists = t .rxlists; rounds = n; replies = t .replies; silent = t .silent }
 
 abbrev pub withReplies : Totals → ℕ → Totals
 withReplies t n =
-    record { polls = t .polls; relays = t .relays; rxlists = t .rxlists; rounds = t .rounds; replies = n }
+    record { polls = t .polls; relays = t .relays; rxlists = t .rxlists; rounds = t .rounds; replies = n; silent = t .silent }
+
+abbrev pub withSilent : Totals → ℕ → Totals
+withSilent t n =
+    record { polls = t .polls; relays = t .relays; rxlists = t .rxlists; rounds = t .rounds; replies = t .replies; silent = n }
 
 abbrev pub onePoll : Station → Station
 onePoll s = withTotals s (withPolls (s .totals) (stop (s .totals .polls + 1)))
@@ -155,3 +159,13 @@ oneRound s = withTotals s (withRounds (s .totals) (stop (s .totals .rounds + 1))
 
 abbrev pub oneReply : Station → Station
 oneReply s = withTotals s (withReplies (s .totals) (stop (s .totals .replies + 1)))
+
+-- ---- silent boats: the total goes with a member whose missed count changes
+
+abbrev pub tallied : Station → Member → Member → Totals
+tallied s m k =
+    withSilent (s .totals) (tally (s .totals .silent) (silentAt (s .settings .misslimit) m) (silentAt (s .settings .misslimit) k))
+
+-- the member in the slot becomes k
+abbrev pub withCounted : Station → ℕ → Member → Station
+withCounted s slot k = withTotals (withMember s slot k) (tallied s (memberAt s slot) k)

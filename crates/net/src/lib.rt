@@ -77,6 +77,8 @@ pub struct Totals {
     pub rxlists: u32,
     pub rounds: u32,
     pub replies: u32,
+    // Boats at or above the miss limit.
+    pub silent: u32,
 }
 
 // `used` is the mask of slots with a member. Cell c below `count` is free, or in `busy` and filling, or in both `busy` and `landed`;
@@ -141,6 +143,7 @@ fn no_totals() -> Totals
         rxlists: 0,
         rounds: 0,
         replies: 0,
+        silent: 0,
     }
 }
 

@@ -21,7 +21,7 @@ use Rattle.net.specs.declared.Reply.{Reply}
 use Rattle.net.specs.declared.Turn.{Turn}
 use Rattle.net.specs.declared.Turn.the-variants.{Idle, Sending, Waiting}
 use Rattle.net.specs.declared.Wait.{Wait}
-use Rattle.net.specs.State.{memberAt, withMember, withWait, withRound, withList, withTxat, withClosing, withActivity, withNextbeacon, withRxsent, withNumber, onePoll, oneRound}
+use Rattle.net.specs.State.{memberAt, withMember, withCounted, withWait, withRound, withList, withTxat, withClosing, withActivity, withNextbeacon, withRxsent, withNumber, onePoll, oneRound}
 use Rattle.net.specs.Net.{plus, isMember, waitOf, idleWait, Said, said}
 use Rattle.bursts.specs.Rows.{seated, maskWhere}
 use Rattle.bursts.specs.Bursts.{tinyWords, pollBurst, acksBurst, beaconOf, rxListBurst, listSent}
@@ -163,7 +163,7 @@ turnOverIn s slot source =
 
 -- the missed poll counts, event 3
 abbrev pub missedIn : Station → ℕ → Station
-missedIn s slot = cond (isMember (s .used) slot) (withMember s slot (missedOne (memberAt s slot))) s
+missedIn s slot = cond (isMember (s .used) slot) (withCounted s slot (missedOne (memberAt s slot))) s
 
 abbrev pub missedEvent : Station → ℕ → List ℕ
 missedEvent s slot = cond (isMember (s .used) slot) (missedWord slot ∷ []) []

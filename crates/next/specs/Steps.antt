@@ -13,7 +13,7 @@ use Rattle.level.specs.Order.{least}
 use Rattle.wire.specs.Kinds.{kClose}
 use Rattle.out.specs.Encode.{missedWord}
 use Rattle.roster.specs.declared.Member.{Member}
-use Rattle.roster.specs.Members.{missedOne}
+use Rattle.roster.specs.Members.{missedOne, silentAt, tally}
 use Rattle.roster.specs.Relays.{turnOver}
 use Rattle.net.specs.declared.Station.{Station}
 use Rattle.net.specs.declared.Settings.{Settings}
@@ -22,7 +22,7 @@ use Rattle.net.specs.declared.Totals.{Totals}
 use Rattle.net.specs.declared.Reply.{Reply}
 use Rattle.net.specs.declared.Turn.the-variants.{Waiting}
 use Rattle.net.specs.declared.Wait.{Wait}
-use Rattle.net.specs.State.{memberAt, withMember, withWait, withRound, withTotals, withList, withTxat, withClosing, withActivity, withNextbeacon, withRxsent, withPolls}
+use Rattle.net.specs.State.{memberAt, withMember, withWait, withRound, withTotals, withList, withTxat, withClosing, withActivity, withNextbeacon, withRxsent, withPolls, withSilent}
 use Rattle.net.specs.Net.{plus, isMember, waitOf, idleWait, isIdle, Said, said}
 use Rattle.bursts.specs.Bursts.{tinyWords, pollBurst, acksBurst, beaconOf, rxListBurst}
 use Rattle.bursts.specs.Reroute.{sourceFor, rerouteOf}
@@ -81,8 +81,10 @@ lateWait w l =
     (waitOf (Waiting (record { slot = l .slot; relayfor = l .relayfor; tries = 1; turnbursts = l .turnbursts })) Never)
     (cond (l .missed) idleWait w)
 
-abbrev pub lateTotals : Totals → Late → Totals
-lateTotals t l = cond (l .again) (withPolls t (stop (t .polls + 1))) t
+-- the member that was polled was silent before, and is after
+abbrev pub lateTotals : Totals → Late → Bool → Bool → Totals
+lateTotals t l before after =
+    withSilent (cond (l .again) (withPolls t (stop (t .polls + 1))) t) (tally (t .silent) before after)
 
 abbrev pub closeRound : Round → Float → Round
 closeRound r at = cond (ltb 0 (r .closeleft)) (withTxat (withClosing r (r .closed) (r .closeleft - 1)) at) r
@@ -107,7 +109,7 @@ lateMembers s l =
 
 abbrev pub lateStation : Station → Late → Float → Station
 lateStation s l now =
-    withRound (withTotals (withWait (lateMembers s l) (lateWait (s .wait) l)) (lateTotals (s .totals) l)) (lateRound (s .round) l (s .settings) now)
+    withRound (withTotals (withWait (lateMembers s l) (lateWait (s .wait) l)) (lateTotals (s .totals) l (silentAt (s .settings .misslimit) (memberAt s (l .slot))) (silentAt (s .settings .misslimit) (lateMember (memberAt s (l .slot)) l (isMember (s .used) (l .slot)))))) (lateRound (s .round) l (s .settings) now)
 
 -- K_CLOSE, the poll once more, or event 3
 abbrev pub lateSays : Station → Late → List ℕ

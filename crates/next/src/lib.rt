@@ -43,7 +43,7 @@ pub fn ncs_next(mut s: Station, ok: bool, time: f64, o: &mut [u32], at: &mut usi
     let v = late_wait(w, l);
     s.wait = v;
     let t = s.totals;
-    let u = late_totals(t, l);
+    let u = late_totals(t, l, g.misslimit <= m.missed, g.misslimit <= k.missed);
     s.totals = u;
     let r = late_round(q, l, g, time);
     s.round = r;
@@ -224,10 +224,11 @@ fn late_wait(w: Wait, l: Late) -> Wait
     w
 }
 
-fn late_totals(t: Totals, l: Late) -> Totals
-    ensures { λ r. ⌜ r ≡ lateTotals t l ⌝ }
+fn late_totals(t: Totals, l: Late, before: bool, after: bool) -> Totals
+    ensures { λ r. ⌜ r ≡ lateTotals t l before after ⌝ }
 {
     let mut k = t;
+    k.silent = roster::tally(t.silent, before, after);
     if l.again {
         k.polls = bits::one_more(t.polls);
     }

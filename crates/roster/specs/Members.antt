@@ -1,8 +1,8 @@
 -- `Member` of ncs.rs: what the control station knows of a boat, and what each occasion changes of it.
-use Prim.Native.Nat.{ℕ, _+_}
+use Prim.Native.Nat.{ℕ, _+_, _-_}
 use mathlib.Core.Bool.{Bool, true, false, not, cond, _&&_, _||_}
 use mathlib.Core.List.{List, []}
-use lib.Dec.{eqb, ltb}
+use lib.Dec.{eqb, ltb, leb}
 use lib.Ieee.{Float}
 use Rattle.bits.specs.Stop.{stop}
 use Rattle.level.specs.declared.Level.{Level}
@@ -127,3 +127,13 @@ downOrUp m = orElse (m .snrdown) (m .snrup)
 -- `direct()`: an active member that is polled itself
 abbrev pub isDirect : Member → ℕ → Bool
 isDirect m limit = ltb (m .missed) limit && isAt (m .lastheard) && eqb (m .via) 63
+
+-- ---- silent boats
+
+-- at or above the miss limit
+abbrev pub silentAt : ℕ → Member → Bool
+silentAt limit m = leb limit (m .missed)
+
+-- how many boats are silent, when one of them changes; the count stops at 4,294,967,295, and 0 stays 0
+unfoldable pub tally : ℕ → Bool → Bool → ℕ
+tally n before after = cond before (cond after n (n - 1)) (cond after (stop (n + 1)) n)

@@ -1,7 +1,7 @@
 // The members of a net (Member of ncs.rs): what the control station knows of a boat, and the choices of relays.
 // A field's name has no underscore, since the definitions name the fields too.
 ghost use mathlib.Core.Path.{_≡_};
-ghost use Rattle.roster.specs.Members.{withLinks, withHeard, withDown, withDirect, heardBy, newMember, receivedAt, reachedAt, withCaps, withVersion, promotedAt, reroutedTo, missedOne, landedOne, toldNow, isNews, isWilling, downOrUp, isDirect};
+ghost use Rattle.roster.specs.Members.{withLinks, withHeard, withDown, withDirect, heardBy, newMember, receivedAt, reachedAt, withCaps, withVersion, promotedAt, reroutedTo, missedOne, landedOne, toldNow, isNews, isWilling, downOrUp, isDirect, tally};
 use level::Clock;
 use level::Level;
 use stream::window;
@@ -264,4 +264,23 @@ pub fn is_direct(m: Member, limit: u32) -> bool
 {
     let lastheard = m.lastheard;
     (m.missed < limit) & level::is_at(lastheard) & (m.via == 63)
+}
+
+// How many boats are silent, when one of them changes.
+pub fn tally(n: u32, before: bool, after: bool) -> u32
+    ensures { λ r. ⌜ r ≡ tally n before after ⌝ }
+{
+    if before {
+        if after {
+            return n;
+        }
+        if n == 0 {
+            return n;
+        }
+        return n - 1;
+    }
+    if after {
+        return bits::one_more(n);
+    }
+    n
 }

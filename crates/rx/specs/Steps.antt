@@ -10,6 +10,7 @@ use Rattle.wire.specs.Kinds.{tiny, kPollack, kAck, kIdle}
 use Rattle.words.specs.declared.Head.{Head}
 use Rattle.out.specs.Encode.{headWord, waveWord}
 use Rattle.roster.specs.declared.Member.{Member}
+use Rattle.roster.specs.Members.{silentAt, tally}
 use Rattle.roster.specs.Relays.{turnOver}
 use Rattle.net.specs.declared.Station.{Station}
 use Rattle.net.specs.declared.Settings.{Settings}
@@ -18,7 +19,7 @@ use Rattle.net.specs.declared.Reply.{Reply}
 use Rattle.net.specs.declared.Turn.{Turn}
 use Rattle.net.specs.declared.Turn.the-variants.{Idle, Sending, Waiting}
 use Rattle.net.specs.declared.Wait.{Wait}
-use Rattle.net.specs.State.{memberAt, withMember, withWait, withTotals, withReplies}
+use Rattle.net.specs.State.{memberAt, withMember, withWait, withTotals, withReplies, withSilent}
 use Rattle.net.specs.Net.{isMember, waitOf, idleWait, levelIn}
 use Rattle.frames.specs.declared.Air.{Air}
 use Rattle.rx.specs.declared.ending.Awaited.{Awaited}
@@ -72,8 +73,10 @@ abbrev pub endWait : Wait → Ending → Wait
 endWait w e =
     cond (e .more) (onceMore (e .reply)) (cond (eqb (e .kind) 2) (waitOf Sending Never) (cond (e .over) idleWait w))
 
-abbrev pub endTotals : Totals → Ending → Totals
-endTotals t e = cond (eqb (e .kind) 2 || e .over) (withReplies t (stop (t .replies + 1))) t
+-- the boat was silent before, and is after
+abbrev pub endTotals : Totals → Ending → Bool → Bool → Totals
+endTotals t e before after =
+    withSilent (cond (eqb (e .kind) 2 || e .over) (withReplies t (stop (t .replies + 1))) t) (tally (t .silent) before after)
 
 abbrev pub endLevel : Settings → Member → Bool → ℕ
 endLevel g m here = cond here (levelIn g (m .snrdown)) 0
@@ -94,7 +97,7 @@ endSecond s e =
     withMember s (e .reply .relayfor) (endSource (s .hears) (s .used) (memberAt s (e .reply .relayfor)) e (e .reply .relayfor))
 
 unfoldable pub endStation : Station → Ending → Head → Air → Station
-endStation s e h a = withTotals (withWait (endSecond (endFirst s e h a) e) (endWait (s .wait) e)) (endTotals (s .totals) e)
+endStation s e h a = withTotals (withWait (endSecond (endFirst s e h a) e) (endWait (s .wait) e)) (endTotals (s .totals) e (silentAt (s .settings .misslimit) (memberAt s (e .slot))) (silentAt (s .settings .misslimit) (endMember (memberAt s (e .slot)) e (isMember (s .used) (e .slot)) h a)))
 
 unfoldable pub endBurst : Station → Ending → Head → Air → ℕ → List ℕ
 endBurst s e h a heard =

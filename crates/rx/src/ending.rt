@@ -55,7 +55,7 @@ pub fn finish(mut s: Station, x: Rx, h: Head, a: Air, o: &mut [u32], at: &mut us
     let v = end_wait(w, e);
     s.wait = v;
     let t = s.totals;
-    let y = end_totals(t, e);
+    let y = end_totals(t, e, g.misslimit <= m.missed, g.misslimit <= k.missed);
     s.totals = y;
     s
 }
@@ -279,10 +279,11 @@ fn end_wait(w: Wait, e: Ending) -> Wait
     w
 }
 
-fn end_totals(t: Totals, e: Ending) -> Totals
-    ensures { λ r. ⌜ r ≡ endTotals t e ⌝ }
+fn end_totals(t: Totals, e: Ending, before: bool, after: bool) -> Totals
+    ensures { λ r. ⌜ r ≡ endTotals t e before after ⌝ }
 {
     let mut k = t;
+    k.silent = roster::tally(t.silent, before, after);
     if (e.kind == 2) | e.over {
         k.replies = bits::one_more(t.replies);
     }
