@@ -20,21 +20,22 @@ use Rattle.out.specs.Encode.{eventWord}
 use Rattle.roster.specs.declared.Member.{Member}
 use Rattle.roster.specs.Members.{noMember, reroutedTo}
 use Rattle.roster.specs.Relays.{couldRelay, promotableAt}
+use Rattle.roster.proofs.Silent.{tally-same}
 use Rattle.net.specs.declared.Station.{Station}
-use Rattle.net.specs.State.{withMembers, withRound, withTreenews}
+use Rattle.net.specs.State.{withRound, withTreenews}
 use Rattle.net.specs.Net.{Said, said}
 use Rattle.bursts.specs.Rows.{seated, maskWhere}
-use Rattle.bursts.specs.Reroute.{ableOf, promotedBy, promoteWith, promoteAt, newRelay, moveTo, mustMove, moveAt, moveAll, leavesOf}
+use Rattle.bursts.specs.Reroute.{withSeated, ableOf, promotedBy, promoteWith, promoteAt, newRelay, moveTo, mustMove, moveAt, moveAll, leavesOf}
 use Rattle.bursts.proofs.Masks.{mask-without}
 use Rattle.bursts.proofs.Saying.{ahead, fold-ahead}
 
--- the station with another member in slot i and other news
+-- the station with another member in slot i, the total of silent boats with it, and other news
 abbrev pub changed : Station → ℕ → Member → ℕ → Station
-changed s i m news = withRound (withMembers s (set (s .members) i m)) (withTreenews (s .round) news)
+changed s i m news = withRound (withSeated s i m) (withTreenews (s .round) news)
 
 -- where nothing changes
 changed-none : (s : Station) (i : ℕ) (ws : List ℕ) → said s ws ≡ said (changed s i (seated s i) (s .round .treenews)) (ws ++ [])
-changed-none s i ws = rw (set-getD, append-nil)
+changed-none s i ws = rw (tally-same, set-getD, append-nil)
 
 promote-by : (x : Level) (i : ℕ) (s : Station) (ws : List ℕ)
     → promoteWith x i (said s ws) ≡ said (changed s i (promotedBy x (seated s i)) (cond (isHeard x) (withBit (s .round .treenews) i) (s .round .treenews))) (ws ++ cond (isHeard x) (eventWord 5 i 63 ∷ []) [])

@@ -83,11 +83,8 @@ fn promote(mut s: Station, o: &mut [u32], at: &mut usize) -> Station
         let moved = level::is_heard(x);
         let k = promote_member(m, x);
         s.members[i] = k;
-        let silent = roster::tally(
-            s.totals.silent,
-            g.misslimit <= m.missed,
-            g.misslimit <= k.missed,
-        );
+        let limit = s.settings.misslimit;
+        let silent = roster::tally(s.totals.silent, limit <= m.missed, limit <= k.missed);
         s.totals.silent = silent;
         let news = with_if(s.round.treenews, moved, i);
         s.round.treenews = news;

@@ -68,6 +68,9 @@ mul-k c = omega arith
 element-set-from-k : tie.Need-element-set-from-k Inv-loop μ-loop
 element-set-from-k c = omega arith
 
+tally-requires : tie.Need-tally-requires Inv-loop μ-loop
+tally-requires c κs = tt
+
 without-if-requires : tie.Need-without-if-requires Inv-loop μ-loop
 without-if-requires c κs = tt
 
@@ -78,21 +81,25 @@ routed-requires : tie.Need-routed-requires Inv-loop μ-loop
 routed-requires c κs = tt
 
 add-c : tie.Need-add-c Inv-loop μ-loop
-add-c c = omega arith
+add-c c = omega (arith, c .before .before .before .before .before .before .before .before .before .before .before .before .before .before .before .before .before .before .before .before .loop-test .taken)
 
 loop-less : tie.Need-loop-less Inv-loop μ-loop
-loop-less c = omega arith
+loop-less c = omega (arith, c .before .before .before .before .before .before .before .before .before .before .before .before .before .before .before .before .before .before .before .before .loop-test .taken)
 
 loop-again : tie.Need-loop-again Inv-loop μ-loop
 loop-again c =
-    let l = c .before .before .before .before .before .before .before .before .before .before .before .before .before .before .before .before .before .loop in
-    let h = c .before .before .before .before .before .before .before .before .before .before .before .before .before .before .before .before .loop-test .taken in
-    let r = c .before .before .before .before .before .before .before .before .new-relay in
-    let e = rw (c .before .before .before .before .before .before .before .before .before .before .before .before .has .ensures, c .before .before .before .before .before .before .before .before .before .before .before .is-down .ensures, c .before .before .before .before .before .before .before .before .before .before .before .before .before .before .index .ensures, l .inv .1) at (r .ensures) in (
-      omega arith,
-      rw (c .before .before .before .before .before .before .without-if .ensures, l .inv .1, c .before .before .before .before .before .before .before .moved-to .ensures) (able-moved (r .result) (l .c) (l .s)),
-      going-turn _ _ _ _ h (c .before .before .routed .ensures) (l .inv .2)
-          (λ ws. rw (c .before .before .before .before .before .before .before .moved-to .ensures, c .before .before .before .before .before .with-if .ensures) (move-turn (c .before .before .before .before .before .before .before .before .before .before .before .before .before .before .before .before .before .before .before .before .args .leaves) (l .c) (l .s) (r .result) e ws)),
+    let w = c .before .before .before .before .before in
+    let t = w .before .before .before in
+    let k = t .before .before .before in
+    let r = k .before .new-relay in
+    let d = k .before .before .before .before in
+    let i = d .before .before .before in
+    let l = i .before .before .before .loop in
+    let e = rw (d .before .has .ensures, d .is-down .ensures, i .index .ensures, l .inv .1) at (r .ensures) in (
+      omega (arith, i .before .before .loop-test .taken),
+      rw (w .before .without-if .ensures, l .inv .1, k .moved-to .ensures) (able-moved (r .result) (l .c) (l .s)),
+      going-turn _ _ _ _ (i .before .before .loop-test .taken) (c .before .before .routed .ensures) (l .inv .2)
+          (λ ws. rw (t .tally .ensures, k .moved-to .ensures, w .with-if .ensures) (move-turn (i .before .before .before .before .before .before .args .leaves) (l .c) (l .s) (r .result) e ws)),
     )
 
 same-length : tie.Need-same-length Inv-loop μ-loop
@@ -120,6 +127,7 @@ move-leaves-spec =
     moved-to-requires
     mul-k
     element-set-from-k
+    tally-requires
     without-if-requires
     with-if-requires
     routed-requires

@@ -46,6 +46,9 @@ mul-k c = omega arith
 element-set-from-k : tie.Need-element-set-from-k Inv-loop μ-loop
 element-set-from-k c = omega arith
 
+tally-requires : tie.Need-tally-requires Inv-loop μ-loop
+tally-requires c κs = tt
+
 with-if-requires : tie.Need-with-if-requires Inv-loop μ-loop
 with-if-requires c κs = tt
 
@@ -60,12 +63,15 @@ loop-less c = omega arith
 
 loop-again : tie.Need-loop-again Inv-loop μ-loop
 loop-again c =
-    let l = c .before .before .before .before .before .before .before .before .before .before .before .before .loop in
-    let x = c .before .before .before .before .before .before .before .before .promotable in
-    let e = rw (c .before .before .before .before .before .before .before .before .before .has .ensures) at (x .ensures) in (
-      omega arith,
-      going-turn _ _ _ _ (c .before .before .before .before .before .before .before .before .before .before .before .loop-test .taken) (c .before .before .routed .ensures) (l .inv .1)
-          (λ ws. rw (c .before .before .before .before .before .with-if .ensures, c .before .before .before .before .before .before .promote-member .ensures, c .before .before .before .before .before .before .before .is-heard .ensures) (promote-turn _ (l .i) (l .s) (x .result) e ws)),
+    let w = c .before .before .before .before .before in
+    let t = w .before .before in
+    let k = t .before .before .before in
+    let x = k .before .before in
+    let l = x .before .before .before .before .loop in
+    let e = rw (x .before .has .ensures) at (x .promotable .ensures) in (
+      omega (arith, l .inv .0),
+      going-turn _ _ _ _ (x .before .before .before .loop-test .taken) (c .before .before .routed .ensures) (l .inv .1)
+          (λ ws. rw (w .with-if .ensures, t .tally .ensures, k .promote-member .ensures, k .before .is-heard .ensures) (promote-turn _ (l .i) (l .s) (x .promotable .result) e ws)),
     )
 
 same-length : tie.Need-same-length Inv-loop μ-loop
@@ -90,6 +96,7 @@ promote-spec =
     promote-member-requires
     mul-k
     element-set-from-k
+    tally-requires
     with-if-requires
     routed-requires
     add-i
