@@ -11,7 +11,7 @@ use Rattle.bits.proofs.Lists.{cond-true, cond-false}
 use Rattle.out.specs.Encode.{Wrote}
 use Rattle.out.proofs.Laws.{then, wrote-none}
 use Rattle.roster.specs.declared.Member.{Member}
-use Rattle.roster.specs.Members.{noMember}
+use Rattle.roster.specs.Members.{noMember, silentAt}
 use Rattle.net.specs.declared.Station.{Station}
 use Rattle.net.specs.declared.Round.{Round}
 use Rattle.net.specs.declared.Totals.{Totals}
@@ -109,7 +109,7 @@ pub record Parts (s : Station) (ok : Bool) (now : Float) (d : Due) (l : Late) (a
   pub second : b ≡ indexOf (l .relayfor)
   pub source : c ≡ lateSource (s .hears) (s .used) (getD (set (s .members) a k) b noMember) l
   pub wait : v ≡ lateWait (s .wait) l
-  pub totals : u ≡ lateTotals (s .totals) l
+  pub totals : u ≡ lateTotals (s .totals) l (silentAt (s .settings .misslimit) (getD (s .members) a noMember)) (silentAt (s .settings .misslimit) k)
   pub round : r ≡ lateRound (s .round) l (s .settings) now
   pub act : x ≡ actIn (l .quiet) r (s .used) now
 

@@ -13,11 +13,11 @@ use Rattle.roster.specs.declared.Member.{Member}
 use Rattle.roster.specs.Relays.{promotableAt}
 use Rattle.net.specs.declared.Station.{Station}
 use Rattle.net.specs.declared.Wait.{Wait}
-use Rattle.net.specs.State.{withMembers, withRound, withRxdirty, alsoNews, oneList}
+use Rattle.net.specs.State.{withRound, withRxdirty, alsoNews, oneList}
 use Rattle.net.specs.Net.{Said, said, isIdle}
 use Rattle.bursts.specs.Rows.{seated}
 use Rattle.bursts.specs.Bursts.{sends, acksBurst, listSent, tellAt, tellAll, listTold, listWords, rxListBurst}
-use Rattle.bursts.specs.Reroute.{floorOf, promoteWith, promoteAt, promoteAll, leavesOf, newRelay, mustMove, moveAt, moveAll, rerouteOf}
+use Rattle.bursts.specs.Reroute.{withSeated, floorOf, promoteWith, promoteAt, promoteAll, leavesOf, newRelay, mustMove, moveAt, moveAll, rerouteOf}
 
 -- after a burst its end is waited for
 pub acks-busy : (s : Station) → isIdle (acksBurst s .station .wait .turn) ≡ false
@@ -39,11 +39,11 @@ module _ (w : Wait) where
   promote-step floor i x h =
       promote-with (promotableAt (hasBit (x .station .used) i) (seated (x .station) i) floor) i x h
 
-  move-by : (a b : Bool) (c : ℕ) (x : Said) (ms : List Member) (ws : List ℕ) → Waits x
-      → Waits (cond a (cond b x (said (alsoNews (withMembers (x .station) ms) c) ws)) x)
-  move-by true true c x ms ws h = h
-  move-by true false c x ms ws h = h
-  move-by false b c x ms ws h = h
+  move-by : (a b : Bool) (c : ℕ) (x : Said) (k : Member) (ws : List ℕ) → Waits x
+      → Waits (cond a (cond b x (said (alsoNews (withSeated (x .station) c k) c) ws)) x)
+  move-by true true c x k ws h = h
+  move-by true false c x k ws h = h
+  move-by false b c x k ws h = h
 
   move-step : (leaves c : ℕ) (x : Said) → Waits x → Waits (moveAt leaves c x)
   unfolding moveAt

@@ -18,6 +18,7 @@ use Rattle.level.specs.declared.Clock.the-variants.{Never, At}
 use Rattle.wire.specs.Kinds.{kClose}
 use Rattle.roster.specs.declared.Member.{Member}
 use Rattle.roster.specs.Members.{missedOne}
+use Rattle.roster.proofs.Silent.{tally-same}
 use Rattle.roster.specs.Relays.{turnOver}
 use Rattle.net.specs.declared.Station.{Station}
 use Rattle.net.specs.declared.Round.{Round}
@@ -25,7 +26,7 @@ use Rattle.net.specs.declared.Reply.{Reply}
 use Rattle.net.specs.declared.Wait.{Wait}
 use Rattle.net.specs.declared.Turn.{Turn}
 use Rattle.net.specs.declared.Turn.the-variants.{Idle, Sending, Waiting}
-use Rattle.net.specs.State.{memberAt, withMember, withWait, withRound, withTotals, withTxat, withClosing, withRxsent}
+use Rattle.net.specs.State.{memberAt, withMember, withCounted, tallied, withWait, withRound, withTotals, withTxat, withClosing, withRxsent, onePoll}
 use Rattle.net.specs.Net.{plus, isMember, idleWait, isIdle, Said, said}
 use Rattle.net.proofs.Laws.{member-again}
 use Rattle.bursts.specs.Bursts.{tinyWords, acksBurst, beaconOf, rxListBurst, listSent}
@@ -211,17 +212,27 @@ rest-window s now e = window-by s now e (lt now (s .round .windowend)) refl
 stored-again : (s : Station) (a b : ℕ) → withMember (withMember s a (memberAt s a)) b (memberAt (withMember s a (memberAt s a)) b) ≡ s
 stored-again s a b = member-again (withMember s a (memberAt s a)) b ∙ member-again s a
 
+-- and the total of silent boats with them
+stored-still : (s : Station) (a b : ℕ)
+    → withTotals (withMember (withMember s a (memberAt s a)) b (memberAt (withMember s a (memberAt s a)) b)) (tallied s (memberAt s a) (memberAt s a)) ≡ s
+stored-still s a b = rw tally-same (stored-again s a b)
+
 stored-if : (b : Bool) (s : Station) (slot : ℕ) (m : Member) → withMember s slot (cond b m (memberAt s slot)) ≡ cond b (withMember s slot m) s
 stored-if true s slot m = refl
 stored-if false s slot m = member-again s slot
 
+counted-if : (b : Bool) (s : Station) (slot : ℕ) (m : Member) → withCounted s slot (cond b m (memberAt s slot)) ≡ cond b (withCounted s slot m) s
+counted-if true s slot m = refl
+counted-if false s slot m = rw tally-same (member-again s slot)
+
 late-quiet : (s : Station) (now : Float) → lateThen s (noLate true false) now ≡ said s []
 late-quiet s now =
-    rest-quiet (lateStation s (noLate true false) now) now ∙ ap (λ (t : Station). said t []) (stored-again s 255 63)
+    rest-quiet (lateStation s (noLate true false) now) now ∙ ap (λ (t : Station). said t []) (stored-still s 255 63)
 
 late-free : (s : Station) (now : Float) → isIdle (s .wait .turn) ≡ true → lateThen s (noLate false false) now ≡ saidOf (windowStage s now)
 late-free s now e =
-    rest-window (lateMembers s (noLate false false)) now e ∙ ap (λ (t : Station). saidOf (windowStage t now)) (stored-again s 255 63)
+    rest-window (withTotals (lateMembers s (noLate false false)) (tallied s (memberAt s 255) (memberAt s 255))) now e
+    ∙ ap (λ (t : Station). saidOf (windowStage t now)) (stored-still s 255 63)
 
 left-or : (n : ℕ) → ltb 0 n ≡ not (eqb n 0)
 left-or zero = refl
@@ -241,7 +252,7 @@ late-close : (s : Station) (now : Float) → lateThen s (noLate true true) now �
 unfolding closeStage
 late-close s now =
     ap (saidAfter (lateSays s (noLate true true))) (rest-quiet (lateStation s (noLate true true) now) now)
-    ∙ ap (λ (t : Station). saidAfter (lateSays s (noLate true true)) (said (withRound t (lateStation s (noLate true true) now .round)) [])) (stored-again s 255 63)
+    ∙ ap (λ (t : Station). saidAfter (lateSays s (noLate true true)) (said (withRound t (lateStation s (noLate true true) now .round)) [])) (stored-still s 255 63)
     ∙ ap (closeWith s now) (left-or (s .round .closeleft)) ∙ close-by s now (eqb (s .round .closeleft) 0)
 
 late-again : (r : Reply) (s : Station) (now : Float) → lateThen s (lateReply r true) now ≡ saidOf (againStage r s)
@@ -250,19 +261,19 @@ late-again r s now =
     let l = lateReply r true in
     let t = lateStation s l now in
     ap (saidAfter (lateSays s l)) (rest-quiet t now) ∙ said-nil (said t (lateSays s l))
-    ∙ ap (λ (u : Station). said (withTotals (withWait u (t .wait)) (t .totals)) (lateSays s l)) (stored-again s (r .slot) (r .relayfor))
+    ∙ ap (λ (u : Station). said (onePoll (withWait u (t .wait))) (lateSays s l)) (stored-still s (r .slot) (r .relayfor))
 
 late-missed : (r : Reply) (s : Station) (now : Float) → lateThen s (lateReply r false) now ≡ saidOf (missedStage r s now)
 unfolding missedStage
 late-missed r s now =
     let t = withWait s idleWait in
     let here = isMember (s .used) (r .slot) in
-    let u = withMember t (r .slot) (cond here (missedOne (memberAt t (r .slot))) (memberAt t (r .slot))) in
+    let u = withCounted t (r .slot) (cond here (missedOne (memberAt t (r .slot))) (memberAt t (r .slot))) in
     ap (saidAfter (missedEvent s (r .slot)))
-    (rest-window (withWait (lateMembers s (lateReply r false)) idleWait) now refl
+    (rest-window (withTotals (withWait (lateMembers s (lateReply r false)) idleWait) (u .totals)) now refl
     ∙ ap (λ (v : Station). saidOf (windowStage v now))
     (stored-if (isMember (s .used) (r .relayfor)) u (r .relayfor) (turnOver (s .hears) (s .used) (memberAt u (r .relayfor)) (r .relayfor) (r .slot))
-    ∙ ap (λ (v : Station). turnOverIn v (r .slot) (r .relayfor)) (stored-if here t (r .slot) (missedOne (memberAt t (r .slot))))))
+    ∙ ap (λ (v : Station). turnOverIn v (r .slot) (r .relayfor)) (counted-if here t (r .slot) (missedOne (memberAt t (r .slot))))))
 
 late-then : (d : Due) (s : Station) (now : Float) → (d ≡ Free → isIdle (s .wait .turn) ≡ true) → lateThen s (lateBy d) now ≡ saidOf (byDue d s now)
 late-then Free s now e = late-free s now (e refl)

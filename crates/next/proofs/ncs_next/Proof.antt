@@ -83,7 +83,7 @@ returns : tie.Need-returns
 returns c =
     let j = c .before .before .before .before .before in
     let r = j .before .before .before in
-    let v = r .before .before .before in
+    let v = r .before .before .before .before .before .before .before in
     let b = v .before .before .before .before .before in
     let p = b .before .before .before .before in
     let i = p .before .before .before .before .before in
