@@ -12,11 +12,12 @@ use Rattle.words.specs.Words.{payload, unpack}
 use Rattle.out.specs.Encode.{Wrote}
 use Rattle.out.proofs.Laws.{then, wrote-none, wrote-as}
 use Rattle.net.specs.declared.Station.{Station}
-use Rattle.net.specs.State.{indexOf, memberAt, withMember, withMembers, withHears}
+use Rattle.net.specs.State.{indexOf, memberAt, withCounted, withMembers, withHears, withTotals, withSilent}
 use Rattle.net.specs.Net.{Said, said, Did, isMember}
 use Rattle.net.proofs.Laws.{member-again}
 use Rattle.roster.specs.declared.Member.{Member}
-use Rattle.roster.specs.Members.{noMember, withCaps, withVersion, receivedAt}
+use Rattle.roster.specs.Members.{noMember, withCaps, withVersion, receivedAt, silentAt, tally}
+use Rattle.roster.proofs.Silent.{tally-same}
 use Rattle.level.specs.declared.Level.{Level}
 use Rattle.wire.specs.Fields.{snrFromQ}
 use Rattle.admit.specs.Admission.{seatOf, slotOf, admitBy}
@@ -169,25 +170,27 @@ module _ (a : Air) (p : List ℕ) (slot e c b : ℕ) (ec : c ≡ getD p e 0) (eb
   kid-by : (t : Bool) (s : Station) (ws : List ℕ) (k : Member) {l m m′ : List ℕ} {i j j′ : ℕ}
       → k ≡ cond t (kidMember a b (memberAt s c)) (memberAt s c)
       → Wrote l i ws m j → Wrote m j (cond t (kidEvents c b) []) m′ j′
-      → Did (cond t (said (withMember s c (kidMember a b (memberAt s c))) (ws ++ kidEvents c b)) (said s ws)) (withMember s c k) l i m′ j′
-  kid-by true s ws k q x y = record { station = ap (withMember s c) q; wrote = then x y }
+      → Did (cond t (said (withCounted s c (kidMember a b (memberAt s c))) (ws ++ kidEvents c b)) (said s ws)) (withCounted s c k) l i m′ j′
+  kid-by true s ws k q x y = record { station = ap (withCounted s c) q; wrote = then x y }
   kid-by false s ws k q x y =
-      record { station = ap (withMember s c) q ∙ member-again s c; wrote = wrote-as (then x y) (append-nil ws) }
+      record { station = ap (withCounted s c) q ∙ rw tally-same (member-again s c); wrote = wrote-as (then x y) (append-nil ws) }
 
   pub kid-turn : (d : Said) (s : Station) (k : Member) (ok : Bool) {l m m′ : List ℕ} {i j j′ : ℕ} → Did d s l i m j
       → ok ≡ isKid s c slot → k ≡ cond ok (kidMember a b (memberAt s c)) (memberAt s c)
-      → Wrote m j (cond ok (kidEvents c b) []) m′ j′ → Did (kidEntry a p slot e d) (withMember s c k) l i m′ j′
+      → Wrote m j (cond ok (kidEvents c b) []) m′ j′ → Did (kidEntry a p slot e d) (withCounted s c k) l i m′ j′
   unfolding kidEntry
   kid-turn d s k ok {l} {m′} {i} {j′} x o q y =
       rw (← ec, ← eb, ← x .station, ← o) (kid-by ok s (d .words) k q (x .wrote) y)
 
   -- as the code stores it
-  pub kid-stored : (d : Said) (s : Station) (ix : ℕ) (here ok : Bool) (k : Member) {l m m′ : List ℕ} {i j j′ : ℕ} → Did d s l i m j
+  pub kid-stored : (d : Said) (s : Station) (ix : ℕ) (here ok : Bool) (k : Member) (n : ℕ) {l m m′ : List ℕ} {i j j′ : ℕ} → Did d s l i m j
       → ix ≡ indexOf c → here ≡ isMember (s .used) c → ok ≡ kidOf here (getD (s .members) ix noMember) slot
       → k ≡ cond ok (kidMember a b (getD (s .members) ix noMember)) (getD (s .members) ix noMember)
-      → Wrote m j (cond ok (kidEvents c b) []) m′ j′ → Did (kidEntry a p slot e d) (withMembers s (set (s .members) ix k)) l i m′ j′
-  kid-stored d s ix here ok k x ei eh eo ek y =
-      rw ei (kid-turn d s k ok x (eo ∙ rw (eh, ei)) (ek ∙ rw ei) y)
+      → n ≡ tally (s .totals .silent) (silentAt (s .settings .misslimit) (getD (s .members) ix noMember)) (silentAt (s .settings .misslimit) k)
+      → Wrote m j (cond ok (kidEvents c b) []) m′ j′
+      → Did (kidEntry a p slot e d) (withTotals (withMembers s (set (s .members) ix k)) (withSilent (s .totals) n)) l i m′ j′
+  kid-stored d s ix here ok k n x ei eh eo ek en y =
+      rw (en, ei) (kid-turn d s k ok x (eo ∙ rw (eh, ei)) (ek ∙ rw ei) y)
 
 -- ### A payload's bytes
 

@@ -77,35 +77,33 @@ element-set-from-k c =
     omega
     (arith, rw (← c .before .before .before .before .index .ensures) at (index-lt (c .before .before .before .before .before .before .byte-in .result)))
 
+tally-requires : tie.Need-tally-requires Inv-loop μ-loop
+tally-requires c κs = search needs
+
 kid-event-requires : tie.Need-kid-event-requires Inv-loop μ-loop
 kid-event-requires c κs = search needs
 
 add-e : tie.Need-add-e Inv-loop μ-loop
-add-e c = search needs
+add-e c = omega (arith, c .before .before .before .before .before .before .before .before .before .before .before .before .before .before .before .loop-test .taken, c .before .before .before .before .before .before .before .before .before .before .before .before .before .before .before .before .before .before .before .before .fits .len)
 
 loop-less : tie.Need-loop-less Inv-loop μ-loop
-loop-less c =
-    omega (
-      arith,
-      c .before .before .before .before .before .before .before .before .before .before .before .loop-test .taken,
-      c .before .before .before .before .before .before .before .before .before .before .before .before .before .before .before .before .fits .len,
-    )
+loop-less c = omega (arith, c .before .before .before .before .before .before .before .before .before .before .before .before .before .before .before .loop-test .taken, c .before .before .before .before .before .before .before .before .before .before .before .before .before .before .before .before .before .before .before .before .fits .len)
 
 loop-again : tie.Need-loop-again Inv-loop μ-loop
 loop-again c =
-    let i = c .before .before .before .before in
+    let i = c .before .before .before .before .before .before .before .before in
     let h = i .before .before .before .before in
     let l = h .before .before .before .before in
     let b = l .before .before .before .before in
     let p = payloadIn (b .args .words .now) (b .args .at) (b .args .len) in
     let g = l .loop .inv .1 in (
-      omega (arith, b .fits .len),
+      omega (arith, h .before .before .before .loop-test .taken, b .fits .len),
       record {
         done = kidEntry (b .args .a) p (b .args .slot) (l .loop .e) (g .done);
-        rest = rest-on _ _ _ _ _ _ (g .rest) (c .before .before .before .before .before .before .before .before .before .before .before .loop-test .taken);
+        rest = rest-on _ _ _ _ _ _ (g .rest) (h .before .before .before .loop-test .taken);
         did = kid-stored (b .args .a) p (b .args .slot) (l .loop .e) _ _ (h .before .before .byte-in .ensures) (h .before .byte-in2 .ensures)
-            (g .done) (l .loop .s) _ _ _ _ (g .did) (h .index .ensures) (i .before .before .is-member .ensures) (i .before .is-kid .ensures)
-            (i .kid-member .ensures) (c .before .before .kid-event .ensures);
+            (g .done) (l .loop .s) _ _ _ _ _ (g .did) (h .index .ensures) (i .before .before .is-member .ensures) (i .before .is-kid .ensures)
+            (i .kid-member .ensures) (c .before .before .before .before .before .tally .ensures) (c .before .before .kid-event .ensures);
       },
     )
 
@@ -135,6 +133,7 @@ kids-spec =
     kid-member-requires
     mul-k
     element-set-from-k
+    tally-requires
     kid-event-requires
     add-e
     loop-less
