@@ -8,7 +8,7 @@ use lib.ListN.{getD}
 use lib.Ieee.{Float}
 use Rattle.bits.proofs.Lists.{cond-keeps}
 use Rattle.net.specs.declared.Station.{Station}
-use Rattle.net.specs.State.{withMember, memberAt, withHears}
+use Rattle.net.specs.State.{withMember, memberAt, withHears, withCounted}
 use Rattle.net.specs.Net.{Said, said, isMember}
 use Rattle.admit.specs.declared.Seat.{Seat}
 use Rattle.admit.specs.declared.Seat.the-variants.{Known, Free, Full}
@@ -61,7 +61,7 @@ overheard-count Full a p e slot via x = refl
 kid-count : (a : Air) (slot c b : ℕ) (x : Said) → kidBy a slot c b x .station .count ≡ x .station .count
 kid-count a slot c b x = at (isKid (x .station) c slot)
   where
-    at : (t : Bool) → cond t (said (withMember (x .station) c (kidMember a b (memberAt (x .station) c))) (x .words ++ kidEvents c b)) x .station .count ≡ x .station .count
+    at : (t : Bool) → cond t (said (withCounted (x .station) c (kidMember a b (memberAt (x .station) c))) (x .words ++ kidEvents c b)) x .station .count ≡ x .station .count
     at true = refl
     at false = refl
 

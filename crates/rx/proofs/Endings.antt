@@ -13,7 +13,8 @@ use Rattle.bits.proofs.Lists.{and-true}
 use Rattle.wire.specs.Kinds.{tiny, kIdle}
 use Rattle.words.specs.declared.Head.{Head}
 use Rattle.roster.specs.declared.Member.{Member}
-use Rattle.roster.specs.Members.{noMember}
+use Rattle.roster.specs.Members.{noMember, silentAt}
+use Rattle.roster.proofs.Silent.{tally-same}
 use Rattle.net.specs.declared.Station.{Station}
 use Rattle.net.specs.declared.Reply.{Reply}
 use Rattle.net.specs.declared.Turn.{Turn}
@@ -50,7 +51,8 @@ module _ (w : Awaited) (sender : ℕ) (more : Bool) (h : Head) (n : h .code ≡ 
 none-station : (s : Station) (h : Head) (a : Air) → endStation s noEnding h a ≡ s
 unfolding endStation
 none-station s h a =
-    ap (withMembers s) (set-getD (set (s .members) 0 (getD (s .members) 0 noMember)) 0 noMember ∙ set-getD (s .members) 0 noMember)
+    rw tally-same
+    (ap (withMembers s) (set-getD (set (s .members) 0 (getD (s .members) 0 noMember)) 0 noMember ∙ set-getD (s .members) 0 noMember))
 
 -- K_IDLE
 module _ (s : Station) (h : Head) (a : Air) where
@@ -58,7 +60,7 @@ module _ (s : Station) (h : Head) (a : Air) where
       → endStation s (idleEnding (awaits false noReply) h) h a ≡ idleHeard a (h .extra) s
   unfolding endStation
   idle-none true e = rw (e, set-getD)
-  idle-none false e = rw (e, set-getD, set-getD)
+  idle-none false e = rw (e, tally-same, set-getD, set-getD)
 
   idle-waits : (r : Reply) (t o u : Bool) → isMember (s .used) (h .extra % 64) ≡ t → eqb (r .slot) (h .extra % 64) ≡ o
       → isMember (s .used) (r .relayfor) ≡ u
@@ -66,10 +68,10 @@ module _ (s : Station) (h : Head) (a : Air) where
   unfolding endStation
   idle-waits r true true true p q v = rw (p, q, v)
   idle-waits r true true false p q v = rw (p, q, v, set-getD)
-  idle-waits r false true true p q v = rw (p, q, v, set-getD)
-  idle-waits r false true false p q v = rw (p, q, v, set-getD, set-getD)
+  idle-waits r false true true p q v = rw (p, q, v, tally-same, set-getD)
+  idle-waits r false true false p q v = rw (p, q, v, tally-same, set-getD, set-getD)
   idle-waits r true false u p q v = rw (p, q, set-getD)
-  idle-waits r false false u p q v = rw (p, q, set-getD, set-getD)
+  idle-waits r false false u p q v = rw (p, q, tally-same, set-getD, set-getD)
 
   idle-turn : (v : Turn) → endStation s (idleEnding (awaitedOf v) h) h a ≡ idleBy v (h .extra % 64) (idleHeard a (h .extra) s) .station
   idle-turn Idle = idle-none _ refl
@@ -94,7 +96,7 @@ module _ (a : Air) (h : Head) (x : Reading) (r : Reply) where
       ≡ answerBy true r (h .hi % 4) (x .heard) (replyHeard a (r .slot) (h .hi % 4) (oneReply (x .station))) .station
   unfolding endStation
   again-station true p n = rw (p, n, set-getD)
-  again-station false p n = rw (p, n, set-getD, set-getD)
+  again-station false p n = rw (p, n, tally-same, set-getD, set-getD)
 
   last-station : (t u : Bool) → isMember (x .station .used) (r .slot) ≡ t → isMember (x .station .used) (r .relayfor) ≡ u
       → endStation (x .station) (replyEnding r false) h a
@@ -102,8 +104,8 @@ module _ (a : Air) (h : Head) (x : Reading) (r : Reply) where
   unfolding endStation
   last-station true true p v = rw (p, v)
   last-station true false p v = rw (p, v, set-getD)
-  last-station false true p v = rw (p, v, set-getD)
-  last-station false false p v = rw (p, v, set-getD, set-getD)
+  last-station false true p v = rw (p, v, tally-same, set-getD)
+  last-station false false p v = rw (p, v, tally-same, set-getD, set-getD)
 
   reply-station : (g : Bool) → goesOn h (x .more) r ≡ g
       → endStation (x .station) (replyEnding r g) h a
@@ -197,7 +199,8 @@ pub finished : (a : Air) (h : Head) (s : Station) (x : Rx) (e : Ending) (here : 
     → k ≡ endMember (getD (s .members) i noMember) e here h a → level ≡ endLevel (s .settings) k here
     → Wrote l (x .at) (endWords e h (x .heard) level) m end
     → j ≡ indexOf (e .reply .relayfor) → d ≡ endSource (s .hears) (s .used) (getD (set (s .members) i k) j noMember) e (e .reply .relayfor)
-    → v ≡ endWait (s .wait) e → y ≡ endTotals (s .totals) e
+    → v ≡ endWait (s .wait) e
+    → y ≡ endTotals (s .totals) e (silentAt (s .settings .misslimit) (getD (s .members) i noMember)) (silentAt (s .settings .misslimit) k)
     → Did (endSaid a h s x) (withTotals (withWait (withMembers s (set (set (s .members) i k) j d)) v) y) l (x .at) m end
 unfolding endStation endBurst
 finished a h s x e here i k level j d v y l m end pe ph pi pk pl w pj pd pv py = record {

@@ -2,6 +2,7 @@
 use Rattle.rx.proofs.Endings.{finished}
 use native.Mathlib.Omega.{arith}
 use Rattle.net.proofs.Laws.{index-lt}
+use Rattle.out.proofs.Laws.{wrote-length}
 use borrow.Author.Needs.{needs}
 use Rattle.rx.proofs.ending.finish.Statement.{statement}
 use Rattle.rx.proofs.ending.finish.Tie as tie
@@ -60,23 +61,20 @@ end-wait-requires c κs = search needs
 end-totals-requires : tie.Need-end-totals-requires
 end-totals-requires c κs = search needs
 
-same-length : tie.Need-same-length
-same-length c = search needs
-
 returns : tie.Need-returns
 returns c =
-    let s = c .before .before .before .before .before .before .before .before .before .before .before .before .before .before .before .before .before .before .before .before .before .args in
-    finished (s .a) (s .h) (s .t1) (s .x) _ _ _ _ _ _ _ _ _ _ _ _
-    (c .before .before .before .before .before .before .before .before .before .before .before .before .before .before .before .before .before .ending-of .ensures)
-    (c .before .before .before .before .before .before .before .before .before .before .before .before .before .before .before .before .is-member .ensures)
-    (c .before .before .before .before .before .before .before .before .before .before .before .before .before .before .before .index .ensures)
-    (c .before .before .before .before .before .before .before .before .before .before .before .before .before .end-member .ensures)
-    (c .before .before .before .before .before .before .before .before .before .before .before .ack-level .ensures)
-    (c .before .before .before .before .before .before .before .before .before .before .put-end .ensures)
-    (c .before .before .before .before .before .before .before .index2 .ensures)
-    (c .before .before .before .end-source .ensures)
-    (c .before .before .end-wait .ensures)
+    let v = c .before .before .before .before .before .before in
+    let b = v .before .before .before .before .before in
+    let p = b .before .before .before in
+    let k = p .before .before .before in
+    let i = k .before .before in
+    let s = i .before .before .before .before .before .before .args in
+    finished (s .a) (s .h) (s .t1) (s .x) _ _ _ _ _ _ _ _ _ _ _ _ (i .before .before .ending-of .ensures) (i .before .is-member .ensures) (i .index .ensures)
+    (k .end-member .ensures) (p .before .ack-level .ensures) (p .put-end .ensures) (b .index2 .ensures) (v .before .end-source .ensures) (v .end-wait .ensures)
     (c .end-totals .ensures)
+
+same-length : tie.Need-same-length
+same-length c = wrote-length (returns c .wrote)
 
 pub finish-spec : {M : Type 1} → statement M
 finish-spec =
