@@ -31,3 +31,7 @@ pub mod Runs
 pub mod Alike
 pub mod MarksRun
 pub mod Needed
+pub mod SilentCount
+pub mod SilentNext
+pub mod SilentRx
+pub mod Silent

@@ -80,7 +80,7 @@ kept-holds s k i h =
 
 -- ---- no members
 
-no-member : (i : ℕ) → isMember 0 i ≡ false
+pub no-member : (i : ℕ) → isMember 0 i ≡ false
 unfolding isMember
 no-member i = rw (has-none i) (go (ltb i 62))
   where
@@ -97,7 +97,7 @@ kept-none m =
 
 -- ---- a member changed in its place
 
-change : (Q : Member → Member → Type 0) → ((m : Member) → Q m m) → (m : Member) (ms : List Member) (i j : ℕ) → Q m (getD ms i noMember)
+pub change : (Q : Member → Member → Type 0) → ((m : Member) → Q m m) → (m : Member) (ms : List Member) (i j : ℕ) → Q m (getD ms i noMember)
     → Q (getD (set ms i m) j noMember) (getD ms j noMember)
 change Q r m [] i j h = r noMember
 change Q r m (x ∷ ms) zero zero h = h
@@ -173,7 +173,7 @@ member-with used c i h =
 pub relay-with : (used c v : ℕ) → RelayOk used v → RelayOk (withBit used c) v
 relay-with used c v r = ⊎-elim (λ e. inl e) (λ h. inr (member-with used c v h)) r
 
-member-other : (used c i : ℕ) → (i ≡ c → ⊥) → isMember (withBit used c) i ≡ isMember used i
+pub member-other : (used c i : ℕ) → (i ≡ c → ⊥) → isMember (withBit used c) i ≡ isMember used i
 unfolding isMember
 member-other used c i n = rw (with-other used c i (λ e. n (sym e)))
 

@@ -1,3 +1,4 @@
 pub mod Promise
 pub mod Marks
 pub mod Balance
+pub mod Silent
