@@ -35,3 +35,4 @@ pub mod SilentCount
 pub mod SilentNext
 pub mod SilentRx
 pub mod Silent
+pub mod SilentRun

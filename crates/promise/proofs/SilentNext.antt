@@ -15,7 +15,7 @@ use Rattle.level.specs.declared.Level.{Level}
 use Rattle.level.specs.declared.Level.the-variants.{Unheard, Decibels}
 use Rattle.stream.specs.Window.{bitmapOf}
 use Rattle.roster.specs.declared.Member.{Member}
-use Rattle.roster.specs.Members.{noMember, isNews, promotedAt, reroutedTo, missedOne, silentAt, tally}
+use Rattle.roster.specs.Members.{isNews, promotedAt, reroutedTo, missedOne}
 use Rattle.roster.specs.Relays.{turnOver, promoteBy, promotableAt, isLeaf}
 use Rattle.net.specs.declared.Station.{Station}
 use Rattle.net.specs.declared.Reply.{Reply}
