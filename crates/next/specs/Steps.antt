@@ -109,7 +109,10 @@ lateMembers s l =
 
 abbrev pub lateStation : Station → Late → Float → Station
 lateStation s l now =
-    withRound (withTotals (withWait (lateMembers s l) (lateWait (s .wait) l)) (lateTotals (s .totals) l (silentAt (s .settings .misslimit) (memberAt s (l .slot))) (silentAt (s .settings .misslimit) (lateMember (memberAt s (l .slot)) l (isMember (s .used) (l .slot)))))) (lateRound (s .round) l (s .settings) now)
+    let m = memberAt s (l .slot) in
+    let k = lateMember m l (isMember (s .used) (l .slot)) in
+    let totals = lateTotals (s .totals) l (silentAt (s .settings .misslimit) m) (silentAt (s .settings .misslimit) k) in
+    withRound (withTotals (withWait (lateMembers s l) (lateWait (s .wait) l)) totals) (lateRound (s .round) l (s .settings) now)
 
 -- K_CLOSE, the poll once more, or event 3
 abbrev pub lateSays : Station → Late → List ℕ

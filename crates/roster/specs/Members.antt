@@ -134,6 +134,6 @@ isDirect m limit = ltb (m .missed) limit && isAt (m .lastheard) && eqb (m .via) 
 abbrev pub silentAt : ℕ → Member → Bool
 silentAt limit m = leb limit (m .missed)
 
--- how many boats are silent, when one of them changes; the count stops at 4,294,967,295, and 0 stays 0
+-- the number n of silent boats, when one boat changes: whether it was silent before, and is after; it stops at 4,294,967,295, and 0 stays 0
 unfoldable pub tally : ℕ → Bool → Bool → ℕ
 tally n before after = cond before (cond after n (n - 1)) (cond after (stop (n + 1)) n)

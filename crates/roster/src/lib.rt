@@ -266,7 +266,7 @@ pub fn is_direct(m: Member, limit: u32) -> bool
     (m.missed < limit) & level::is_at(lastheard) & (m.via == 63)
 }
 
-// How many boats are silent, when one of them changes.
+// How many boats are silent, when one boat changes.
 pub fn tally(n: u32, before: bool, after: bool) -> u32
     ensures { λ r. ⌜ r ≡ tally n before after ⌝ }
 {

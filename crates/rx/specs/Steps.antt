@@ -97,7 +97,11 @@ endSecond s e =
     withMember s (e .reply .relayfor) (endSource (s .hears) (s .used) (memberAt s (e .reply .relayfor)) e (e .reply .relayfor))
 
 unfoldable pub endStation : Station → Ending → Head → Air → Station
-endStation s e h a = withTotals (withWait (endSecond (endFirst s e h a) e) (endWait (s .wait) e)) (endTotals (s .totals) e (silentAt (s .settings .misslimit) (memberAt s (e .slot))) (silentAt (s .settings .misslimit) (endMember (memberAt s (e .slot)) e (isMember (s .used) (e .slot)) h a)))
+endStation s e h a =
+    let m = memberAt s (e .slot) in
+    let k = endMember m e (isMember (s .used) (e .slot)) h a in
+    let totals = endTotals (s .totals) e (silentAt (s .settings .misslimit) m) (silentAt (s .settings .misslimit) k) in
+    withTotals (withWait (endSecond (endFirst s e h a) e) (endWait (s .wait) e)) totals
 
 unfoldable pub endBurst : Station → Ending → Head → Air → ℕ → List ℕ
 endBurst s e h a heard =
