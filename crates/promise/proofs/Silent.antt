@@ -21,7 +21,8 @@ use Rattle.admit.specs.Admission.{seatOf, isFull, viaFor}
 use Rattle.config.specs.declared.Given.{Given}
 use Rattle.config.specs.Checks.{secondsOk, durationsOk, decibelsOk, numbersOk, settingsOk, settingsOf}
 use Rattle.station.specs.Entries.{Outcome, done, refused, unless, check1, startRefusal, startOf, admitRefusal, admitOf, receiveBy, receiveRefusal, receiveOf, nextRefusal, nextOf, sentOf, closeRefusal, closeOf, readRefusal, cellRefusal, freeOf}
-use Rattle.promise.specs.Promise.{lentTo, Net, Call, admission, reception, decision, sending, closing, reading, freeing, result, outcome, step, after, started}
+use Rattle.dues.specs.Dues.{duesRefusal}
+use Rattle.promise.specs.Promise.{lentTo, Net, Call, admission, reception, decision, sending, closing, reading, freeing, charging, result, outcome, step, after, started}
 use Rattle.promise.specs.Silent.{SilentCounted}
 use Rattle.promise.proofs.SilentCount.{Keeps, kept-none, kept-counts}
 use Rattle.promise.proofs.SilentNext.{next-kept}
@@ -78,6 +79,7 @@ call-kept (closing count) n k = closing-kept (n .station) count k
 call-kept (reading cell lent) n k =
     unless-kept (readRefusal (length (lentTo lent (n .store))) (n .station .count) (n .station .landed) cell) (n .station) (n .store) _ k (λ _. k)
 call-kept (freeing cell) n k = freeing-kept (n .station) cell k
+call-kept (charging figures) n k = unless-kept (duesRefusal figures) (n .station) (n .store) _ k (λ _. k)
 
 -- ---- the start, and every list of calls
 
