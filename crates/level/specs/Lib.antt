@@ -1,3 +1,4 @@
+pub mod Between
 pub mod Consts
 pub mod Levels
 pub mod Order
