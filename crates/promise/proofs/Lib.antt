@@ -36,3 +36,4 @@ pub mod SilentNext
 pub mod SilentRx
 pub mod Silent
 pub mod SilentRun
+pub mod LawsParts

@@ -145,7 +145,7 @@ windows-hold f s says i here =
 -- ---- the book after the calls
 
 module _ (M : Sent) (small : (s k : ℕ) → length (M s k) ≤ 2046) where
-  calls-tied : (cs : List Call) (n : Net) (b : Book) → Tied M n b → CallsOk M cs n b → Tied M (after cs n) (bookAfter M cs n b)
+  pub calls-tied : (cs : List Call) (n : Net) (b : Book) → Tied M n b → CallsOk M cs n b → Tied M (after cs n) (bookAfter M cs n b)
   unfolding CallsOk after bookAfter
   calls-tied [] n b t ok = t
   calls-tied (c ∷ cs) n b t ok =
