@@ -37,3 +37,6 @@ pub mod SilentRx
 pub mod Silent
 pub mod SilentRun
 pub mod LawsParts
+pub mod LawsLevels
+pub mod LawsBoats
+pub mod Laws

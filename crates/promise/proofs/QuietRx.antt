@@ -95,7 +95,7 @@ module _ (s₀ : Station) where
 
   -- ---- C_OVERHEARD
 
-  each-keeps : {A : Type 0} (P : A → Type 0) (f : ℕ → A → A) → ((e : ℕ) (x : A) → P x → P (f e x)) → (w len n e : ℕ) (x : A) → P x → P (eachEntry f w len n e x)
+  pub each-keeps : {A : Type 0} (P : A → Type 0) (f : ℕ → A → A) → ((e : ℕ) (x : A) → P x → P (f e x)) → (w len n e : ℕ) (x : A) → P x → P (eachEntry f w len n e x)
   unfolding eachEntry
   each-keeps P f h w len zero e x p = p
   each-keeps P f h w len (suc n) e x p =

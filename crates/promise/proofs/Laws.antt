@@ -1,0 +1,20 @@
+-- The theorem of the three laws. It stands on the definitions that the entry points' contracts name, and assumes nothing.
+use Rattle.promise.specs.Promise.{after, started, emptyBook}
+use Rattle.promise.specs.Marks.{bookAfter}
+use Rattle.promise.specs.Laws.{Laws}
+use Rattle.promise.proofs.Messages.{started-tied}
+use Rattle.promise.proofs.Sounds.{runs-fit}
+use Rattle.promise.proofs.Marks.{calls-tied}
+use Rattle.promise.proofs.LawsParts.{all-split}
+use Rattle.promise.proofs.LawsLevels as levels
+use Rattle.promise.proofs.LawsBoats as boats
+
+pub laws : Laws
+laws s g store e cs =
+    let n = started s g store in
+    record {
+      smooths = levels.smooths s g store e cs;
+      splits = λ M small ok.
+          all-split M small (after cs n) (bookAfter M cs n emptyBook) (calls-tied M small cs n emptyBook (started-tied M s g store e) ok);
+      commutes = boats.commutes (after cs n) (runs-fit s g store e cs);
+    }

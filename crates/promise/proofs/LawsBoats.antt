@@ -1,0 +1,397 @@
+-- Pieces of two boats, each with a cell and no message landing, in either order: each piece changes what is held of its own message by what was held of it, and leaves
+-- what is held of every other. Assumes nothing.
+use mathlib.Core.Path.{_≡_, refl, sym, ap, ap₂, _∙_, subst}
+use mathlib.Core.Bool.{Bool, true, false, cond}
+use mathlib.Core.List.{List}
+use mathlib.Core.Logic.{_⊎_, inl, inr, ⊎-elim}
+use Prim.Native.Nat.{ℕ, _+_, _*_, _/_, _%_, _^_, _≤_, _<_}
+use native.Mathlib.Omega.{arith}
+use lib.ListN.{length, getD}
+use lib.Seq.{getD-set-same}
+use Rattle.bits.specs.Mask.{hasBit, withBit}
+use Rattle.bits.proofs.Laws.{with-same}
+use Rattle.bits.proofs.Lists.{cond-true, cond-false, cases, eq-or-not, never-both}
+use Rattle.wire.specs.declared.number.Number.{Number}
+use Rattle.wire.specs.declared.number.Number.the-variants.{Is, Before}
+use Rattle.wire.specs.Numbers.{widened}
+use Rattle.inbox.specs.declared.cell.Cell.{Cell}
+use Rattle.inbox.specs.declared.keep.Kept.{Kept}
+use Rattle.inbox.specs.declared.keep.Kept.the-variants.{Yes}
+use Rattle.inbox.specs.Cells.{Held, held}
+use Rattle.inbox.specs.Keeping.{keptOf}
+use Rattle.inbox.specs.Messages.{Fits, emptyCell}
+use Rattle.inbox.specs.Stores.{cellOf}
+use Rattle.inbox.specs.Box.{Box, take-in, pieces-of, box-of}
+use Rattle.inbox.proofs.Apart.{in-same, in-other}
+use Rattle.inbox.proofs.Boxes.{box-accept}
+use Rattle.inbox.proofs.Parts.{cell-length}
+use Rattle.inbox.proofs.Rule.{yes-is}
+use Rattle.inbox.proofs.Steps.{empty-fits}
+use Rattle.stream.specs.declared.window.Window.{Window}
+use Rattle.stream.specs.declared.table.Room.{Room}
+use Rattle.stream.specs.declared.table.Room.the-variants.{Own, Free, Full}
+use Rattle.stream.specs.Window.{handedOf, freshOf}
+use Rattle.stream.specs.Table.{Table, Accepted, accept, noCell, isOwn, cellAt, cellCount, cellFor, placeOf, hasRoom, ownerOf, roomFor, tableRoom, changes, hasLanded, keptTable, putIn}
+use Rattle.stream.proofs.Rooms.{RoomIs, room-is, filling-own, owner-same, cells-are}
+use Rattle.stream.proofs.Tables.{Tidy, filling, kept-other, filling-other, place-in}
+use Rattle.stream.proofs.Windows.{Sound, sound-next}
+use Rattle.stream.proofs.Accepts.{leftAs, answerOf, cellIn, heldAfter, putAs, accept-cases, accept-tidy, after-length, open-window}
+use Rattle.net.specs.declared.Station.{Station}
+use Rattle.net.specs.State.{memberAt, tableOf}
+use Rattle.net.specs.Net.{isMember}
+use Rattle.promise.specs.Promise.{Net}
+use Rattle.promise.specs.Laws.{noneYet, boxIn, Up, takes, hasCell, Calm, both, Calmly, IsUp, Commutes}
+use Rattle.promise.proofs.Sounds.{Fit}
+
+-- ---- what is held of the message of an owner
+
+abbrev roomAt : Table → ℕ → Room
+roomAt t o = roomFor (t .owners) (t .busy) (t .landed) (t .count) o
+
+abbrev boxAt : Table → List ℕ → ℕ → Box
+boxAt t store o = boxIn (roomAt t o) t store
+
+-- the numbers that the kept rule is asked of
+abbrev asked : Table → ℕ → Cell
+asked t o = cellFor (roomAt t o) (cellAt t (placeOf (roomAt t o)))
+
+abbrev NotOwn : Room → Type 0
+NotOwn (Own c) = ⊥
+NotOwn (Free c) = Unit {0}
+NotOwn Full = Unit {0}
+
+record OwnBoth (t : Table) (store : List ℕ) (t′ : Table) (store′ : List ℕ) (o c : ℕ) : Type 0 where
+  pub was : roomAt t o ≡ Own c
+  pub is : roomAt t′ o ≡ Own c
+  pub cell : cellAt t′ c ≡ cellAt t c
+  pub bytes : cellOf store′ c ≡ cellOf store c
+
+-- the message of the owner o is held alike: in one cell, whose numbers and bytes are the same, or in none
+abbrev SameAt : Table → List ℕ → Table → List ℕ → ℕ → Type 0
+SameAt t store t′ store′ o =
+    ((c : ℕ) × OwnBoth t store t′ store′ o c) ⊎ (NotOwn (roomAt t o) × NotOwn (roomAt t′ o))
+
+none-box : (r : Room) (t : Table) (store : List ℕ) → NotOwn r → boxIn r t store ≡ noneYet
+none-box (Own c) t store z = absurd z
+none-box (Free c) t store z = refl
+none-box Full t store z = refl
+
+none-asked : (r : Room) (x : Cell) → NotOwn r → cellFor r x ≡ emptyCell
+none-asked (Own c) x z = absurd z
+none-asked (Free c) x z = refl
+none-asked Full x z = refl
+
+same-box : (t : Table) (store : List ℕ) (t′ : Table) (store′ : List ℕ) (o : ℕ) → SameAt t store t′ store′ o → boxAt t′ store′ o ≡ boxAt t store o
+same-box t store t′ store′ o (inl (c, w)) =
+    ap (λ (r : Room). boxIn r t′ store′) (w .is)
+    ∙ ap₂ (λ (x : Cell) (bs : List ℕ). box-of (held x bs)) (w .cell) (w .bytes)
+    ∙ sym (ap (λ (r : Room). boxIn r t store) (w .was))
+same-box t store t′ store′ o (inr w) = none-box (roomAt t′ o) t′ store′ (w .1) ∙ sym (none-box (roomAt t o) t store (w .0))
+
+same-asked : (t : Table) (store : List ℕ) (t′ : Table) (store′ : List ℕ) (o : ℕ) → SameAt t store t′ store′ o → asked t′ o ≡ asked t o
+same-asked t store t′ store′ o (inl (c, w)) =
+    ap (λ (r : Room). cellFor r (cellAt t′ (placeOf r))) (w .is)
+    ∙ w .cell
+    ∙ sym (ap (λ (r : Room). cellFor r (cellAt t (placeOf r))) (w .was))
+same-asked t store t′ store′ o (inr w) =
+    none-asked (roomAt t′ o) (cellAt t′ (placeOf (roomAt t′ o))) (w .1) ∙ sym (none-asked (roomAt t o) (cellAt t (placeOf (roomAt t o))) (w .0))
+
+-- ---- rooms of a tidy table
+
+module _ (t : Table) (store : List ℕ) (tidy : Tidy t store) (o : ℕ) where
+  abbrev Here : Room → Type 0
+  Here = RoomIs (t .owners) (t .busy) (t .landed) o (cellCount (t .count))
+
+  here : Here (roomAt t o)
+  here = room-is (t .owners) (t .busy) (t .landed) o (cellCount (t .count))
+
+  -- a cell that is filling with the message is found by the search
+  found : (c : ℕ) → filling t c o
+      → ((d : ℕ) → d < cellCount (t .count) → isOwn (t .busy) (t .landed) d (getD (t .owners) d 0) o ≡ false) → ⊥
+  found c f none =
+      let l = tidy .within c (f .taken) in
+      let e = cells-are (t .count) (tidy .most) in
+      never-both _ (filling-own (t .owners) (t .busy) (t .landed) o c f) (none c (omega arith))
+
+  own-room : (c : ℕ) → filling t c o → roomAt t o ≡ Own c
+  own-room c f = go (roomAt t o) here
+    where
+      go : (r : Room) → Here r → r ≡ Own c
+      go (Own d) w = ap Own (tidy .one d c o (w .filling) f)
+      go (Free d) w = absurd (found c f (w .none))
+      go Full w = absurd (found c f (w .none))
+
+  not-own : ((d : ℕ) → filling t d o → ⊥) → NotOwn (roomAt t o)
+  not-own none = go (roomAt t o) here
+    where
+      go : (r : Room) → Here r → NotOwn r
+      go (Own d) w = none d (w .filling)
+      go (Free d) w = tt
+      go Full w = tt
+
+  -- held in a cell, or filling none
+  by-room : ((c : ℕ) × filling t c o) ⊎ ((d : ℕ) → filling t d o → ⊥)
+  by-room = go (roomAt t o) here
+    where
+      go : (r : Room) → Here r → ((c : ℕ) × filling t c o) ⊎ ((d : ℕ) → filling t d o → ⊥)
+      go (Own d) w = inl (d, w .filling)
+      go (Free d) w = inr (λ c f. found c f (w .none))
+      go Full w = inr (λ c f. found c f (w .none))
+
+  -- where there is room: the cell is not landed, and is filling with no other message
+  open-here : hasRoom (roomAt t o) ≡ true → hasBit (t .landed) (placeOf (roomAt t o)) ≡ false
+  open-here = go (roomAt t o) here
+    where
+      go : (r : Room) → Here r → hasRoom r ≡ true → hasBit (t .landed) (placeOf r) ≡ false
+      go (Own d) w h = w .filling .open-yet
+      go (Free d) w h =
+          ⊎-elim (λ e. absurd (never-both (hasBit (t .busy) d) (tidy .taken d e) (w .unused))) (λ e. e) (cases (hasBit (t .landed) d))
+      go Full w h = absurd (never-both false h refl)
+
+  only-here : hasRoom (roomAt t o) ≡ true → (a : ℕ) → filling t (placeOf (roomAt t o)) a → a ≡ o
+  only-here = go (roomAt t o) here
+    where
+      go : (r : Room) → Here r → hasRoom r ≡ true → (a : ℕ) → filling t (placeOf r) a → a ≡ o
+      go (Own d) w h a f = sym (f .holds) ∙ w .filling .holds
+      go (Free d) w h a f = absurd (never-both (hasBit (t .busy) d) (f .taken) (w .unused))
+      go Full w h a f = absurd (never-both false h refl)
+
+  asked-fits : placeOf (roomAt t o) < 64 → Fits (asked t o)
+  asked-fits = go (roomAt t o)
+    where
+      go : (r : Room) → placeOf r < 64 → Fits (cellFor r (cellAt t (placeOf r)))
+      go (Own c) l = tidy .fits c l
+      go (Free c) l = empty-fits
+      go Full l = empty-fits
+
+-- the cell that a piece goes into holds what is held of its message
+empty-box : (bs : List ℕ) → box-of (held emptyCell bs) ≡ noneYet
+unfolding pieces-of
+empty-box bs = refl
+
+box-asked : (r : Room) (t : Table) (store : List ℕ) → box-of (held (cellFor r (cellAt t (placeOf r))) (cellOf store (placeOf r))) ≡ boxIn r t store
+box-asked (Own c) t store = refl
+box-asked (Free c) t store = empty-box (cellOf store c)
+box-asked Full t store = empty-box (cellOf store 0)
+
+-- ---- one piece
+
+-- a piece with this field is of message k, which is not handed over
+record Named (w : Window) (field k : ℕ) : Type 0 where
+  pub is : widened (field / 65536 % 256) (w .next) ≡ Is k
+  pub fresh : handedOf w k ≡ false
+
+number-same : (n : Number) (k j : ℕ) → n ≡ Is k → n ≡ Is j → k ≡ j
+number-same n k j p q = cc
+
+number-none : (n : Number) (k : ℕ) → n ≡ Is k → n ≡ Before → ⊥
+number-none n k p q = let z : _≡_ {A = ℕ} 0 1 = cc in omega arith
+
+-- what a piece of message k makes of what is held of it
+abbrev grown : ℕ → ℕ → List ℕ → Cell → Box → Box
+grown k o p x b = cond (changes (keptOf false k o (length p) true x)) (take-in b o p) b
+
+module _ (t : Table) (w : Window) (store : List ℕ) (slot field : ℕ) (p : List ℕ) (tidy : Tidy t store) (short : length p ≤ 255) where
+  abbrev off : ℕ
+  off = field % 65536
+
+  abbrev r : Accepted
+  r = accept t w store slot field p
+
+  tidy-after : Tidy (r .table) (r .store)
+  tidy-after = accept-tidy t w store slot field p tidy short
+
+  same-at : (o : ℕ) → SameAt t store t store o
+  same-at o =
+      ⊎-elim (λ f. inl (f .0, record { was = own-room t store tidy o (f .0) (f .1); is = own-room t store tidy o (f .0) (f .1); cell = refl; bytes = refl }))
+      (λ none. inr (not-own t store tidy o none, not-own t store tidy o none)) (by-room t store tidy o)
+
+  -- ---- a kept piece of message k
+  module _ (k : ℕ) (yes : answerOf t slot k off p ≡ Yes) where
+    abbrev c : ℕ
+    c = cellIn t slot k
+
+    abbrev h : Held
+    h = heldAfter t store slot k off p
+
+    abbrev t′ : Table
+    t′ = putAs t w store slot k off p .table
+
+    abbrev store′ : List ℕ
+    store′ = putAs t w store slot k off p .store
+
+    celled : hasRoom (tableRoom t slot k) ≡ true
+    celled = yes-is false k off (length p) (hasRoom (tableRoom t slot k)) (asked t (ownerOf slot k)) yes .celled
+
+    ends : off + length p ≤ 2048
+    ends = yes-is false k off (length p) (hasRoom (tableRoom t slot k)) (asked t (ownerOf slot k)) yes .fits
+
+    low : c < 64
+    low = place-in t store tidy slot k .0
+
+    in-store : 6400 * c + 6400 ≤ length store
+    in-store = place-in t store tidy slot k .1
+
+    long : length (h .bytes) ≡ 6400
+    long = after-length t w store slot field p tidy short k yes
+
+    owner-here : getD (t′ .owners) c 0 ≡ ownerOf slot k
+    owner-here = let n = tidy .owners in let l = low in getD-set-same (t .owners) c (ownerOf slot k) 0 (omega arith)
+
+    other-put : Tidy t′ store′ → (o : ℕ) → (o ≡ ownerOf slot k → ⊥) → SameAt t store t′ store′ o
+    other-put tidy′ o z = ⊎-elim (λ f. held-in (f .0) (f .1)) (λ none. inr (not-own t store tidy o none, not-own t′ store′ tidy′ o (still none))) (by-room t store tidy o)
+      where
+        held-in : (d : ℕ) → filling t d o → SameAt t store t′ store′ o
+        held-in d f =
+            let n : d ≡ c → ⊥ = λ e. z (only-here t store tidy (ownerOf slot k) celled o (subst (λ (y : ℕ). filling t y o) e f)) in
+            let q = kept-other t c (ownerOf slot k) (putIn store c h .taken) d n in
+            let l = tidy .within d (f .taken) in
+            let m = tidy .room in
+            inl (d, record {
+              was = own-room t store tidy o d f;
+              is = own-room t′ store′ tidy′ o d (record { taken = q .0 ∙ f .taken; open-yet = q .1 ∙ f .open-yet; holds = q .2 ∙ f .holds });
+              cell = q .3;
+              bytes = in-other store c (h .bytes) in-store long d n (omega arith);
+            })
+
+        still : ((d : ℕ) → filling t d o → ⊥) → (d : ℕ) → filling t′ d o → ⊥
+        still none d f =
+            ⊎-elim (λ e. z (sym (f .holds) ∙ ap (λ (y : ℕ). getD (t′ .owners) y 0) e ∙ owner-here))
+            (λ n. none d (filling-other t c (ownerOf slot k) (putIn store c h .taken) d o n f)) (eq-or-not d c)
+
+    own-put : Tidy t′ store′ → hasLanded (putAs t w store slot k off p .landed) ≡ false
+        → boxAt t′ store′ (ownerOf slot k) ≡ take-in (boxAt t store (ownerOf slot k)) off p
+    own-put tidy′ quiet =
+        let n = tidy .cells in
+        let l = low in
+        let open-yet : hasBit (t′ .landed) c ≡ false =
+        ap (λ (b : Bool). hasBit (cond b (withBit (t .landed) c) (t .landed)) c) quiet ∙ open-here t store tidy (ownerOf slot k) celled in
+        ap (λ (x : Room). boxIn x t′ store′)
+        (own-room t′ store′ tidy′ (ownerOf slot k) c (record { taken = with-same (t .busy) c low; open-yet = open-yet; holds = owner-here }))
+        ∙ ap₂ (λ (x : Cell) (bs : List ℕ). box-of (held x bs)) (getD-set-same (t .cells) c (h .cell) noCell (omega arith)) (in-same store c (h .bytes) in-store long)
+        ∙ box-accept 6400 (omega arith) (held (asked t (ownerOf slot k)) (cellOf store c))
+        (asked-fits t store tidy (ownerOf slot k) low, cell-length store c in-store) off p short ends
+        ∙ ap (λ (b : Box). take-in b off p) (box-asked (tableRoom t slot k) t store)
+
+  -- ---- any piece
+
+  -- another message stays as it is
+  other : (o : ℕ) → ((k : ℕ) → Named w field k → o ≡ ownerOf slot k → ⊥) → SameAt t store (r .table) (r .store) o
+  other o z =
+      accept-cases t w store slot field p (λ x. Tidy (x .table) (x .store) → SameAt t store (x .table) (x .store) o)
+      (λ e d. same-at o) (λ k e h d. same-at o) (λ k u a q c d. same-at o)
+      (λ k u q d. other-put k q d o (z k (record { is = u .is; fresh = u .fresh }))) tidy-after
+
+  -- its own message is held as the rule says, by what was held of it
+  abbrev Grows : Accepted → ℕ → Type 0
+  Grows x k =
+      hasRoom (tableRoom t slot k) ≡ true → boxAt (x .table) (x .store) (ownerOf slot k) ≡ grown k off p (asked t (ownerOf slot k)) (boxAt t store (ownerOf slot k))
+
+  own : (k : ℕ) → Named w field k → hasLanded (r .landed) ≡ false → Grows r k
+  own k m quiet =
+      accept-cases t w store slot field p (λ x. Tidy (x .table) (x .store) → hasLanded (x .landed) ≡ false → Grows x k)
+      (λ e d q. absurd (number-none _ k (m .is) e))
+      (λ j e h d q. absurd (never-both (handedOf w j) h (ap (handedOf w) (number-same _ j k e (m .is)) ∙ m .fresh)))
+      (λ j u a q c d v. subst (Grows (leftAs t w store (cellIn t slot j) j a)) (number-same _ j k (u .is) (m .is)) (left j a q c))
+      (λ j u q d v. subst (Grows (putAs t w store slot j off p)) (number-same _ j k (u .is) (m .is)) (put j q d v))
+      tidy-after quiet
+    where
+      left : (j : ℕ) (a : Kept) → answerOf t slot j off p ≡ a → changes a ≡ false → Grows (leftAs t w store (cellIn t slot j) j a) j
+      left j a q c room =
+          sym (cond-false (changes (keptOf false j off (length p) true (asked t (ownerOf slot j)))) _ _
+          (ap (λ (b : Bool). changes (keptOf false j off (length p) b (asked t (ownerOf slot j)))) (sym room) ∙ ap changes q ∙ c))
+
+      put : (j : ℕ) (q : answerOf t slot j off p ≡ Yes) → Tidy (putAs t w store slot j off p .table) (putAs t w store slot j off p .store)
+          → hasLanded (putAs t w store slot j off p .landed) ≡ false → Grows (putAs t w store slot j off p) j
+      put j q d v room =
+          own-put j q d v
+          ∙ sym (cond-true (changes (keptOf false j off (length p) true (asked t (ownerOf slot j)))) _ _
+          (ap (λ (b : Bool). changes (keptOf false j off (length p) b (asked t (ownerOf slot j)))) (sym room) ∙ ap changes q))
+
+-- ---- two pieces of two boats
+
+module _ (n : Net) (f : Fit n) where
+  abbrev s : Station
+  s = n .station
+
+  abbrev win : Up → Window
+  win x = memberAt s (x .slot) .up
+
+  abbrev t₀ : Table
+  t₀ = tableOf s
+
+  abbrev one : Up → Accepted
+  one x = takes s x t₀ (n .store)
+
+  tidy-one : (x : Up) → IsUp s x → Tidy (one x .table) (one x .store)
+  tidy-one x u = accept-tidy t₀ (win x) (n .store) (x .slot) (x .field) (x .bytes) (f .view .tidy) (u .short)
+
+  -- the number of a piece of a boat
+  number-low : (x : Up) → IsUp s x → (k : ℕ) → Named (win x) (x .field) k → k < 2 ^ 32
+  number-low x u k m =
+      let sound : Sound (win x) = subst Sound (cond-true (isMember (s .used) (x .slot)) (win x) freshOf (u .boat)) (f .view .sound (x .slot)) in
+      let l = open-window (win x) (x .field / 65536 % 256) k sound (m .is) (m .fresh) in
+      let z = sound-next (win x) sound in
+      omega arith
+
+  abbrev Its : Up → ℕ → ℕ → Type 0
+  Its x o k = Named (win x) (x .field) k × (o ≡ ownerOf (x .slot) k)
+
+  -- the message of the owner o is the piece's, or it is not
+  whose : (x : Up) (o : ℕ) → ((k : ℕ) × Its x o k) ⊎ ((k : ℕ) → Named (win x) (x .field) k → o ≡ ownerOf (x .slot) k → ⊥)
+  whose x o = go (widened (x .field / 65536 % 256) (win x .next)) refl
+    where
+      go : (m : Number) → widened (x .field / 65536 % 256) (win x .next) ≡ m
+          → ((k : ℕ) × Its x o k) ⊎ ((k : ℕ) → Named (win x) (x .field) k → o ≡ ownerOf (x .slot) k → ⊥)
+      go Before e = inr (λ k m q. number-none _ k (m .is) e)
+      go (Is k) e =
+          ⊎-elim (λ h. inr (λ j m q. never-both (handedOf (win x) j) (ap (handedOf (win x)) (number-same _ j k (m .is) e) ∙ h) (m .fresh)))
+          (λ h.
+          ⊎-elim (λ q. inl (k, (record { is = e; fresh = h }, q)))
+          (λ z. inr (λ j m q. z (q ∙ ap (ownerOf (x .slot)) (number-same _ j k (m .is) e))))
+          (eq-or-not o (ownerOf (x .slot) k)))
+          (cases (handedOf (win x) k))
+
+  has-room : (x : Up) (t : Table) (store : List ℕ) (k : ℕ) → Named (win x) (x .field) k → Calm s x t store → hasRoom (tableRoom t (x .slot) k) ≡ true
+  has-room x t store k m calm = subst (λ (y : Number). hasCell y t (x .slot) ≡ true) (m .is) (calm .cell)
+
+  module _ (x y : Up) (u : IsUp s x) (v : IsUp s y) (apart : x .slot ≡ y .slot → ⊥) (o : ℕ) where
+    -- a message of x's boat is none of y's
+    not-its : (k : ℕ) → Its x o k → (j : ℕ) → Named (win y) (y .field) j → o ≡ ownerOf (y .slot) j → ⊥
+    not-its k m j i q = apart (owner-same (x .slot) (y .slot) k j (number-low x u k (m .0)) (number-low y v j i) (sym (m .1) ∙ q) .0)
+
+    -- the message of x
+    for-first : (k : ℕ) → Its x o k → Calmly n x y → Calmly n y x
+        → boxAt (both n x y .table) (both n x y .store) o ≡ boxAt (both n y x .table) (both n y x .store) o
+    for-first k m a b =
+        let ty = other t₀ (win y) (n .store) (y .slot) (y .field) (y .bytes) (f .view .tidy) (v .short) o (not-its k m) in
+        same-box (one x .table) (one x .store) (both n x y .table) (both n x y .store) o
+        (other (one x .table) (win y) (one x .store) (y .slot) (y .field) (y .bytes) (tidy-one x u) (v .short) o (not-its k m))
+        ∙ own-at t₀ (n .store) (f .view .tidy) (a .first)
+        ∙ sym (ap₂ (grown k (x .field % 65536) (x .bytes)) (same-asked t₀ (n .store) (one y .table) (one y .store) o ty) (same-box t₀ (n .store) (one y .table) (one y .store) o ty))
+        ∙ sym (own-at (one y .table) (one y .store) (tidy-one y v) (b .second))
+      where
+        own-at : (t : Table) (store : List ℕ) → Tidy t store → Calm s x t store
+            → boxAt (takes s x t store .table) (takes s x t store .store) o ≡ grown k (x .field % 65536) (x .bytes) (asked t o) (boxAt t store o)
+        own-at t store tidy calm =
+            subst (λ (z : ℕ). boxAt (takes s x t store .table) (takes s x t store .store) z ≡ grown k (x .field % 65536) (x .bytes) (asked t z) (boxAt t store z))
+            (sym (m .1))
+            (own t (win x) store (x .slot) (x .field) (x .bytes) tidy (u .short) k (m .0) (calm .quiet) (has-room x t store k (m .0) calm))
+
+    -- a message of neither
+    for-neither : ((k : ℕ) → Named (win x) (x .field) k → o ≡ ownerOf (x .slot) k → ⊥) → ((k : ℕ) → Named (win y) (y .field) k → o ≡ ownerOf (y .slot) k → ⊥)
+        → boxAt (both n x y .table) (both n x y .store) o ≡ boxAt t₀ (n .store) o
+    for-neither a b =
+        same-box (one x .table) (one x .store) (both n x y .table) (both n x y .store) o
+        (other (one x .table) (win y) (one x .store) (y .slot) (y .field) (y .bytes) (tidy-one x u) (v .short) o b)
+        ∙ same-box t₀ (n .store) (one x .table) (one x .store) o
+        (other t₀ (win x) (n .store) (x .slot) (x .field) (x .bytes) (f .view .tidy) (u .short) o a)
+
+  pub commutes : Commutes n
+  commutes x y u v apart a b i k =
+      ⊎-elim (λ m. for-first x y u v apart (ownerOf i k) (m .0) (m .1) a b)
+      (λ p.
+      ⊎-elim (λ m. sym (for-first y x v u (λ e. apart (sym e)) (ownerOf i k) (m .0) (m .1) b a))
+      (λ q. for-neither x y u v apart (ownerOf i k) p q ∙ sym (for-neither y x v u (λ e. apart (sym e)) (ownerOf i k) q p))
+      (whose y (ownerOf i k)))
+      (whose x (ownerOf i k))
