@@ -1,13 +1,15 @@
 -- Pieces of two boats, each with a cell and no message landing, in either order: each piece changes what is held of its own message by what was held of it, and leaves
 -- what is held of every other. Assumes nothing.
 use mathlib.Core.Path.{_≡_, refl, sym, ap, ap₂, _∙_, subst}
-use mathlib.Core.Bool.{Bool, true, false, cond}
+use mathlib.Core.Bool.{Bool, true, false, cond, _&&_}
 use mathlib.Core.List.{List}
 use mathlib.Core.Logic.{_⊎_, inl, inr, ⊎-elim}
 use Prim.Native.Nat.{ℕ, _+_, _*_, _/_, _%_, _^_, _≤_, _<_}
 use native.Mathlib.Omega.{arith}
-use lib.ListN.{length, getD}
-use lib.Seq.{getD-set-same}
+use lib.Dec.{leb}
+use lib.ListN.{length, getD, take}
+use lib.Seq.{getD-set-same, getD-take, length-take-le}
+use borrow.Author.Tests.{leb-true}
 use Rattle.bits.specs.Mask.{hasBit, withBit}
 use Rattle.bits.proofs.Laws.{with-same}
 use Rattle.bits.proofs.Lists.{cond-true, cond-false, cases, eq-or-not, never-both}
@@ -19,8 +21,9 @@ use Rattle.inbox.specs.declared.keep.Kept.{Kept}
 use Rattle.inbox.specs.declared.keep.Kept.the-variants.{Yes}
 use Rattle.inbox.specs.Cells.{Held, held}
 use Rattle.inbox.specs.Keeping.{keptOf}
-use Rattle.inbox.specs.Messages.{Fits, emptyCell}
-use Rattle.inbox.specs.Stores.{cellOf}
+use Rattle.inbox.specs.declared.store.Landed.the-variants.{Bytes, NotYet}
+use Rattle.inbox.specs.Messages.{Fits, emptyCell, announced, landed}
+use Rattle.inbox.specs.Stores.{cellOf, landedOf}
 use Rattle.inbox.specs.Box.{Box, take-in, pieces-of, box-of}
 use Rattle.inbox.proofs.Apart.{in-same, in-other}
 use Rattle.inbox.proofs.Boxes.{box-accept}
@@ -32,15 +35,15 @@ use Rattle.stream.specs.declared.table.Room.{Room}
 use Rattle.stream.specs.declared.table.Room.the-variants.{Own, Free, Full}
 use Rattle.stream.specs.Window.{handedOf, freshOf}
 use Rattle.stream.specs.Table.{Table, Accepted, accept, noCell, isOwn, cellAt, cellCount, cellFor, placeOf, hasRoom, ownerOf, roomFor, tableRoom, changes, hasLanded, keptTable, putIn}
-use Rattle.stream.proofs.Rooms.{RoomIs, room-is, filling-own, owner-same, cells-are}
+use Rattle.stream.proofs.Rooms.{RoomIs, room-is, own-filling, filling-own, owner-same, cells-are}
 use Rattle.stream.proofs.Tables.{Tidy, filling, kept-other, filling-other, place-in}
 use Rattle.stream.proofs.Windows.{Sound, sound-next}
-use Rattle.stream.proofs.Accepts.{leftAs, answerOf, cellIn, heldAfter, putAs, accept-cases, accept-tidy, after-length, open-window}
+use Rattle.stream.proofs.Accepts.{leftAs, answerOf, cellIn, heldAfter, putAs, accept-cases, accept-tidy, after-length, after-fits, open-window}
 use Rattle.net.specs.declared.Station.{Station}
 use Rattle.net.specs.State.{memberAt, tableOf}
 use Rattle.net.specs.Net.{isMember}
 use Rattle.promise.specs.Promise.{Net}
-use Rattle.promise.specs.Laws.{noneYet, boxIn, Up, takes, hasCell, Calm, both, Calmly, IsUp, Commutes}
+use Rattle.promise.specs.Laws.{noneYet, boxIn, Up, takes, both, IsUp, numberOf, CellFor, Cells, LandsNone, Commutes}
 use Rattle.promise.proofs.Sounds.{Fit}
 
 -- ---- what is held of the message of an owner
@@ -156,6 +159,15 @@ module _ (t : Table) (store : List ℕ) (tidy : Tidy t store) (o : ℕ) where
       go (Free d) w h a f = absurd (never-both (hasBit (t .busy) d) (f .taken) (w .unused))
       go Full w h a f = absurd (never-both false h refl)
 
+  -- where a cell is free there is room
+  free-room : (c : ℕ) → c < t .count → hasBit (t .busy) c ≡ false → hasRoom (roomAt t o) ≡ true
+  free-room c a b = go (roomAt t o) here
+    where
+      go : (r : Room) → Here r → hasRoom r ≡ true
+      go (Own d) w = refl
+      go (Free d) w = refl
+      go Full w = let e = cells-are (t .count) (tidy .most) in absurd (never-both (hasBit (t .busy) c) (w .all c (omega arith)) b)
+
   asked-fits : placeOf (roomAt t o) < 64 → Fits (asked t o)
   asked-fits = go (roomAt t o)
     where
@@ -190,6 +202,31 @@ number-none n k p q = let z : _≡_ {A = ℕ} 0 1 = cc in omega arith
 -- what a piece of message k makes of what is held of it
 abbrev grown : ℕ → ℕ → List ℕ → Cell → Box → Box
 grown k o p x b = cond (changes (keptOf false k o (length p) true x)) (take-in b o p) b
+
+-- the message has landed, by what is held of it
+abbrev landsIn : Box → Bool
+landsIn b = leb 2 (length (b .joined)) && leb (2 + announced (b .joined)) (length (b .joined))
+
+lands-box : (h : Held) → h .cell .joined ≤ length (h .bytes) → hasLanded (landedOf h) ≡ landsIn (box-of h)
+lands-box h fits =
+    has-landed (landed h)
+    ∙ ⊎-elim (λ a. ap (λ (x : ℕ). leb 2 j && leb (2 + x) j) (sym (front (leb-true 2 j a))))
+    (λ a. ap (λ (b : Bool). b && leb (2 + announced (h .bytes)) j) a ∙ sym (ap (λ (b : Bool). b && leb (2 + announced (take j (h .bytes))) j) a)) (cases (leb 2 j))
+    ∙ sym (ap (λ (x : ℕ). leb 2 x && leb (2 + announced (take j (h .bytes))) x) (length-take-le j (h .bytes) fits))
+  where
+    j : ℕ
+    j = h .cell .joined
+
+    has-landed : (b : Bool) → hasLanded (cond b (Bytes (announced (h .bytes))) NotYet) ≡ b
+    has-landed true = refl
+    has-landed false = refl
+
+    front : 2 ≤ j → announced (take j (h .bytes)) ≡ announced (h .bytes)
+    front a = ap₂ (λ (x y : ℕ). x + 256 * y) (getD-take j (h .bytes) 0 0 (omega arith)) (getD-take j (h .bytes) 1 0 (omega arith))
+
+-- a piece of message k lands it
+abbrev landsBy : ℕ → ℕ → List ℕ → Cell → Box → Bool
+landsBy k o p x b = changes (keptOf false k o (length p) true x) && landsIn (take-in b o p)
 
 module _ (t : Table) (w : Window) (store : List ℕ) (slot field : ℕ) (p : List ℕ) (tidy : Tidy t store) (short : length p ≤ 255) where
   abbrev off : ℕ
@@ -259,6 +296,12 @@ module _ (t : Table) (w : Window) (store : List ℕ) (slot field : ℕ) (p : Lis
             ⊎-elim (λ e. z (sym (f .holds) ∙ ap (λ (y : ℕ). getD (t′ .owners) y 0) e ∙ owner-here))
             (λ n. none d (filling-other t c (ownerOf slot k) (putIn store c h .taken) d o n f)) (eq-or-not d c)
 
+    box-after : box-of h ≡ take-in (boxAt t store (ownerOf slot k)) off p
+    box-after =
+        box-accept 6400 (omega arith) (held (asked t (ownerOf slot k)) (cellOf store c))
+        (asked-fits t store tidy (ownerOf slot k) low, cell-length store c in-store) off p short ends
+        ∙ ap (λ (b : Box). take-in b off p) (box-asked (tableRoom t slot k) t store)
+
     own-put : Tidy t′ store′ → hasLanded (putAs t w store slot k off p .landed) ≡ false
         → boxAt t′ store′ (ownerOf slot k) ≡ take-in (boxAt t store (ownerOf slot k)) off p
     own-put tidy′ quiet =
@@ -269,9 +312,7 @@ module _ (t : Table) (w : Window) (store : List ℕ) (slot field : ℕ) (p : Lis
         ap (λ (x : Room). boxIn x t′ store′)
         (own-room t′ store′ tidy′ (ownerOf slot k) c (record { taken = with-same (t .busy) c low; open-yet = open-yet; holds = owner-here }))
         ∙ ap₂ (λ (x : Cell) (bs : List ℕ). box-of (held x bs)) (getD-set-same (t .cells) c (h .cell) noCell (omega arith)) (in-same store c (h .bytes) in-store long)
-        ∙ box-accept 6400 (omega arith) (held (asked t (ownerOf slot k)) (cellOf store c))
-        (asked-fits t store tidy (ownerOf slot k) low, cell-length store c in-store) off p short ends
-        ∙ ap (λ (b : Box). take-in b off p) (box-asked (tableRoom t slot k) t store)
+        ∙ box-after
 
   -- ---- any piece
 
@@ -307,6 +348,55 @@ module _ (t : Table) (w : Window) (store : List ℕ) (slot field : ℕ) (p : Lis
           own-put j q d v
           ∙ sym (cond-true (changes (keptOf false j off (length p) true (asked t (ownerOf slot j)))) _ _
           (ap (λ (b : Bool). changes (keptOf false j off (length p) b (asked t (ownerOf slot j)))) (sym room) ∙ ap changes q))
+
+  -- it lands as the rule says
+  abbrev Lands : Accepted → ℕ → Type 0
+  Lands x k =
+      hasRoom (tableRoom t slot k) ≡ true → hasLanded (x .landed) ≡ landsBy k off p (asked t (ownerOf slot k)) (boxAt t store (ownerOf slot k))
+
+  lands : (k : ℕ) → Named w field k → Lands r k
+  lands k m =
+      accept-cases t w store slot field p (λ x. Lands x k)
+      (λ e. absurd (number-none _ k (m .is) e))
+      (λ j e h. absurd (never-both (handedOf w j) h (ap (handedOf w) (number-same _ j k e (m .is)) ∙ m .fresh)))
+      (λ j u a q c. subst (Lands (leftAs t w store (cellIn t slot j) j a)) (number-same _ j k (u .is) (m .is)) (left j a q c))
+      (λ j u q. subst (Lands (putAs t w store slot j off p)) (number-same _ j k (u .is) (m .is)) (put j q))
+    where
+      left : (j : ℕ) (a : Kept) → answerOf t slot j off p ≡ a → changes a ≡ false → Lands (leftAs t w store (cellIn t slot j) j a) j
+      left j a q c room =
+          sym (ap (λ (b : Bool). b && landsIn (take-in (boxAt t store (ownerOf slot j)) off p))
+          (ap (λ (b : Bool). changes (keptOf false j off (length p) b (asked t (ownerOf slot j)))) (sym room) ∙ ap changes q ∙ c))
+
+      put : (j : ℕ) (q : answerOf t slot j off p ≡ Yes) → Lands (putAs t w store slot j off p) j
+      put j q room =
+          let f = after-fits t w store slot field p tidy short j q .joined in
+          let l = long j q in
+          lands-box (h j q) (omega arith)
+          ∙ ap landsIn (box-after j q)
+          ∙ sym (ap (λ (b : Bool). b && landsIn (take-in (boxAt t store (ownerOf slot j)) off p))
+          (ap (λ (b : Bool). changes (keptOf false j off (length p) b (asked t (ownerOf slot j)))) (sym room) ∙ ap changes q))
+
+  -- ---- a cell is free after a piece: a, which was, or else b, which was for the piece
+
+  abbrev Spare : Table → Type 0
+  Spare t = (e : ℕ) × (e < t .count) × (hasBit (t .busy) e ≡ false)
+
+  spare : (a b : ℕ) → (a ≡ b → ⊥) → a < t .count → hasBit (t .busy) a ≡ false → CellFor (widened (field / 65536 % 256) (w .next)) slot t b → Spare (r .table)
+  spare a b z low-a free-a for-b =
+      accept-cases t w store slot field p (λ x. Spare (x .table))
+      (λ e. (a, low-a, free-a)) (λ k e h. (a, low-a, free-a)) (λ k u y q v. (a, low-a, free-a))
+      (λ k u q. put k q (subst (λ (n : Number). CellFor n slot t b) (u .is) for-b))
+    where
+      put : (k : ℕ) (q : answerOf t slot k off p ≡ Yes) → CellFor (Is k) slot t b → Spare (putAs t w store slot k off p .table)
+      put k q g =
+          ⊎-elim (λ e. ⊎-elim (λ i. absurd (z (e ∙ own-is i))) (λ i. (b, i .0, stays b (λ j. z (e ∙ sym j)) (i .1))) g)
+          (λ n. (a, low-a, stays a n free-a)) (eq-or-not a (cellIn t slot k))
+        where
+          stays : (j : ℕ) → (j ≡ cellIn t slot k → ⊥) → hasBit (t .busy) j ≡ false → hasBit (putAs t w store slot k off p .table .busy) j ≡ false
+          stays j n e = kept-other t (cellIn t slot k) (ownerOf slot k) (putIn store (cellIn t slot k) (h k q) .taken) j n .0 ∙ e
+
+          own-is : isOwn (t .busy) (t .landed) b (getD (t .owners) b 0) (ownerOf slot k) ≡ true → cellIn t slot k ≡ b
+          own-is i = ap placeOf (own-room t store tidy (ownerOf slot k) b (own-filling (t .owners) (t .busy) (t .landed) (ownerOf slot k) b i))
 
 -- ---- two pieces of two boats
 
@@ -352,8 +442,10 @@ module _ (n : Net) (f : Fit n) where
           (eq-or-not o (ownerOf (x .slot) k)))
           (cases (handedOf (win x) k))
 
-  has-room : (x : Up) (t : Table) (store : List ℕ) (k : ℕ) → Named (win x) (x .field) k → Calm s x t store → hasRoom (tableRoom t (x .slot) k) ≡ true
-  has-room x t store k m calm = subst (λ (y : Number). hasCell y t (x .slot) ≡ true) (m .is) (calm .cell)
+  -- there is room for x's message, and x does not land it
+  record Calm (x : Up) (k : ℕ) (t : Table) (store : List ℕ) : Type 0 where
+    pub room : hasRoom (tableRoom t (x .slot) k) ≡ true
+    pub quiet : hasLanded (takes s x t store .landed) ≡ false
 
   module _ (x y : Up) (u : IsUp s x) (v : IsUp s y) (apart : x .slot ≡ y .slot → ⊥) (o : ℕ) where
     -- a message of x's boat is none of y's
@@ -361,22 +453,22 @@ module _ (n : Net) (f : Fit n) where
     not-its k m j i q = apart (owner-same (x .slot) (y .slot) k j (number-low x u k (m .0)) (number-low y v j i) (sym (m .1) ∙ q) .0)
 
     -- the message of x
-    for-first : (k : ℕ) → Its x o k → Calmly n x y → Calmly n y x
+    for-first : (k : ℕ) → Its x o k → Calm x k t₀ (n .store) → Calm x k (one y .table) (one y .store)
         → boxAt (both n x y .table) (both n x y .store) o ≡ boxAt (both n y x .table) (both n y x .store) o
     for-first k m a b =
         let ty = other t₀ (win y) (n .store) (y .slot) (y .field) (y .bytes) (f .view .tidy) (v .short) o (not-its k m) in
         same-box (one x .table) (one x .store) (both n x y .table) (both n x y .store) o
         (other (one x .table) (win y) (one x .store) (y .slot) (y .field) (y .bytes) (tidy-one x u) (v .short) o (not-its k m))
-        ∙ own-at t₀ (n .store) (f .view .tidy) (a .first)
+        ∙ own-at t₀ (n .store) (f .view .tidy) a
         ∙ sym (ap₂ (grown k (x .field % 65536) (x .bytes)) (same-asked t₀ (n .store) (one y .table) (one y .store) o ty) (same-box t₀ (n .store) (one y .table) (one y .store) o ty))
-        ∙ sym (own-at (one y .table) (one y .store) (tidy-one y v) (b .second))
+        ∙ sym (own-at (one y .table) (one y .store) (tidy-one y v) b)
       where
-        own-at : (t : Table) (store : List ℕ) → Tidy t store → Calm s x t store
+        own-at : (t : Table) (store : List ℕ) → Tidy t store → Calm x k t store
             → boxAt (takes s x t store .table) (takes s x t store .store) o ≡ grown k (x .field % 65536) (x .bytes) (asked t o) (boxAt t store o)
         own-at t store tidy calm =
             subst (λ (z : ℕ). boxAt (takes s x t store .table) (takes s x t store .store) z ≡ grown k (x .field % 65536) (x .bytes) (asked t z) (boxAt t store z))
             (sym (m .1))
-            (own t (win x) store (x .slot) (x .field) (x .bytes) tidy (u .short) k (m .0) (calm .quiet) (has-room x t store k (m .0) calm))
+            (own t (win x) store (x .slot) (x .field) (x .bytes) tidy (u .short) k (m .0) (calm .quiet) (calm .room))
 
     -- a message of neither
     for-neither : ((k : ℕ) → Named (win x) (x .field) k → o ≡ ownerOf (x .slot) k → ⊥) → ((k : ℕ) → Named (win y) (y .field) k → o ≡ ownerOf (y .slot) k → ⊥)
@@ -387,11 +479,61 @@ module _ (n : Net) (f : Fit n) where
         ∙ same-box t₀ (n .store) (one x .table) (one x .store) o
         (other t₀ (win x) (n .store) (x .slot) (x .field) (x .bytes) (f .view .tidy) (u .short) o a)
 
+    -- x alone, and x after y
+    calm-alone : (k : ℕ) → Its x o k → (c : ℕ) → CellFor (numberOf s x) (x .slot) t₀ c → LandsNone n x → Calm x k t₀ (n .store)
+    calm-alone k m c g q =
+        record {
+          room = ⊎-elim
+              (λ i. ap hasRoom (own-room t₀ (n .store) (f .view .tidy) (ownerOf (x .slot) k) c (own-filling (t₀ .owners) (t₀ .busy) (t₀ .landed) (ownerOf (x .slot) k) c i)))
+              (λ i. free-room t₀ (n .store) (f .view .tidy) (ownerOf (x .slot) k) c (i .0) (i .1))
+              (subst (λ (z : Number). CellFor z (x .slot) t₀ c) (m .0 .is) g);
+          quiet = q;
+        }
+
+    calm-after : (k : ℕ) → Its x o k → (c d : ℕ) → (c ≡ d → ⊥) → CellFor (numberOf s x) (x .slot) t₀ c → CellFor (numberOf s y) (y .slot) t₀ d → LandsNone n x
+        → Calm x k (one y .table) (one y .store)
+    calm-after k m c d z g e q =
+        record {
+          room = room;
+          quiet = lands (one y .table) (win x) (one y .store) (x .slot) (x .field) (x .bytes) (tidy-one y v) (u .short) k (m .0) room
+              ∙ ap₂ (landsBy k (x .field % 65536) (x .bytes))
+              (same-asked t₀ (n .store) (one y .table) (one y .store) (ownerOf (x .slot) k) same) (same-box t₀ (n .store) (one y .table) (one y .store) (ownerOf (x .slot) k) same)
+              ∙ sym (lands t₀ (win x) (n .store) (x .slot) (x .field) (x .bytes) (f .view .tidy) (u .short) k (m .0) (calm-alone k m c g q .room))
+              ∙ q;
+        }
+      where
+        same : SameAt t₀ (n .store) (one y .table) (one y .store) (ownerOf (x .slot) k)
+        same =
+            other t₀ (win y) (n .store) (y .slot) (y .field) (y .bytes) (f .view .tidy) (v .short) (ownerOf (x .slot) k)
+            (λ j i r. not-its k m j i (m .1 ∙ r))
+
+        room : hasRoom (tableRoom (one y .table) (x .slot) k) ≡ true
+        room =
+            ⊎-elim
+            (λ i. own-stays (own-room t₀ (n .store) (f .view .tidy) (ownerOf (x .slot) k) c (own-filling (t₀ .owners) (t₀ .busy) (t₀ .landed) (ownerOf (x .slot) k) c i)) same)
+            (λ i.
+            let w = spare t₀ (win y) (n .store) (y .slot) (y .field) (y .bytes) (f .view .tidy) (v .short) c d z (i .0) (i .1) e in
+            free-room (one y .table) (one y .store) (tidy-one y v) (ownerOf (x .slot) k) (w .0) (w .1) (w .2))
+            (subst (λ (z : Number). CellFor z (x .slot) t₀ c) (m .0 .is) g)
+          where
+            own-stays : roomAt t₀ (ownerOf (x .slot) k) ≡ Own c → SameAt t₀ (n .store) (one y .table) (one y .store) (ownerOf (x .slot) k)
+                → hasRoom (tableRoom (one y .table) (x .slot) k) ≡ true
+            own-stays a (inl (j, b)) = ap hasRoom (b .is)
+            own-stays a (inr b) = absurd (subst NotOwn a (b .0))
+
   pub commutes : Commutes n
-  commutes x y u v apart a b i k =
-      ⊎-elim (λ m. for-first x y u v apart (ownerOf i k) (m .0) (m .1) a b)
+  commutes x y u v apart a qx qy i k =
+      let o = ownerOf i k in
+      let back : y .slot ≡ x .slot → ⊥ = λ e. apart (sym e) in
+      ⊎-elim
+      (λ m.
+      for-first x y u v apart o (m .0) (m .1) (calm-alone x y u v apart o (m .0) (m .1) (a .one) (a .for-x) qx)
+      (calm-after x y u v apart o (m .0) (m .1) (a .one) (a .other) (a .apart) (a .for-x) (a .for-y) qx))
       (λ p.
-      ⊎-elim (λ m. sym (for-first y x v u (λ e. apart (sym e)) (ownerOf i k) (m .0) (m .1) b a))
-      (λ q. for-neither x y u v apart (ownerOf i k) p q ∙ sym (for-neither y x v u (λ e. apart (sym e)) (ownerOf i k) q p))
-      (whose y (ownerOf i k)))
-      (whose x (ownerOf i k))
+      ⊎-elim
+      (λ m.
+      sym (for-first y x v u back o (m .0) (m .1) (calm-alone y x v u back o (m .0) (m .1) (a .other) (a .for-y) qy)
+      (calm-after y x v u back o (m .0) (m .1) (a .other) (a .one) (λ e. a .apart (sym e)) (a .for-y) (a .for-x) qy)))
+      (λ q. for-neither x y u v apart o p q ∙ sym (for-neither y x v u back o q p))
+      (whose y o))
+      (whose x o)

@@ -4,9 +4,11 @@ use Prim.Native.Nat.{ℕ, _+_, _/_, _%_, _^_, _≤_, _<_}
 use mathlib.Core.Path.{_≡_}
 use mathlib.Core.Bool.{Bool, true, false}
 use mathlib.Core.List.{List, [], _∷_, _++_}
-use lib.ListN.{length, take, replicate}
+use mathlib.Core.Logic.{_⊎_}
+use lib.ListN.{length, getD, take, replicate}
 use lib.Dec.{T}
 use lib.Ieee.{Float, binary32, fits}
+use Rattle.bits.specs.Mask.{hasBit}
 use Rattle.level.specs.declared.Level.the-variants.{Decibels}
 use Rattle.level.specs.Levels.{smoothed}
 use Rattle.level.specs.Between.{sized, Between}
@@ -22,7 +24,7 @@ use Rattle.inbox.specs.Box.{Box, none, box-of}
 use Rattle.stream.specs.declared.table.Room.{Room}
 use Rattle.stream.specs.declared.table.Room.the-variants.{Own, Free, Full}
 use Rattle.stream.specs.Window.{handedOf}
-use Rattle.stream.specs.Table.{Table, Accepted, accept, cellAt, cellFor, placeOf, hasRoom, tableRoom, isLost, hasLanded}
+use Rattle.stream.specs.Table.{Table, Accepted, accept, ownerOf, isOwn, cellAt, cellFor, placeOf, hasRoom, tableRoom, isLost, hasLanded}
 use Rattle.net.specs.declared.Station.{Station}
 use Rattle.net.specs.State.{memberAt, tableOf}
 use Rattle.net.specs.Net.{isMember}
@@ -113,37 +115,44 @@ pub record Up : Type 0 where
 abbrev pub takes : Station → Up → Table → List ℕ → Accepted
 takes s x t store = accept t (memberAt s (x .slot) .up) store (x .slot) (x .field) (x .bytes)
 
--- a piece whose number is k has a cell, or one is free; one whose number is none needs no cell
-abbrev pub hasCell : Number → Table → ℕ → Bool
-hasCell Before t slot = true
-hasCell (Is k) t slot = hasRoom (tableRoom t slot k)
-
--- as x comes there is a cell for it, and no message lands with it
-pub record Calm (s : Station) (x : Up) (t : Table) (store : List ℕ) : Type 0 where
-  pub cell : hasCell (widened (x .field / 65536 % 256) (memberAt s (x .slot) .up .next)) t (x .slot) ≡ true
-  pub quiet : hasLanded (takes s x t store .landed) ≡ false
-
 -- x, and then y
 abbrev pub both : Net → Up → Up → Accepted
 both n x y =
     let r = takes (n .station) x (tableOf (n .station)) (n .store) in
     takes (n .station) y (r .table) (r .store)
 
--- so in this order
-pub record Calmly (n : Net) (x y : Up) : Type 0 where
-  pub first : Calm (n .station) x (tableOf (n .station)) (n .store)
-  pub second : let r = takes (n .station) x (tableOf (n .station)) (n .store) in Calm (n .station) y (r .table) (r .store)
-
 -- a piece of a boat
 pub record IsUp (s : Station) (x : Up) : Type 0 where
   pub boat : isMember (s .used) (x .slot) ≡ true
   pub short : length (x .bytes) ≤ 255
 
--- pieces of two boats: where in either order there is a cell for each and no message lands, every message, those of the two boats among them, has equal joined
--- bytes and waiting pieces after both
+-- the number of a piece, of which eight bits are on air, made whole
+abbrev pub numberOf : Station → Up → Number
+numberOf s x = widened (x .field / 65536 % 256) (memberAt s (x .slot) .up .next)
+
+-- cell c is for a piece of this number and slot: it is filling with its message, or is free; a piece whose number is none needs no cell
+abbrev pub CellFor : Number → ℕ → Table → ℕ → Type 0
+CellFor Before slot t c = Unit {0}
+CellFor (Is k) slot t c =
+    (isOwn (t .busy) (t .landed) c (getD (t .owners) c 0) (ownerOf slot k) ≡ true) ⊎ ((c < t .count) × (hasBit (t .busy) c ≡ false))
+
+-- one for each
+pub record Cells (s : Station) (x y : Up) : Type 0 where
+  pub one : ℕ
+  pub other : ℕ
+  pub apart : one ≡ other → ⊥
+  pub for-x : CellFor (numberOf s x) (x .slot) (tableOf s) one
+  pub for-y : CellFor (numberOf s y) (y .slot) (tableOf s) other
+
+-- no message lands with x
+abbrev pub LandsNone : Net → Up → Type 0
+LandsNone n x = hasLanded (takes (n .station) x (tableOf (n .station)) (n .store) .landed) ≡ false
+
+-- pieces of two boats, a cell for each and no message landing with either: after both, in either order, every message, those of the two boats among them, has
+-- equal joined bytes and equal waiting pieces. Two new messages may have changed cells
 abbrev pub Commutes : Net → Type 0
 Commutes n =
-    (x y : Up) → IsUp (n .station) x → IsUp (n .station) y → (x .slot ≡ y .slot → ⊥) → Calmly n x y → Calmly n y x
+    (x y : Up) → IsUp (n .station) x → IsUp (n .station) y → (x .slot ≡ y .slot → ⊥) → Cells (n .station) x y → LandsNone n x → LandsNone n y
     → (s k : ℕ) → boxOf (both n x y .table) (both n x y .store) s k ≡ boxOf (both n y x .table) (both n y x .store) s k
 
 -- ---- the laws
