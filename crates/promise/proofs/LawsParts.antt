@@ -13,7 +13,7 @@ use Rattle.inbox.specs.declared.keep.Kept.{Kept}
 use Rattle.inbox.specs.declared.keep.Kept.the-variants.{Needless, Yes, Late, Long, NoCell, NoPlace}
 use Rattle.inbox.specs.Cells.{Held, accept}
 use Rattle.inbox.specs.Keeping.{keptOf}
-use Rattle.inbox.specs.Messages.{Piece, accept-all, Covered, Cut, framed}
+use Rattle.inbox.specs.Messages.{Piece, empty, accept-all, Covered, Cut, KeptBy, framed}
 use Rattle.inbox.proofs.Joined.{HasRoom, Inv, accept-all-inv}
 use Rattle.inbox.proofs.Rule.{kept-room}
 use Rattle.stream.specs.declared.window.Window.{Window}
@@ -22,8 +22,8 @@ use Rattle.stream.specs.Table.{isLost}
 use Rattle.net.specs.State.{memberAt}
 use Rattle.net.specs.Net.{isMember}
 use Rattle.promise.specs.Promise.{Net, Sent, Book}
-use Rattle.promise.specs.Laws.{Placed, from, SameJoined, Splits, AllSplit}
-use Rattle.promise.proofs.Ledgers.{Cov}
+use Rattle.promise.specs.Laws.{Placed, from, SameJoined, Splits, CellSplits, AllSplit}
+use Rattle.promise.proofs.Ledgers.{Cov, empty-inv}
 use Rattle.promise.proofs.Ties.{aim}
 use Rattle.promise.proofs.Quiet.{viewOf}
 use Rattle.promise.proofs.Messages.{Tied}
@@ -174,6 +174,23 @@ splits number M C h v o p q cut one two turned =
       same-joined M _ _ _ _ w u (to-one C o p q n) (to-two C o p q n),
       same-joined M _ _ _ _ z u (turned-one C o p q n) (one-turned C o p q n),
     )
+-- ---- any cell that began empty
+
+kept-room-all : (number : ℕ) (M : List ℕ) (h : Held) (ps : List Piece) → KeptBy number M h ps → HasRoom M h ps
+kept-room-all number M h [] k = tt
+kept-room-all number M h (p ∷ ps) k = (
+  k .0,
+  (
+    kept-room number (p .off) true (h .cell) (h .bytes) (p .bytes) (k .1 .0),
+    kept-room-all number M (accept h (p .off) (p .bytes)) ps (k .1 .1),
+  ),
+)
+
+pub cell-splits : CellSplits
+cell-splits number body bs ps small room kept =
+    splits number (framed body) (λ i. Cov (λ i. false) i ⊎ Covered ps i) (accept-all (empty bs) ps)
+    (accept-all-inv (framed body) (Cov (λ i. false)) (empty bs) ps (empty-inv body bs (λ i. false) small room (λ i. refl)) (kept-room-all number (framed body) (empty bs) ps kept))
+
 -- ---- any cell of a station that is tied to the book
 
 pub all-split : (M : Sent) → ((s k : ℕ) → length (M s k) ≤ 2046) → (n : Net) (b : Book) → Tied M n b → AllSplit M n

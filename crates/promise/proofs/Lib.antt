@@ -40,3 +40,4 @@ pub mod LawsParts
 pub mod LawsLevels
 pub mod LawsBoats
 pub mod Laws
+pub mod LawsRun

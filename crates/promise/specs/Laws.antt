@@ -18,7 +18,7 @@ use Rattle.wire.specs.Numbers.{widened}
 use Rattle.inbox.specs.Cells.{Held, held}
 use Rattle.inbox.specs.Cells as cells
 use Rattle.inbox.specs.Keeping.{keptOf}
-use Rattle.inbox.specs.Messages.{Piece, accept-all, framed, Cut}
+use Rattle.inbox.specs.Messages.{Piece, empty, accept-all, framed, Cut, KeptBy}
 use Rattle.inbox.specs.Stores.{cellOf}
 use Rattle.inbox.specs.Box.{Box, none, box-of}
 use Rattle.stream.specs.declared.table.Room.{Room}
@@ -76,6 +76,12 @@ Splits number whole h =
     → SameJoined (accept-all h (from o p ∷ from (o + length p) q ∷ [])) (accept-all h (from o (p ++ q) ∷ []))
     × SameJoined (accept-all h (from (o + length p) q ∷ from o p ∷ [])) (accept-all h (from o (p ++ q) ∷ []))
 
+-- so of any cell that began empty, in any bytes, and took pieces of one message alone, each cut from it and refused by no test of the kept rule
+abbrev pub CellSplits : Type 0
+CellSplits =
+    (number : ℕ) (body bs : List ℕ) (ps : List Piece) → length body ≤ 2046 → 6144 ≤ length bs → KeptBy number (framed body) (empty bs) ps
+    → Splits number (framed body) (accept-all (empty bs) ps)
+
 -- the cell that a piece of message k of slot s would go into, as it stands: the one that is filling with the message, or a free one, which is empty
 abbrev pub cellTo : Net → ℕ → ℕ → Held
 cellTo n s k =
@@ -83,7 +89,7 @@ cellTo n s k =
     let r = tableRoom t s k in
     held (cellFor r (cellAt t (placeOf r))) (cellOf (n .store) (placeOf r))
 
--- of every message of a boat that is not handed over and has a cell, or to which one is free
+-- and in the station: of every message of a boat that is not handed over and has a cell, or to which one is free
 abbrev pub AllSplit : Sent → Net → Type 0
 AllSplit M n =
     (s k : ℕ) → isMember (n .station .used) s ≡ true → k < 2 ^ 32 → handedOf (memberAt (n .station) s .up) k ≡ false
