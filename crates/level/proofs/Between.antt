@@ -1,13 +1,13 @@
 -- A smoothed level lies between the old and the new, ends included, when each is zero or 2 ^ -100 at least in size: each is halved exactly, so that only the sum rounds,
 -- and rounding keeps the order of a fraction with a value of the format. Assumes nothing.
 use mathlib.Core.Path.{_≡_, refl, sym, ap, _∙_, subst, subst⁻¹}
-use mathlib.Core.Logic.{_⊎_, inl, inr}
-use Prim.Native.Nat.{ℕ, zero, suc, _+_, _-_, _*_, _^_, _≤_, _<_, zero-le}
-use native.Mathlib.Nat.{le-trans, le-of-eq, le-of-lt, zero-lt-suc, mul-comm, mul-assoc, mul-left-comm, mul-right-comm, add-mul, add-comm, mul-pos, mul-le-mul-right, zero-mul, eq-zero-or-pos, lt-irrefl}
+use mathlib.Core.Logic.{inl, inr}
+use Prim.Native.Nat.{ℕ, _+_, _-_, _*_, _≤_, _<_, zero-le}
+use native.Mathlib.Nat.{le-trans, le-of-eq, zero-lt-suc, mul-comm, mul-assoc, mul-left-comm, add-mul, add-comm, mul-pos, mul-le-mul-right, zero-mul, eq-zero-or-pos, lt-irrefl}
 use native.Mathlib.Omega.{arith}
-use mathlib.Core.Bool.{Bool, true, false, cond, not, _&&_, _||_, true≢false}
-use lib.IntN.{ℤ, pos, negsuc}
-use lib.Dec.{T, leb, ltb, eqb, leb→le, ltb→lt, lt→ltb, nltb→le, eqb→eq, lit<}
+use mathlib.Core.Bool.{Bool, true, false, cond, not, true≢false}
+use lib.IntN.{ℤ, negsuc}
+use lib.Dec.{T, ltb, eqb, leb→le, nltb→le, eqb→eq, lit<}
 use lib.Ieee.{Float, nan, inf, fin, binary32, up, down, round, sum, add, mul, neg, le, fits, ofBits}
 use lib.Ieee.Fits.{down-pos, and-l, and-r, and-i}
 use lib.Ieee.Exact.{HasValue, round-exact}
@@ -15,7 +15,7 @@ use Rattle.level.specs.Between.{sized, Between}
 use Rattle.level.specs.Consts as consts
 use Rattle.level.specs.Levels.{smoothed}
 use Rattle.level.specs.declared.Level.the-variants.{Decibels}
-use Rattle.level.proofs.Le.{le-plus, le-minus, le-across, le-back, same-eqb}
+use Rattle.level.proofs.Le.{le-plus, le-minus, le-back, same-eqb}
 use Rattle.level.proofs.Value.{add-values, add-sym}
 use Rattle.level.proofs.Rounded.{Fit, fit, lower, upper, round-neg, le-neg, below-plus, neg-below, plus-round, halved}
 
@@ -39,7 +39,7 @@ module _ (A a B b : ℕ) (h : A * b ≤ B * a) where
 diff-high : (P B a b : ℕ) → (B * (2 * a) - P) * b ≤ B * (2 * a * (2 * b))
 diff-high P B a b =
     let k : (B * (2 * a) - P) * b ≤ B * (2 * a) * b = mul-le-mul-right b (under (B * (2 * a)) P) in
-    let r : B * (2 * a * (2 * b)) ≡ 2 * (B * (2 * a) * b) = simp (mul-assoc, mul-comm, mul-left-comm) in
+    let r : B * (2 * a * (2 * b)) ≡ 2 * (B * (2 * a) * b) = simp (mul-assoc, mul-left-comm) in
     omega arith
   where
     under : (x y : ℕ) → x - y ≤ x

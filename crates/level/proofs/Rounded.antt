@@ -1,9 +1,8 @@
 -- A fraction rounded, against a value of the format: a value that is at most n / c is at most n / c rounded, and so the other way round. With it the negative side:
 -- `round f true` is `round f false` negated. And a value of the format that is zero, or not too small, is halved exactly. Assumes nothing.
 use mathlib.Core.Path.{_≡_, refl, sym, ap, _∙_, subst, subst⁻¹}
-use mathlib.Core.Logic.{_⊎_, inl, inr}
 use Prim.Native.Nat.{ℕ, zero, suc, _+_, _-_, _*_, _%_, _^_, _≤_, _<_, zero-le}
-use native.Mathlib.Nat.{le-trans, le-of-eq, lt-of-lt-of-le, lt-of-le-of-lt, zero-lt-suc, mul-one, one-mul, zero-mul, mul-comm, mul-assoc, mul-left-comm, mul-right-comm, mul-pos, mul-le-mul-right, mul-lt-mul-of-pos-right, le-of-mul-le-mul-right, lt-of-mul-lt-mul-right, not-le-of-lt, lt-of-not-le, le-of-suc-le-suc}
+use native.Mathlib.Nat.{le-trans, le-of-eq, lt-of-lt-of-le, lt-of-le-of-lt, mul-one, one-mul, zero-mul, mul-assoc, mul-pos, mul-le-mul-right, not-le-of-lt, lt-of-not-le, le-of-suc-le-suc}
 use native.Mathlib.Omega.{arith}
 use mathlib.Core.Bool.{Bool, true, false, not, cond, _&&_, _||_, true≢false}
 use lib.IntN.{ℤ, pos, negsuc}

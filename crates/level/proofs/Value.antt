@@ -1,16 +1,15 @@
 -- A float by a fraction that it equals (`HasValue x s a c`: x is finite, has the sign s and is a / c in size): sums, and comparison with a value. Assumes nothing.
 use mathlib.Core.Path.{_≡_, refl, sym, ap, _∙_}
 use Prim.Native.Nat.{ℕ, _+_, _-_, _*_, _<_, _≤_}
-use native.Mathlib.Nat.{mul-comm, mul-right-comm, mul-mul-mul-comm, mul-pos, add-mul, mul-sub, add-comm, lt-irrefl, lt-trans}
+use native.Mathlib.Nat.{mul-comm, mul-mul-mul-comm, mul-pos, add-mul, mul-sub, add-comm, lt-irrefl, lt-trans}
 use native.Mathlib.Omega.{arith}
-use mathlib.Core.Bool.{Bool, true, false, Bool·beq, cond, not, _&&_, true≢false}
-use lib.IntN.{ℤ}
-use lib.Dec.{T, leb, ltb, ltb→lt, nltb→le}
-use lib.Ieee.{Float, nan, inf, fin, Format, up, down, round, sum, add, le}
+use mathlib.Core.Bool.{Bool, true, false, Bool·beq, cond, not, _&&_}
+use lib.Dec.{T, ltb, ltb→lt, nltb→le}
+use lib.Ieee.{Float, nan, inf, fin, Format, up, down, round, sum, add}
 use lib.Ieee.Fits.{down-pos}
 use lib.Ieee.Exact.{HasValue}
 use lib.Ieee.Scale.{round-same}
-use Rattle.level.proofs.Le.{le-plus, leb-scale, ltb-scale}
+use Rattle.level.proofs.Le.{ltb-scale}
 
 -- ---- `sum` sees only the values of its two fractions
 module _ (f : Format) (s : Bool) (X : ℕ) (t : Bool) (Y C X' Y' C' : ℕ) (c : 0 < C) (c' : 0 < C') (p : X * C' ≡ X' * C) (q : Y * C' ≡ Y' * C) where

@@ -34,7 +34,7 @@ use Rattle.stream.specs.declared.window.Window.{Window}
 use Rattle.stream.specs.declared.table.Room.{Room}
 use Rattle.stream.specs.declared.table.Room.the-variants.{Own, Free, Full}
 use Rattle.stream.specs.Window.{handedOf, freshOf}
-use Rattle.stream.specs.Table.{Table, Accepted, accept, noCell, isOwn, cellAt, cellCount, cellFor, placeOf, hasRoom, ownerOf, roomFor, tableRoom, changes, hasLanded, keptTable, putIn}
+use Rattle.stream.specs.Table.{Table, Accepted, accept, noCell, isOwn, cellAt, cellCount, cellFor, placeOf, hasRoom, ownerOf, roomFor, tableRoom, changes, hasLanded, putIn}
 use Rattle.stream.proofs.Rooms.{RoomIs, room-is, own-filling, filling-own, owner-same, cells-are}
 use Rattle.stream.proofs.Tables.{Tidy, filling, kept-other, filling-other, place-in}
 use Rattle.stream.proofs.Windows.{Sound, sound-next}
@@ -43,7 +43,7 @@ use Rattle.net.specs.declared.Station.{Station}
 use Rattle.net.specs.State.{memberAt, tableOf}
 use Rattle.net.specs.Net.{isMember}
 use Rattle.promise.specs.Promise.{Net}
-use Rattle.promise.specs.Laws.{noneYet, boxIn, Up, takes, both, IsUp, numberOf, CellFor, Cells, LandsNone, Commutes}
+use Rattle.promise.specs.Laws.{noneYet, boxIn, Up, takes, both, IsUp, numberOf, CellFor, LandsNone, Commutes}
 use Rattle.promise.proofs.Sounds.{Fit}
 
 -- ---- what is held of the message of an owner
@@ -284,12 +284,15 @@ module _ (t : Table) (w : Window) (store : List ℕ) (slot field : ℕ) (p : Lis
             let q = kept-other t c (ownerOf slot k) (putIn store c h .taken) d n in
             let l = tidy .within d (f .taken) in
             let m = tidy .room in
-            inl (d, record {
-              was = own-room t store tidy o d f;
-              is = own-room t′ store′ tidy′ o d (record { taken = q .0 ∙ f .taken; open-yet = q .1 ∙ f .open-yet; holds = q .2 ∙ f .holds });
-              cell = q .3;
-              bytes = in-other store c (h .bytes) in-store long d n (omega arith);
-            })
+            inl (
+              d,
+              record {
+                was = own-room t store tidy o d f;
+                is = own-room t′ store′ tidy′ o d (record { taken = q .0 ∙ f .taken; open-yet = q .1 ∙ f .open-yet; holds = q .2 ∙ f .holds });
+                cell = q .3;
+                bytes = in-other store c (h .bytes) in-store long d n (omega arith);
+              },
+            )
 
         still : ((d : ℕ) → filling t d o → ⊥) → (d : ℕ) → filling t′ d o → ⊥
         still none d f =

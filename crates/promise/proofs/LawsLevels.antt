@@ -1,6 +1,6 @@
 -- Every level up, and every level at which a boat was heard directly, is a value of f32 after any calls from a start, where those handed in are: so the law of
 -- smoothing holds of each. Assumes nothing.
-use mathlib.Core.Path.{_≡_, refl, sym, ap, subst}
+use mathlib.Core.Path.{_≡_, refl, sym, subst}
 use mathlib.Core.Bool.{Bool, true, false, not, cond, _&&_, _||_}
 use mathlib.Core.List.{List, [], _∷_}
 use Prim.Native.Nat.{ℕ, zero, suc, _+_, _/_, _%_}
@@ -44,22 +44,22 @@ use Rattle.next.specs.declared.Due.{Due}
 use Rattle.next.specs.declared.Due.the-variants as due
 use Rattle.next.specs.declared.Act.{Act}
 use Rattle.next.specs.declared.Act.the-variants as act
-use Rattle.next.specs.Next.{Decision, pollBy, pollStage, drawn, drawStage, reroutedStage, rerouteStage, listStage, roundEnd, hurried, actOf, actBy, actStage, windowStage, closeStage, againStage, missedIn, missedStage, dueOf, byDue, ncsNext}
+use Rattle.next.specs.Next.{Decision, pollBy, pollStage, drawn, drawStage, reroutedStage, rerouteStage, listStage, roundEnd, hurried, actOf, actBy, windowStage, closeStage, againStage, missedIn, missedStage, dueOf, byDue, ncsNext}
 use Rattle.next.specs.Next as next
 use Rattle.admit.specs.declared.Seat.{Seat}
 use Rattle.admit.specs.declared.Seat.the-variants.{Known, Free, Full}
 use Rattle.admit.specs.Admission.{seatOf, slotOf, isFull, viaFor, admitBy}
 use Rattle.frames.specs.declared.Air.{Air}
-use Rattle.frames.specs.Reading.{Reading, alsoSaid, onStation}
-use Rattle.frames.specs.Control.{checkinMember, checkedIn, withActive, callAt, checkinFrame, isForwarded, reportMember, reportSays, reportStation, reportFrame, relayOf, newcomer, heardBy, overheardBy, overheardEntry, overheardFrame, isKid, kidMember, kidEntry, kidsFrame}
-use Rattle.frames.specs.Pieces.{directIf, isAsideLeaf, heardMember, pieceMember, isRelayed, relayIf, trafficIf, keptPiece, pieceFrame}
+use Rattle.frames.specs.Reading.{Reading, alsoSaid}
+use Rattle.frames.specs.Control.{checkinMember, checkedIn, withActive, callAt, checkinFrame, isForwarded, reportMember, reportStation, reportFrame, relayOf, newcomer, heardBy, overheardBy, overheardEntry, overheardFrame, isKid, kidMember, kidEntry, kidsFrame}
+use Rattle.frames.specs.Pieces.{isAsideLeaf, heardMember, pieceMember, isRelayed, relayIf, trafficIf, keptPiece, pieceFrame}
 use Rattle.frames.specs.Frames.{controlBy, readFrame, frameStep, readFrames}
 use Rattle.rx.specs.Ending.{busyWait, turnOverIn, idleMember, idleHeard, idleBy, idleEnd, replyMember, replyHeard, answerBy, goesOn, isReply, replyBy, replyEnd, nothingMore, Ended}
-use Rattle.rx.specs.Reception.{Received, airOf, firstReading, receivedOf, ncsRx}
+use Rattle.rx.specs.Reception.{Received, airOf, firstReading, ncsRx}
 use Rattle.config.specs.declared.Given.{Given}
 use Rattle.config.specs.Checks.{settingsOf}
 use Rattle.station.specs.Entries.{Outcome, receiveBy, receiveRefusal, receiveOf, admitRefusal, admitOf, nextRefusal, nextOf, sentOf, check1, closeRefusal, closeOf, cellRefusal, readRefusal, freeOf, startRefusal, startOf, done, refused}
-use Rattle.promise.specs.Promise.{Lent, lentTo, Net, net, Call, admission, reception, decision, sending, closing, reading, freeing, result, outcome, step, after, started}
+use Rattle.promise.specs.Promise.{lentTo, Net, Call, admission, reception, decision, sending, closing, reading, freeing, result, step, after, started}
 use Rattle.promise.specs.Laws.{LevelOk, LevelsOk, Smooths}
 use Rattle.promise.proofs.QuietRx.{each-keeps}
 

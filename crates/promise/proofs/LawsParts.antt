@@ -1,7 +1,7 @@
 -- One more piece of a cell's message, whole or in two parts in either order, joins the same bytes: each way covers the same, and the joined bytes are the message's up
 -- to the first byte that is not covered. Assumes nothing.
 use mathlib.Core.Path.{_≡_, refl, sym, ap, _∙_}
-use mathlib.Core.Bool.{Bool, true, false, cond}
+use mathlib.Core.Bool.{true, false, cond}
 use mathlib.Core.List.{List, [], _∷_, _++_}
 use mathlib.Core.Logic.{_⊎_, inl, inr, ⊎-elim}
 use Prim.Native.Nat.{ℕ, _+_, _≤_, _<_}
@@ -174,6 +174,7 @@ splits number M C h v o p q cut one two turned =
       same-joined M _ _ _ _ w u (to-one C o p q n) (to-two C o p q n),
       same-joined M _ _ _ _ z u (turned-one C o p q n) (one-turned C o p q n),
     )
+
 -- ---- any cell that began empty
 
 kept-room-all : (number : ℕ) (M : List ℕ) (h : Held) (ps : List Piece) → KeptBy number M h ps → HasRoom M h ps

@@ -1,13 +1,12 @@
 -- The laws on calls that meet their premises, and one that shows a premise needed for each of two. By computation; assumes nothing.
 use mathlib.Core.Path.{_≡_, refl}
-use mathlib.Core.Bool.{Bool, true, false}
-use mathlib.Core.List.{List, [], _∷_}
+use mathlib.Core.Bool.{true, false}
+use mathlib.Core.List.{[], _∷_}
 use mathlib.Core.Logic.{inr}
-use Prim.Native.Nat.{ℕ, _^_, _<_}
 use native.Mathlib.Omega.{arith}
-use lib.ListN.{length, getD}
+use lib.ListN.{getD}
 use lib.IntN.{negsuc}
-use lib.Ieee.{Float, fin, binary32, fits, round, ofBits, add, sum, mul, le}
+use lib.Ieee.{Float, fin, round, ofBits, add, sum, mul, le}
 use Rattle.bits.specs.Loop.{first}
 use Rattle.bits.specs.Mask.{hasBit, withBit, lowestFree}
 use Rattle.level.specs.declared.Level.the-variants.{Decibels}

@@ -2,7 +2,7 @@
 -- getting the store that the last one left. In order: a smoothed level lies between old and new; a piece may come in two parts; two boats' pieces may change places.
 use Prim.Native.Nat.{ℕ, _+_, _/_, _%_, _^_, _≤_, _<_}
 use mathlib.Core.Path.{_≡_}
-use mathlib.Core.Bool.{Bool, true, false}
+use mathlib.Core.Bool.{true, false}
 use mathlib.Core.List.{List, [], _∷_, _++_}
 use mathlib.Core.Logic.{_⊎_}
 use lib.ListN.{length, getD, take, replicate}
