@@ -6,13 +6,13 @@ use mathlib.Core.List.{List}
 use mathlib.Core.Logic.{_⊎_, inl, inr, ⊎-elim}
 use Prim.Native.Nat.{ℕ, _+_, _*_, _/_, _%_, _^_, _≤_, _<_}
 use native.Mathlib.Omega.{arith}
-use lib.Dec.{leb}
+use lib.Dec.{leb, eqb}
 use lib.ListN.{length, getD, take}
 use lib.Seq.{getD-set-same, getD-take, length-take-le}
 use borrow.Author.Tests.{leb-true}
 use Rattle.bits.specs.Mask.{hasBit, withBit}
 use Rattle.bits.proofs.Laws.{with-same}
-use Rattle.bits.proofs.Lists.{cond-true, cond-false, cases, eq-or-not, never-both}
+use Rattle.bits.proofs.Lists.{cond-true, cond-false, cond-keeps, cases, eq-or-not, never-both}
 use Rattle.wire.specs.declared.number.Number.{Number}
 use Rattle.wire.specs.declared.number.Number.the-variants.{Is, Before}
 use Rattle.wire.specs.Numbers.{widened}
@@ -33,7 +33,7 @@ use Rattle.inbox.proofs.Steps.{empty-fits}
 use Rattle.stream.specs.declared.window.Window.{Window}
 use Rattle.stream.specs.declared.table.Room.{Room}
 use Rattle.stream.specs.declared.table.Room.the-variants.{Own, Free, Full}
-use Rattle.stream.specs.Window.{handedOf, freshOf}
+use Rattle.stream.specs.Window.{handedOf, freshOf, landOf}
 use Rattle.stream.specs.Table.{Table, Accepted, accept, noCell, isOwn, cellAt, cellCount, cellFor, placeOf, hasRoom, ownerOf, roomFor, tableRoom, changes, hasLanded, putIn}
 use Rattle.stream.proofs.Rooms.{RoomIs, room-is, own-filling, filling-own, owner-same, cells-are}
 use Rattle.stream.proofs.Tables.{Tidy, filling, kept-other, filling-other, place-in}
@@ -42,8 +42,15 @@ use Rattle.stream.proofs.Accepts.{leftAs, answerOf, cellIn, heldAfter, putAs, a
 use Rattle.net.specs.declared.Station.{Station}
 use Rattle.net.specs.State.{memberAt, tableOf}
 use Rattle.net.specs.Net.{isMember}
+use Rattle.frames.specs.declared.Air.{Air}
+use Rattle.frames.specs.Reading.{Reading}
+use Rattle.frames.specs.Pieces.{isRelayed, relayIf, trafficIf, unkeptAt, keptPiece, pieceFrame}
+use Rattle.rx.specs.Reception.{firstReading}
 use Rattle.promise.specs.Promise.{Net}
-use Rattle.promise.specs.Laws.{noneYet, boxIn, Up, takes, both, IsUp, numberOf, CellFor, LandsNone, Commutes}
+use Rattle.promise.specs.Laws.{noneYet, boxIn, Up, readsUp, both, IsUp, numberOf, CellFor, Cells, LandsNone, Commutes}
+use Rattle.promise.proofs.Ties.{View}
+use Rattle.promise.proofs.Quiet.{windowAt}
+use Rattle.promise.proofs.Readings.{piece-view, piece-long}
 use Rattle.promise.proofs.Sounds.{Fit}
 
 -- ---- what is held of the message of an owner
@@ -403,6 +410,14 @@ module _ (t : Table) (w : Window) (store : List ℕ) (slot field : ℕ) (p : Lis
 
 -- ---- two pieces of two boats
 
+abbrev takes : Station → Up → Table → List ℕ → Accepted
+takes s x t store = accept t (memberAt s (x .slot) .up) store (x .slot) (x .field) (x .bytes)
+
+abbrev two : Net → Up → Up → Accepted
+two n x y =
+    let r = takes (n .station) x (tableOf (n .station)) (n .store) in
+    takes (n .station) y (r .table) (r .store)
+
 module _ (n : Net) (f : Fit n) where
   abbrev s : Station
   s = n .station
@@ -457,10 +472,10 @@ module _ (n : Net) (f : Fit n) where
 
     -- the message of x
     for-first : (k : ℕ) → Its x o k → Calm x k t₀ (n .store) → Calm x k (one y .table) (one y .store)
-        → boxAt (both n x y .table) (both n x y .store) o ≡ boxAt (both n y x .table) (both n y x .store) o
+        → boxAt (two n x y .table) (two n x y .store) o ≡ boxAt (two n y x .table) (two n y x .store) o
     for-first k m a b =
         let ty = other t₀ (win y) (n .store) (y .slot) (y .field) (y .bytes) (f .view .tidy) (v .short) o (not-its k m) in
-        same-box (one x .table) (one x .store) (both n x y .table) (both n x y .store) o
+        same-box (one x .table) (one x .store) (two n x y .table) (two n x y .store) o
         (other (one x .table) (win y) (one x .store) (y .slot) (y .field) (y .bytes) (tidy-one x u) (v .short) o (not-its k m))
         ∙ own-at t₀ (n .store) (f .view .tidy) a
         ∙ sym (ap₂ (grown k (x .field % 65536) (x .bytes)) (same-asked t₀ (n .store) (one y .table) (one y .store) o ty) (same-box t₀ (n .store) (one y .table) (one y .store) o ty))
@@ -475,9 +490,9 @@ module _ (n : Net) (f : Fit n) where
 
     -- a message of neither
     for-neither : ((k : ℕ) → Named (win x) (x .field) k → o ≡ ownerOf (x .slot) k → ⊥) → ((k : ℕ) → Named (win y) (y .field) k → o ≡ ownerOf (y .slot) k → ⊥)
-        → boxAt (both n x y .table) (both n x y .store) o ≡ boxAt t₀ (n .store) o
+        → boxAt (two n x y .table) (two n x y .store) o ≡ boxAt t₀ (n .store) o
     for-neither a b =
-        same-box (one x .table) (one x .store) (both n x y .table) (both n x y .store) o
+        same-box (one x .table) (one x .store) (two n x y .table) (two n x y .store) o
         (other (one x .table) (win y) (one x .store) (y .slot) (y .field) (y .bytes) (tidy-one x u) (v .short) o b)
         ∙ same-box t₀ (n .store) (one x .table) (one x .store) o
         (other t₀ (win x) (n .store) (x .slot) (x .field) (x .bytes) (f .view .tidy) (u .short) o a)
@@ -524,8 +539,9 @@ module _ (n : Net) (f : Fit n) where
             own-stays a (inl (j, b)) = ap hasRoom (b .is)
             own-stays a (inr b) = absurd (subst NotOwn a (b .0))
 
-  pub commutes : Commutes n
-  commutes x y u v apart a qx qy i k =
+  either-way : (x y : Up) → IsUp s x → IsUp s y → (x .slot ≡ y .slot → ⊥) → Cells s x y → LandsNone n x → LandsNone n y
+      → (i k : ℕ) → boxAt (two n x y .table) (two n x y .store) (ownerOf i k) ≡ boxAt (two n y x .table) (two n y x .store) (ownerOf i k)
+  either-way x y u v apart a qx qy i k =
       let o = ownerOf i k in
       let back : y .slot ≡ x .slot → ⊥ = λ e. apart (sym e) in
       ⊎-elim
@@ -540,3 +556,82 @@ module _ (n : Net) (f : Fit n) where
       (λ q. for-neither x y u v apart o p q ∙ sym (for-neither y x v u back o q p))
       (whose y o))
       (whose x o)
+
+-- ---- as frames are read
+
+-- a piece that is not kept changes no cell
+lost-same : (t : Table) (w : Window) (store : List ℕ) (slot field : ℕ) (p : List ℕ) → accept t w store slot field p .lost ≡ true
+    → (accept t w store slot field p .table ≡ t) × (accept t w store slot field p .store ≡ store)
+lost-same t w store slot field p =
+    accept-cases t w store slot field p (λ x. x .lost ≡ true → (x .table ≡ t) × (x .store ≡ store))
+    (λ e q. absurd (never-both false q refl)) (λ k e h q. absurd (never-both false q refl)) (λ k u a e c q. (refl, refl)) (λ k u e q. absurd (never-both false q refl))
+
+module _ (a : Air) (x : Up) (r : Reading) (here : isMember (r .station .used) (x .slot) ≡ true) (many : length (r .station .members) ≡ 62) where
+  abbrev d : Accepted
+  d = takes (r .station) x (tableOf (r .station)) (r .store)
+
+  record ReadAs (z : Reading) : Type 0 where
+    pub table : tableOf (z .station) ≡ d .table
+    pub store : z .store ≡ d .store
+    pub used : z .station .used ≡ r .station .used
+    pub long : length (z .station .members) ≡ 62
+    pub windows : hasLanded (d .landed) ≡ false → (i : ℕ) → windowAt (z .station) i ≡ windowAt (r .station) i
+
+  relay-used : (b : Bool) (s : Station) → relayIf b s .used ≡ s .used
+  relay-used true s = refl
+  relay-used false s = refl
+
+  traffic-used : (b : Bool) (s : Station) → trafficIf b s .used ≡ s .used
+  traffic-used true s = refl
+  traffic-used false s = refl
+
+  kept-as : ReadAs (keptPiece a (x .slot) d r)
+  kept-as =
+      let v = piece-view a (x .slot) d r here many in
+      record {
+        table = ap (λ (y : View). y .table) v;
+        store = refl;
+        used = relay-used (isRelayed a (r .station) (x .slot) d) _ ∙ traffic-used (hasLanded (d .landed)) _;
+        long = piece-long a (x .slot) d r here many;
+        windows = λ q i.
+            ap (λ (y : View). y .windows i) v
+            ∙ ap (λ (b : Bool). cond (b && eqb (x .slot) i) (landOf (windowAt (r .station) i) (d .number)) (windowAt (r .station) i)) q;
+      }
+
+  read-as : ReadAs (readsUp a x r)
+  unfolding pieceFrame
+  read-as =
+      cond-keeps ReadAs (isMember (r .station .used) (x .slot)) _ r
+      (λ _. cond-keeps ReadAs (d .lost) (unkeptAt r) (keptPiece a (x .slot) d r)
+      (λ q.
+      let z = lost-same (tableOf (r .station)) (memberAt (r .station) (x .slot) .up) (r .store) (x .slot) (x .field) (x .bytes) q in
+      record { table = sym (z .0); store = sym (z .1); used = refl; long = many; windows = λ _ i. refl })
+      (λ q. kept-as))
+      (λ q. absurd (never-both (isMember (r .station .used) (x .slot)) here q))
+
+module _ (n : Net) (f : Fit n) where
+  -- the cells and the store after two frames
+  both-is : (a b : Air) (x y : Up) → IsUp (n .station) x → IsUp (n .station) y → LandsNone n x
+      → (tableOf (both n a x b y .station) ≡ two n x y .table) × (both n a x b y .store ≡ two n x y .store)
+  both-is a b x y u v q =
+      let r = firstReading (n .station) (n .store) in
+      let z = readsUp a x r in
+      let one = read-as a x r (u .boat) (f .long) in
+      let here : isMember (z .station .used) (y .slot) ≡ true = ap (λ (k : ℕ). isMember k (y .slot)) (one .used) ∙ v .boat in
+      let next = read-as b y z here (one .long) in
+      let same : memberAt (z .station) (y .slot) .up ≡ memberAt (n .station) (y .slot) .up =
+      sym (cond-true (isMember (z .station .used) (y .slot)) (memberAt (z .station) (y .slot) .up) freshOf here)
+      ∙ one .windows q (y .slot)
+      ∙ cond-true (isMember (n .station .used) (y .slot)) (memberAt (n .station) (y .slot) .up) freshOf (v .boat) in
+      let all : takes (z .station) y (tableOf (z .station)) (z .store) ≡ two n x y =
+      ap (λ (w : Window). accept (tableOf (z .station)) w (z .store) (y .slot) (y .field) (y .bytes)) same
+      ∙ ap₂ (λ (t : Table) (store : List ℕ). accept t (memberAt (n .station) (y .slot) .up) store (y .slot) (y .field) (y .bytes)) (one .table) (one .store) in
+      (next .table ∙ ap (λ (k : Accepted). k .table) all, next .store ∙ ap (λ (k : Accepted). k .store) all)
+
+  pub commutes : Commutes n
+  commutes x y u v apart cells qx qy a b i k =
+      let p = both-is a b x y u v qx in
+      let q = both-is b a y x v u qy in
+      ap₂ (λ (t : Table) (store : List ℕ). boxAt t store (ownerOf i k)) (p .0) (p .1)
+      ∙ either-way n f x y u v apart cells qx qy i k
+      ∙ sym (ap₂ (λ (t : Table) (store : List ℕ). boxAt t store (ownerOf i k)) (q .0) (q .1))

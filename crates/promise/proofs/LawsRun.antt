@@ -24,9 +24,12 @@ use Rattle.net.specs.declared.Settings.{Settings}
 use Rattle.net.specs.State.{memberAt, tableOf}
 use Rattle.net.specs.Net.{isMember, newStation}
 use Rattle.admit.specs.Admission.{findCall, seatOf, leadsTo}
+use Rattle.frames.specs.declared.Air.{Air}
+use Rattle.frames.specs.Reading.{Reading}
+use Rattle.frames.specs.Pieces.{pieceFrame}
 use Rattle.station.specs.Entries.{admitRefusal, admitOf}
 use Rattle.promise.specs.Promise.{Net, Call, admission, result, step, after}
-use Rattle.promise.specs.Laws.{Placed, from, cellTo, noneYet, boxOf, Up, both, IsUp, Cells, LandsNone}
+use Rattle.promise.specs.Laws.{Placed, from, cellTo, noneYet, Up, both, boxAfter, IsUp, Cells, LandsNone}
 use Rattle.promise.proofs.Runs.{nought, joins, one-cell}
 use Rattle.promise.proofs.Alike.{three-cells}
 
@@ -46,6 +49,16 @@ x = record { slot = 0; field = 0; bytes = 5 ∷ 0 ∷ 9 ∷ [] }
 abbrev y : Up
 y = record { slot = 1; field = 2; bytes = 7 ∷ [] }
 
+-- the bursts that they come in
+abbrev air : Air
+air = record { level = nought; time = nought; aside = false; polled = 255; start = 3 }
+
+abbrev xy : Net → Reading
+xy n = both n air x air y
+
+abbrev yx : Net → Reading
+yx n = both n air y air x
+
 -- with cells for both the premises hold; the two messages change cells with the order, and what is held of each is something
 pub record BoatsRun (n : Net) : Type 0 where
   pub first : IsUp (n .station) x
@@ -53,13 +66,13 @@ pub record BoatsRun (n : Net) : Type 0 where
   pub cells : Cells (n .station) x y
   pub quiet : LandsNone n x
   pub quiet-too : LandsNone n y
-  pub before : tableRoom (both n x y .table) 0 0 ≡ Own 0
-  pub behind : tableRoom (both n y x .table) 0 0 ≡ Own 1
-  pub joined : boxOf (both n y x .table) (both n y x .store) 0 0 .joined ≡ 5 ∷ 0 ∷ 9 ∷ []
-  pub waits : getD (boxOf (both n x y .table) (both n x y .store) 1 0 .places) 0 none ≡ from 2 (7 ∷ [])
+  pub before : tableRoom (tableOf (xy n .station)) 0 0 ≡ Own 0
+  pub behind : tableRoom (tableOf (yx n .station)) 0 0 ≡ Own 1
+  pub joined : boxAfter (yx n) 0 0 .joined ≡ 5 ∷ 0 ∷ 9 ∷ []
+  pub waits : getD (boxAfter (xy n) 1 0 .places) 0 none ≡ from 2 (7 ∷ [])
 
 pub boats-run : (g : Settings) → BoatsRun (two-boats (three-cells g))
-unfolding step after result admitOf admitRefusal newStation seatOf findCall first lowestFree hasBit withBit leadsTo unpacked digit char trimStart trimEnd isMember accept widened widenedAt ownCell putOf cells.accept settle grow store await seek next pieces-of
+unfolding step after result admitOf admitRefusal newStation seatOf findCall first lowestFree hasBit withBit leadsTo unpacked digit char trimStart trimEnd isMember pieceFrame accept widened widenedAt ownCell putOf cells.accept settle grow store await seek next pieces-of
 boats-run g =
     record {
       first = record { boat = refl; short = omega arith };
@@ -74,9 +87,8 @@ boats-run g =
     }
 
 -- with one cell for two the order counts
-pub one-cell-short : (g : Settings) → (boxOf (both (two-boats (one-cell g)) x y .table) (both (two-boats (one-cell g)) x y .store) 0 0 .joined ≡ 5 ∷ 0 ∷ 9 ∷ [])
-    × (boxOf (both (two-boats (one-cell g)) y x .table) (both (two-boats (one-cell g)) y x .store) 0 0 ≡ noneYet)
-unfolding step after result admitOf admitRefusal newStation seatOf findCall first lowestFree hasBit withBit leadsTo unpacked digit char trimStart trimEnd isMember accept widened widenedAt ownCell putOf cells.accept settle grow store await seek next pieces-of
+pub one-cell-short : (g : Settings) → (boxAfter (xy (two-boats (one-cell g))) 0 0 .joined ≡ 5 ∷ 0 ∷ 9 ∷ []) × (boxAfter (yx (two-boats (one-cell g))) 0 0 ≡ noneYet)
+unfolding step after result admitOf admitRefusal newStation seatOf findCall first lowestFree hasBit withBit leadsTo unpacked digit char trimStart trimEnd isMember pieceFrame accept widened widenedAt ownCell putOf cells.accept settle grow store await seek next pieces-of
 one-cell-short g = (refl, refl)
 
 -- ---- a piece in two parts

@@ -24,10 +24,14 @@ use Rattle.inbox.specs.Box.{Box, none, box-of}
 use Rattle.stream.specs.declared.table.Room.{Room}
 use Rattle.stream.specs.declared.table.Room.the-variants.{Own, Free, Full}
 use Rattle.stream.specs.Window.{handedOf}
-use Rattle.stream.specs.Table.{Table, Accepted, accept, ownerOf, isOwn, cellAt, cellFor, placeOf, hasRoom, tableRoom, isLost, hasLanded}
+use Rattle.stream.specs.Table.{Table, accept, ownerOf, isOwn, cellAt, cellFor, placeOf, hasRoom, tableRoom, isLost, hasLanded}
 use Rattle.net.specs.declared.Station.{Station}
 use Rattle.net.specs.State.{memberAt, tableOf}
 use Rattle.net.specs.Net.{isMember}
+use Rattle.frames.specs.declared.Air.{Air}
+use Rattle.frames.specs.Reading.{Reading}
+use Rattle.frames.specs.Pieces.{pieceFrame}
+use Rattle.rx.specs.Reception.{firstReading}
 use Rattle.config.specs.declared.Given.{Given}
 use Rattle.station.specs.Entries.{startRefusal}
 use Rattle.promise.specs.Promise.{Lent, Net, Call, reception, after, started, Sent, emptyBook, CallsOk}
@@ -117,15 +121,17 @@ pub record Up : Type 0 where
   pub field : ℕ
   pub bytes : List ℕ
 
--- accepted, with these cells and this store
-abbrev pub takes : Station → Up → Table → List ℕ → Accepted
-takes s x t store = accept t (memberAt s (x .slot) .up) store (x .slot) (x .field) (x .bytes)
+-- x read as a frame of the burst a, which has the level and the time
+abbrev pub readsUp : Air → Up → Reading → Reading
+readsUp a x r = pieceFrame a (x .slot) (x .field) (x .bytes) r
 
--- x, and then y
-abbrev pub both : Net → Up → Up → Accepted
-both n x y =
-    let r = takes (n .station) x (tableOf (n .station)) (n .store) in
-    takes (n .station) y (r .table) (r .store)
+-- x read in a burst a, and then y in a burst b
+abbrev pub both : Net → Air → Up → Air → Up → Reading
+both n a x b y = readsUp b y (readsUp a x (firstReading (n .station) (n .store)))
+
+-- what is held of message k of slot s then
+abbrev pub boxAfter : Reading → ℕ → ℕ → Box
+boxAfter r s k = boxOf (tableOf (r .station)) (r .store) s k
 
 -- a piece of a boat
 pub record IsUp (s : Station) (x : Up) : Type 0 where
@@ -152,14 +158,15 @@ pub record Cells (s : Station) (x y : Up) : Type 0 where
 
 -- no message lands with x
 abbrev pub LandsNone : Net → Up → Type 0
-LandsNone n x = hasLanded (takes (n .station) x (tableOf (n .station)) (n .store) .landed) ≡ false
+LandsNone n x =
+    hasLanded (accept (tableOf (n .station)) (memberAt (n .station) (x .slot) .up) (n .store) (x .slot) (x .field) (x .bytes) .landed) ≡ false
 
--- pieces of two boats, a cell for each and no message landing with either: after both, in either order, every message, those of the two boats among them, has
--- equal joined bytes and equal waiting pieces. Two new messages may have changed cells
+-- pieces of two boats, a cell for each and no message landing with either: after both, in either order and in any bursts, every message, those of the two boats
+-- among them, has equal joined bytes and equal waiting pieces. Two new messages may have changed cells
 abbrev pub Commutes : Net → Type 0
 Commutes n =
     (x y : Up) → IsUp (n .station) x → IsUp (n .station) y → (x .slot ≡ y .slot → ⊥) → Cells (n .station) x y → LandsNone n x → LandsNone n y
-    → (s k : ℕ) → boxOf (both n x y .table) (both n x y .store) s k ≡ boxOf (both n y x .table) (both n y x .store) s k
+    → (a b : Air) (s k : ℕ) → boxAfter (both n a x b y) s k ≡ boxAfter (both n b y a x) s k
 
 -- ---- the laws
 
