@@ -1,13 +1,13 @@
 -- A smoothed level lies between the old and the new, ends included, when each is zero or 2 ^ -100 at least in size: each is halved exactly, so that only the sum rounds,
 -- and rounding keeps the order of a fraction with a value of the format. Assumes nothing.
 use mathlib.Core.Path.{_≡_, refl, sym, ap, _∙_, subst, subst⁻¹}
-use mathlib.Core.Logic.{inl, inr}
+use mathlib.Core.Logic.{_⊎_, inl, inr, ⊎-elim}
 use Prim.Native.Nat.{ℕ, _+_, _-_, _*_, _≤_, _<_, zero-le}
-use native.Mathlib.Nat.{le-trans, le-of-eq, zero-lt-suc, mul-comm, mul-assoc, mul-left-comm, add-mul, add-comm, mul-pos, mul-le-mul-right, zero-mul, eq-zero-or-pos, lt-irrefl}
+use native.Mathlib.Nat.{le-trans, le-of-eq, le-of-lt, zero-lt-suc, mul-comm, mul-assoc, mul-left-comm, add-mul, add-comm, mul-pos, mul-le-mul-right, zero-mul, eq-zero-or-pos, lt-irrefl}
 use native.Mathlib.Omega.{arith}
 use mathlib.Core.Bool.{Bool, true, false, cond, not, true≢false}
 use lib.IntN.{ℤ, negsuc}
-use lib.Dec.{T, ltb, eqb, leb→le, nltb→le, eqb→eq, lit<}
+use lib.Dec.{T, ltb, eqb, leb→le, nltb→le, eqb→eq, lit<, leb, le→leb, ltb→lt}
 use lib.Ieee.{Float, nan, inf, fin, binary32, up, down, round, sum, add, mul, neg, le, fits, ofBits}
 use lib.Ieee.Fits.{down-pos, and-l, and-r, and-i}
 use lib.Ieee.Exact.{HasValue, round-exact}
@@ -15,7 +15,7 @@ use Rattle.level.specs.Between.{sized, Between}
 use Rattle.level.specs.Consts as consts
 use Rattle.level.specs.Levels.{smoothed}
 use Rattle.level.specs.declared.Level.the-variants.{Decibels}
-use Rattle.level.proofs.Le.{le-plus, le-minus, le-back, same-eqb}
+use Rattle.level.proofs.Le.{le-plus, le-minus, le-across, le-back, same-eqb}
 use Rattle.level.proofs.Value.{add-values, add-sym}
 use Rattle.level.proofs.Rounded.{Fit, fit, lower, upper, round-neg, le-neg, below-plus, neg-below, plus-round, halved}
 
@@ -172,6 +172,29 @@ mean-within (fin false m e) (fin true n d) p q u v h =
     (back m e n d (A * (2 * down d)) (B * (2 * down e)) (2 * down e * (2 * down d)) (fit binary32 false m e p) (mul-pos (two-pos (down e) (down-pos e)) (two-pos (down d) (down-pos d))) a b
     (ap (λ (x : ℕ). x * (2 * down d)) a ∙ zero-mul (2 * down d)) (ap (λ (x : ℕ). x * (2 * down e)) b ∙ zero-mul (2 * down e)))
 
+-- ---- of two finite numbers one is at most the other
+
+leb-total : (a b : ℕ) → T (leb a b) ⊎ T (leb b a)
+leb-total a b = go (ltb a b) (ltb→lt a b) (nltb→le a b)
+  where
+    go : (t : Bool) → (T t → a < b) → (T (not t) → b ≤ a) → T (leb a b) ⊎ T (leb b a)
+    go true f g = inl (le→leb a b (le-of-lt (f tt)))
+    go false f g = inr (le→leb b a (g tt))
+
+sized-total : (x y : Float) → T (sized x) → T (sized y) → T (le x y) ⊎ T (le y x)
+sized-total nan y u v = absurd u
+sized-total (inf s) y u v = absurd u
+sized-total (fin s m e) nan u v = absurd v
+sized-total (fin s m e) (inf t) u v = absurd v
+sized-total (fin true m e) (fin false n d) u v = inl (subst⁻¹ T (le-across m e n d) tt)
+sized-total (fin false m e) (fin true n d) u v = inr (subst⁻¹ T (le-across n d m e) tt)
+sized-total (fin false m e) (fin false n d) u v =
+    ⊎-elim (λ t. inl (subst⁻¹ T (le-plus m e n d) t)) (λ t. inr (subst⁻¹ T (le-plus n d m e) t)) (leb-total (m * up e * down d) (n * up d * down e))
+sized-total (fin true m e) (fin true n d) u v =
+    ⊎-elim (λ t. inl (subst⁻¹ T (le-minus m e n d) t)) (λ t. inr (subst⁻¹ T (le-minus n d m e) t)) (leb-total (n * up d * down e) (m * up e * down d))
+
+-- ---- the level's own half
+
 half-is : consts.half ≡ half
 unfolding ofBits
 half-is = refl
@@ -180,6 +203,7 @@ pub smoothed-between : (old new : Float) → T (fits binary32 old) → T (fits b
 smoothed-between old new p q u v =
     let e : smoothed (Decibels old) new ≡ mean old new = ap (λ (h : Float). add binary32 (mul binary32 h old) (mul binary32 h new)) half-is in
     record {
+      ordered = sized-total old new u v;
       rising = λ h. subst⁻¹ (Within old new) e (mean-within old new p q u v h);
       falling = λ h. subst⁻¹ (Within new old) (e ∙ add-sym binary32 (mul binary32 half old) (mul binary32 half new)) (mean-within new old q p v u h);
     }
