@@ -1,4 +1,3 @@
-pub mod Between
 pub mod Consts
 pub mod Levels
 pub mod Order

@@ -3,7 +3,6 @@ pub mod Rosters
 pub mod LinksNext
 pub mod LinksRx
 pub mod Links
-pub mod Dues
 pub mod Chains
 pub mod Monitor
 pub mod TurnsWords
@@ -25,19 +24,6 @@ pub mod Receptions
 pub mod Messages
 pub mod Sounds
 pub mod Item3
-pub mod Landings
-pub mod Marks
 pub mod Runs
 pub mod Alike
-pub mod MarksRun
 pub mod Needed
-pub mod SilentCount
-pub mod SilentNext
-pub mod SilentRx
-pub mod Silent
-pub mod SilentRun
-pub mod LawsParts
-pub mod LawsLevels
-pub mod LawsBoats
-pub mod Laws
-pub mod LawsRun

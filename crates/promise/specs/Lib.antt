@@ -1,5 +1,1 @@
 pub mod Promise
-pub mod Marks
-pub mod Balance
-pub mod Silent
-pub mod Laws

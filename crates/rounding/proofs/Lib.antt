@@ -1,2 +1,4 @@
 pub mod Value
 pub mod Rounding
+pub mod Rounded
+pub mod Between

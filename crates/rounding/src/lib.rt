@@ -1,4 +1,4 @@
-// Times in milliseconds as the beacon announces them: rounded to the nearest whole number, a tie away from zero.
+// Times in milliseconds as the beacon announces them: rounded to the nearest whole number, a tie away from zero. Its laws are of IEEE 754 arithmetic, smoothing among them.
 ghost use mathlib.Core.Path.{_≡_};
 ghost use Rattle.rounding.specs.Round.{announced};
 

@@ -31,7 +31,7 @@ use Rattle.next.specs.declared.Due.the-variants.{Free, Quiet, Close, Again, Mis
 use Rattle.next.specs.declared.Act.{Act}
 use Rattle.next.specs.declared.Act.the-variants as act
 use Rattle.next.specs.Next.{Decision, pollBy, pollStage, drawn, drawStage, reroutedStage, rerouteStage, listStage, roundEnd, hurried, actOf, actBy, actStage, windowStage, closeStage, againStage, turnOverIn, missedIn, missedStage, dueOf, byDue, ncsNext}
-use Rattle.promise.proofs.SilentCount.{Keeps, kept-same, kept-tally}
+use Rattle.laws.proofs.SilentCount.{Keeps, kept-same, kept-tally}
 
 abbrev pub KeepsSaid : Said → Type 0
 KeepsSaid x = Keeps (x .station)

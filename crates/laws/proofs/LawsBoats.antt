@@ -46,12 +46,12 @@ use Rattle.frames.specs.declared.Air.{Air}
 use Rattle.frames.specs.Reading.{Reading}
 use Rattle.frames.specs.Pieces.{isRelayed, relayIf, trafficIf, unkeptAt, keptPiece, pieceFrame}
 use Rattle.rx.specs.Reception.{firstReading}
 use Rattle.promise.specs.Promise.{Net}
-use Rattle.promise.specs.Laws.{noneYet, boxIn, Up, readsUp, both, IsUp, numberOf, CellFor, Cells, LandsNone, Commutes}
+use Rattle.laws.specs.Laws.{noneYet, boxIn, Up, readsUp, both, IsUp, numberOf, CellFor, Cells, LandsNone, Commutes}
 use Rattle.promise.proofs.Ties.{View}
 use Rattle.promise.proofs.Quiet.{windowAt}
 use Rattle.promise.proofs.Readings.{piece-view, piece-long}
 use Rattle.promise.proofs.Sounds.{Fit}
 
 -- ---- what is held of the message of an owner
 

@@ -19,7 +19,7 @@ use Rattle.level.specs.declared.Level.the-variants.{Unheard, Decibels}
 use Rattle.level.specs.declared.Clock.the-variants.{Never}
 use Rattle.level.specs.Consts.{nought, half, twentyFour}
 use Rattle.level.specs.Levels.{smoothed}
-use Rattle.level.proofs.Between.{smoothed-between}
+use Rattle.rounding.proofs.Between.{smoothed-between}
 use Rattle.wire.specs.Call.{unpackCall}
 use Rattle.wire.specs.Fields.{fieldDb, snrFromQ}
 use Rattle.wire.specs.Kinds.{tiny, kIdle, tUp, tCtrl, cCheckin, cReport, cOverheard, cKids}
@@ -59,9 +59,10 @@ use Rattle.rx.specs.Reception.{Received, airOf, firstReading, ncsRx}
 use Rattle.config.specs.declared.Given.{Given}
 use Rattle.config.specs.Checks.{settingsOf}
 use Rattle.station.specs.Entries.{Outcome, receiveBy, receiveRefusal, receiveOf, admitRefusal, admitOf, nextRefusal, nextOf, sentOf, check1, closeRefusal, closeOf, cellRefusal, readRefusal, freeOf, startRefusal, startOf, done, refused}
-use Rattle.promise.specs.Promise.{lentTo, Net, Call, admission, reception, decision, sending, closing, reading, freeing, result, step, after, started}
-use Rattle.promise.specs.Laws.{LevelOk, LevelsOk, Smooths}
+use Rattle.dues.specs.Dues.{duesRefusal}
+use Rattle.promise.specs.Promise.{lentTo, Net, Call, admission, reception, decision, sending, closing, reading, freeing, charging, result, step, after, started}
+use Rattle.laws.specs.Laws.{LevelOk, LevelsOk, Smooths}
 use Rattle.promise.proofs.QuietRx.{each-keeps}
 
 -- ---- the invariant
 
@@ -505,6 +506,7 @@ step-fits (closing count) n f l = closing-fits (n .station) count l
 step-fits (reading cell lent) n f l =
     cond-keeps FitsOutcome (eqb (readRefusal (length (lentTo lent (n .store))) (n .station .count) (n .station .landed) cell) 0) _ _ (λ _. l) (λ _. l)
 step-fits (freeing cell) n f l = freeing-fits (n .station) cell l
+step-fits (charging figures) n f l = cond-keeps FitsOutcome (eqb (duesRefusal figures) 0) _ _ (λ _. l) (λ _. l)
 
 after-fits : (cs : List Call) (n : Net) → LevelsOk cs → Fits (n .station) → Fits (after cs n .station)
 unfolding after

@@ -32,8 +32,8 @@ use Rattle.frames.specs.Control.{eachEntry, checkinMember, checkedIn, withActiv
 use Rattle.frames.specs.Frames.{controlBy, readFrame, frameStep, readFrames}
 use Rattle.rx.specs.Ending.{turnOverIn, idleMember, idleHeard, idleBy, idleEnd, replyMember, replyHeard, answerBy, goesOn, isReply, replyBy, replyEnd, Ended, busyWait}
 use Rattle.rx.specs.Reception.{Received, airOf, firstReading, tinyBurst, ncsRx}
-use Rattle.promise.proofs.SilentCount.{Keeps, kept-new}
-use Rattle.promise.proofs.SilentNext.{KeepsSaid, member-kept, counted-kept, turn-missed}
+use Rattle.laws.proofs.SilentCount.{Keeps, kept-new}
+use Rattle.laws.proofs.SilentNext.{KeepsSaid, member-kept, counted-kept, turn-missed}
 
 -- ---- admission
 

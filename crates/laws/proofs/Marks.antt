@@ -20,12 +20,12 @@ use Rattle.stream.proofs.Windows.{handed-low, next-not-handed, bitmap-at}
 use Rattle.net.specs.declared.Station.{Station}
 use Rattle.net.specs.State.{memberAt}
 use Rattle.net.specs.Net.{isMember}
 use Rattle.promise.specs.Promise.{Net, Call, step, after, started, Sent, Book, emptyBook, bookCall, inside, CallsOk}
-use Rattle.promise.specs.Marks.{alsoMarked, rebuilt, Follows, MarksHold, inWindow, landedIn, bookAfter, MarksFollow}
+use Rattle.laws.specs.Marks.{alsoMarked, rebuilt, Follows, MarksHold, inWindow, landedIn, bookAfter, MarksFollow}
 use Rattle.promise.proofs.Ledgers.{inside-of}
 use Rattle.promise.proofs.Quiet.{windowAt}
 use Rattle.promise.proofs.Messages.{Tied, started-tied, call-good}
-use Rattle.promise.proofs.Landings.{calls-told}
+use Rattle.laws.proofs.Landings.{calls-told}
 
 -- ---- what is rebuilt has bit d, below 8, where next + 1 + d is handed over
 

@@ -28,10 +28,10 @@ use Rattle.frames.specs.declared.Air.{Air}
 use Rattle.frames.specs.Reading.{Reading}
 use Rattle.frames.specs.Pieces.{pieceFrame}
 use Rattle.station.specs.Entries.{admitRefusal, admitOf}
 use Rattle.promise.specs.Promise.{Net, Call, admission, result, step, after}
-use Rattle.promise.specs.Laws.{Placed, from, cellTo, noneYet, Up, both, boxAfter, IsUp, Cells, LandsNone}
+use Rattle.laws.specs.Laws.{Placed, from, cellTo, noneYet, Up, both, boxAfter, IsUp, Cells, LandsNone}
 use Rattle.promise.proofs.Runs.{nought, joins, one-cell}
 use Rattle.promise.proofs.Alike.{three-cells}
 
 -- boat B is admitted, to slot 1
 abbrev joins-too : Call

@@ -11,7 +11,7 @@ use lib.Ieee.{Float, binary32, fits}
 use Rattle.bits.specs.Mask.{hasBit}
 use Rattle.level.specs.declared.Level.the-variants.{Decibels}
 use Rattle.level.specs.Levels.{smoothed}
-use Rattle.level.specs.Between.{sized, Between}
+use Rattle.rounding.specs.Between.{sized, Between}
 use Rattle.wire.specs.declared.number.Number.{Number}
 use Rattle.wire.specs.declared.number.Number.the-variants.{Is, Before}
 use Rattle.wire.specs.Numbers.{widened}

@@ -26,10 +26,10 @@ use Rattle.frames.specs.Frames.{readFrame, frameStep, readFrames}
 use Rattle.rx.specs.Ending.{replyEnd}
 use Rattle.rx.specs.Reception.{ncsRx}
 use Rattle.station.specs.Entries.{admitRefusal, admitOf, receiveRefusal, receiveOf}
 use Rattle.promise.specs.Promise.{Call, result, step, after, emptyBook, cover, alsoHanded, allBelow, bookFrame, bookFrames, eventsIn, CallsOk}
-use Rattle.promise.specs.Marks.{rebuilt, landedIn, bookAfter}
+use Rattle.laws.specs.Marks.{rebuilt, landedIn, bookAfter}
 use Rattle.promise.proofs.Runs.{joins, hears, all-empty, whole, apart, near}
 use Rattle.promise.proofs.Alike.{three-cells}
 
 -- numbers 1 and 3, past the missing 0
 abbrev pub ahead : List Call

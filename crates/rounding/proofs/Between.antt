@@ -11,13 +11,13 @@ use lib.Dec.{T, ltb, eqb, leb→le, nltb→le, eqb→eq, lit<, leb, le→leb, lt
 use lib.Ieee.{Float, nan, inf, fin, binary32, up, down, round, sum, add, mul, neg, le, fits, ofBits}
 use lib.Ieee.Fits.{down-pos, and-l, and-r, and-i}
 use lib.Ieee.Exact.{HasValue, round-exact}
-use Rattle.level.specs.Between.{sized, Between}
+use Rattle.rounding.specs.Between.{sized, Between}
 use Rattle.level.specs.Consts as consts
 use Rattle.level.specs.Levels.{smoothed}
 use Rattle.level.specs.declared.Level.the-variants.{Decibels}
 use Rattle.level.proofs.Le.{le-plus, le-minus, le-across, le-back, same-eqb}
-use Rattle.level.proofs.Value.{add-values, add-sym}
-use Rattle.level.proofs.Rounded.{Fit, fit, lower, upper, round-neg, le-neg, below-plus, neg-below, plus-round, halved}
+use Rattle.rounding.proofs.Value.{add-values, add-sym}
+use Rattle.rounding.proofs.Rounded.{Fit, fit, lower, upper, round-neg, le-neg, below-plus, neg-below, plus-round, halved}
 
 -- ---- the mean of A / a and B / b, with A / a at most B / b, as the fraction that the sum of the halves is
 module _ (A a B b : ℕ) (h : A * b ≤ B * a) where

@@ -22,11 +22,11 @@ use Rattle.config.specs.declared.Given.{Given}
 use Rattle.config.specs.Checks.{secondsOk, durationsOk, decibelsOk, numbersOk, settingsOk, settingsOf}
 use Rattle.station.specs.Entries.{Outcome, done, refused, unless, check1, startRefusal, startOf, admitRefusal, admitOf, receiveBy, receiveRefusal, receiveOf, nextRefusal, nextOf, sentOf, closeRefusal, closeOf, readRefusal, cellRefusal, freeOf}
 use Rattle.dues.specs.Dues.{duesRefusal}
 use Rattle.promise.specs.Promise.{lentTo, Net, Call, admission, reception, decision, sending, closing, reading, freeing, charging, result, outcome, step, after, started}
-use Rattle.promise.specs.Silent.{SilentCounted}
-use Rattle.promise.proofs.SilentCount.{Keeps, kept-none, kept-counts}
-use Rattle.promise.proofs.SilentNext.{next-kept}
-use Rattle.promise.proofs.SilentRx.{admit-kept, rx-kept}
+use Rattle.laws.specs.Silent.{SilentCounted}
+use Rattle.laws.proofs.SilentCount.{Keeps, kept-none, kept-counts}
+use Rattle.laws.proofs.SilentNext.{next-kept}
+use Rattle.laws.proofs.SilentRx.{admit-kept, rx-kept}
 
 -- ---- each call
 

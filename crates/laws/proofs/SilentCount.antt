@@ -20,8 +20,8 @@ use Rattle.net.specs.declared.Station.{Station}
 use Rattle.net.specs.State.{indexOf}
 use Rattle.net.specs.Net.{isMember}
 use Rattle.net.proofs.Laws.{index-is, member-is}
-use Rattle.promise.specs.Silent.{countBelow, silentCount}
+use Rattle.laws.specs.Silent.{countBelow, silentCount}
 use Rattle.promise.proofs.Rosters.{change, no-member, member-other}
 
 -- ---- counting
 

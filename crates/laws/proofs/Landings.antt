@@ -38,17 +38,17 @@ use Rattle.frames.specs.Frames.{readFrame, frameStep, readFrames}
 use Rattle.rx.specs.Ending.{busyWait, idleEnd, replyEnd, nothingMore, Ended}
 use Rattle.rx.specs.Reception.{Received, airOf, firstReading, receivedOf, ncsRx}
 use Rattle.station.specs.Entries.{Outcome, receiveBy, receiveRefusal, receiveOf, cellRefusal, freeOf}
 use Rattle.promise.specs.Promise.{lentTo, Net, net, Call, admission, reception, decision, sending, closing, reading, freeing, charging, result, inBook, outcome, step, after, alsoHanded, Event2, eventsIn, answersOf}
-use Rattle.promise.specs.Marks.{alsoLanded, landedBy, landedIn}
+use Rattle.laws.specs.Marks.{alsoLanded, landedBy, landedIn}
 use Rattle.promise.proofs.Ledgers.{handed-other}
 use Rattle.promise.proofs.Ties.{View}
 use Rattle.promise.proofs.Pieces.{alsoOne, windowsAfter, viewAfter, eventFor}
 use Rattle.promise.proofs.Quiet.{windowAt, Keeps, kept-self, viewOf, kept-view}
 use Rattle.promise.proofs.Events.{events-none, events-append, append-quiet}
 use Rattle.promise.proofs.QuietRx.{Untouched, untouched, control-untouched, QuietEnd, idle-kept, reply-kept}
 use Rattle.promise.proofs.Readings.{piece-view, piece-events}
 use Rattle.promise.proofs.Messages.{admission-kept, decision-kept, sending-kept, closing-kept, reading-kept, charging-kept}
 use Rattle.promise.proofs.Sounds.{FitView, Fit, FitRead, accept-land, step-read-fit, other-store, room-of, step-fit}
 
 -- ---- the cell of a landed message
 

@@ -12,9 +12,9 @@ use Rattle.net.specs.State.{memberAt}
 use Rattle.net.specs.Net.{isMember}
 use Rattle.dues.specs.Dues.{duesRefusal, duesOf}
 use Rattle.dues.proofs.Balance.{balanced}
 use Rattle.promise.specs.Promise.{after, started, leads, LinksHold}
-use Rattle.promise.specs.Balance.{Balanced, Balance}
+use Rattle.laws.specs.Balance.{Balanced, Balance}
 use Rattle.promise.proofs.Links.{links}
 
 -- the relay of a boat is none or a boat
 relay-is : (s : Station) → LinksHold s → (i : ℕ) → isMember (s .used) i ≡ true

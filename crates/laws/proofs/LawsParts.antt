@@ -21,12 +21,12 @@ use Rattle.stream.specs.Window.{handedOf, freshOf}
 use Rattle.stream.specs.Table.{isLost}
 use Rattle.net.specs.State.{memberAt}
 use Rattle.net.specs.Net.{isMember}
 use Rattle.promise.specs.Promise.{Net, Sent, Book}
-use Rattle.promise.specs.Laws.{Placed, from, SameJoined, Splits, CellSplits, AllSplit}
+use Rattle.laws.specs.Laws.{Placed, from, SameJoined, Splits, CellSplits, AllSplit}
 use Rattle.promise.proofs.Ledgers.{Cov, empty-inv}
 use Rattle.promise.proofs.Ties.{aim}
 use Rattle.promise.proofs.Quiet.{viewOf}
 use Rattle.promise.proofs.Messages.{Tied}
 
 -- ---- the joined bytes of a cell, by what is covered
 

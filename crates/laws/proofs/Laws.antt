@@ -1,13 +1,13 @@
 -- The theorem of the three laws. It stands on the definitions that the entry points' contracts name, and assumes nothing.
 use Rattle.promise.specs.Promise.{after, started, emptyBook}
-use Rattle.promise.specs.Marks.{bookAfter}
-use Rattle.promise.specs.Laws.{Laws}
+use Rattle.laws.specs.Marks.{bookAfter}
+use Rattle.laws.specs.Laws.{Laws}
 use Rattle.promise.proofs.Messages.{started-tied}
 use Rattle.promise.proofs.Sounds.{runs-fit}
-use Rattle.promise.proofs.Marks.{calls-tied}
-use Rattle.promise.proofs.LawsParts.{all-split}
-use Rattle.promise.proofs.LawsLevels as levels
-use Rattle.promise.proofs.LawsBoats as boats
+use Rattle.laws.proofs.Marks.{calls-tied}
+use Rattle.laws.proofs.LawsParts.{all-split}
+use Rattle.laws.proofs.LawsLevels as levels
+use Rattle.laws.proofs.LawsBoats as boats
 
 pub laws : Laws
 laws s g store e cs =

@@ -1,0 +1,14 @@
+pub mod Landings
+pub mod Marks
+pub mod MarksRun
+pub mod Dues
+pub mod SilentCount
+pub mod SilentNext
+pub mod SilentRx
+pub mod Silent
+pub mod SilentRun
+pub mod LawsParts
+pub mod LawsLevels
+pub mod LawsBoats
+pub mod Laws
+pub mod LawsRun

@@ -1,0 +1,4 @@
+pub mod Marks
+pub mod Balance
+pub mod Silent
+pub mod Laws
