@@ -21,9 +21,9 @@ use Rattle.net.specs.declared.Settings.{Settings}
 use Rattle.net.specs.State.{memberAt}
 use Rattle.net.specs.Net.{isMember, newStation, onTxDone}
 use Rattle.admit.specs.Admission.{seatOf, findCall, leadsTo}
-use Rattle.bursts.specs.Bursts.{pollBurst, acksBurst, beaconRows, beaconOf, tellAll, listSent, rxListBurst}
+use Rattle.bursts.specs.Bursts.{pollBurst, acksBurst, beaconRows, beaconPayload, beyond, beaconOf, tellAll, listSent, rxListBurst}
 use Rattle.bursts.specs.Reroute.{triedOf, sourceFor, promoteAt, promoteAll, moveAt, moveAll, rerouteOf}
-use Rattle.bursts.specs.Rows.{maskWhere, rowsOf, leastReach, leastDirect}
+use Rattle.bursts.specs.Rows.{maskWhere, rowsOn, leastReach, leastDirect}
 use Rattle.next.specs.Next.{pollStage, listFor, drawStage, rerouteStage, roundEnd, actOf, windowStage, againStage, missedStage, dueOf, ncsNext}
 use Rattle.frames.specs.Frames.{readFrames}
 use Rattle.rx.specs.Ending.{idleEnd, replyEnd}
@@ -40,7 +40,7 @@ far = fin false 1000 (pos 0)
 -- every time 0 but the beacon's
 abbrev settings : Settings
 settings =
-    record { turnaround = nil; maxburst = nil; replyslack = nil; detect = nil; beaconevery = far; quickbeacon = far; idleroundgap = nil; durations = replicate 4 nil; thresholds = replicate 17 nil; margin = nil; relaysnr = nil; misslimit = 2; beaconlevel = 0; windowslots = 0; call = replicate 7 32; name = replicate 6 32 }
+    record { turnaround = nil; maxburst = nil; replyslack = nil; detect = nil; beaconevery = far; quickbeacon = far; idleroundgap = nil; durations = replicate 4 nil; thresholds = replicate 17 nil; margin = nil; relaysnr = nil; misslimit = 2; beaconlevel = 0; windowslots = 0; call = replicate 7 32; name = replicate 6 32; prime = false; lead = nil; latency = nil }
 
 abbrev next : Call
 next = decision nil 8192
@@ -71,5 +71,5 @@ pub record SilentRun : Type 0 where
   pub heard : after (twice ++ (idle ∷ [])) from .station .totals .silent ≡ 0
 
 silent-run : SilentRun
-unfolding size units round sum add mul lt le ofInt ofBits first fold every any hasBit withBit withoutBit bothOf eitherOf minusOf lowestBit lowestFree slotsOf stop levelBelow totalLt digit char trimStart trimEnd unpacked shifted itemAt framesOf headOk parse pack framesWords chunksOf tally heardAt bestHigh relaySrcFor turnOver isMember newStation onTxDone seatOf findCall leadsTo pollBurst acksBurst beaconRows beaconOf tellAll listSent rxListBurst triedOf sourceFor promoteAt promoteAll moveAt moveAll rerouteOf maskWhere rowsOf leastReach leastDirect pollStage listFor drawStage rerouteStage roundEnd actOf windowStage againStage missedStage dueOf ncsNext readFrames idleEnd replyEnd ncsRx admitRefusal admitOf receiveRefusal receiveOf nextRefusal nextOf sentOf result step after
+unfolding size units round sum add mul lt le ofInt ofBits first fold every any hasBit withBit withoutBit bothOf eitherOf minusOf lowestBit lowestFree slotsOf stop levelBelow totalLt digit char trimStart trimEnd unpacked shifted itemAt framesOf headOk parse pack framesWords chunksOf tally heardAt bestHigh relaySrcFor turnOver isMember newStation onTxDone seatOf findCall leadsTo pollBurst acksBurst beaconRows beaconPayload beyond beaconOf tellAll listSent rxListBurst triedOf sourceFor promoteAt promoteAll moveAt moveAll rerouteOf maskWhere rowsOn leastReach leastDirect pollStage listFor drawStage rerouteStage roundEnd actOf windowStage againStage missedStage dueOf ncsNext readFrames idleEnd replyEnd ncsRx admitRefusal admitOf receiveRefusal receiveOf nextRefusal nextOf sentOf result step after
 silent-run = record { missed = refl; missed-once = refl; silent = refl; missed-twice = refl; heard = refl }

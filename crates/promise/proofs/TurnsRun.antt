@@ -18,7 +18,7 @@ use Rattle.roster.specs.Relays.{heardAt, relaySrcFor, turnOver}
 use Rattle.net.specs.declared.Settings.{Settings}
 use Rattle.net.specs.Net.{isMember, newStation, onTxDone}
 use Rattle.admit.specs.Admission.{seatOf, findCall, leadsTo}
-use Rattle.bursts.specs.Bursts.{pollBurst, acksBurst, beaconRows, beyond, beaconOf, tellAll, listSent, rxListBurst}
+use Rattle.bursts.specs.Bursts.{pollBurst, acksBurst, beaconRows, beaconPayload, beyond, beaconOf, tellAll, listSent, rxListBurst}
 use Rattle.bursts.specs.Reroute.{triedOf, sourceFor, promoteAt, promoteAll, moveAt, moveAll, rerouteOf}
 use Rattle.bursts.specs.Rows.{maskWhere, rowsOn, leastReach, leastDirect}
 use Rattle.next.specs.Next.{pollStage, listFor, drawStage, rerouteStage, roundEnd, actOf, windowStage, againStage, dueOf, ncsNext}
@@ -56,5 +56,5 @@ begin =
 
 longest : trace (begin ++ (next ∷ sent ∷ next ∷ more ∷ sent ∷ next ∷ more ∷ sent ∷ next ∷ more ∷ sent ∷ next ∷ more ∷ sent ∷ next ∷ [])) (net (newStation settings 1) (replicate 6400 7))
     ≡ drew (0 ∷ 1 ∷ []) ∷ poll 0 ∷ poll 0 ∷ ack 0 ∷ poll 0 ∷ ack 0 ∷ poll 0 ∷ ack 0 ∷ poll 0 ∷ ack 0 ∷ over 0 ∷ poll 1 ∷ []
-unfolding size units round sum add mul lt le ofInt ofBits first fold every any hasBit withBit withoutBit bothOf eitherOf minusOf lowestBit lowestFree slotsOf stop levelBelow totalLt digit char trimStart trimEnd unpacked shifted itemAt framesOf headOk parse pack framesWords chunksOf heardAt relaySrcFor turnOver isMember newStation onTxDone seatOf findCall leadsTo pollBurst acksBurst beaconRows beyond beaconOf tellAll listSent rxListBurst triedOf sourceFor promoteAt promoteAll moveAt moveAll rerouteOf maskWhere rowsOn leastReach leastDirect pollStage listFor drawStage rerouteStage roundEnd actOf windowStage againStage dueOf ncsNext readFrames replyEnd ncsRx admitRefusal admitOf receiveRefusal receiveOf nextRefusal nextOf sentOf result step burstsIn turnEvents trace
+unfolding size units round sum add mul lt le ofInt ofBits first fold every any hasBit withBit withoutBit bothOf eitherOf minusOf lowestBit lowestFree slotsOf stop levelBelow totalLt digit char trimStart trimEnd unpacked shifted itemAt framesOf headOk parse pack framesWords chunksOf heardAt relaySrcFor turnOver isMember newStation onTxDone seatOf findCall leadsTo pollBurst acksBurst beaconRows beaconPayload beyond beaconOf tellAll listSent rxListBurst triedOf sourceFor promoteAt promoteAll moveAt moveAll rerouteOf maskWhere rowsOn leastReach leastDirect pollStage listFor drawStage rerouteStage roundEnd actOf windowStage againStage dueOf ncsNext readFrames replyEnd ncsRx admitRefusal admitOf receiveRefusal receiveOf nextRefusal nextOf sentOf result step burstsIn turnEvents trace
 longest = refl
