@@ -1,0 +1,6 @@
+pub mod Parts
+pub mod Sets
+pub mod Lists
+pub mod Watched
+pub mod Walks
+pub mod Exact
