@@ -4,3 +4,4 @@ pub mod Lists
 pub mod Watched
 pub mod Walks
 pub mod Exact
+pub mod Cases
