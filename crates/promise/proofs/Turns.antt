@@ -82,7 +82,7 @@ module _ (r : Run) (n : Net) (e : Rel r (n .station .wait .turn)) (l : Low (n .s
       let seat = seatOf s call in
       let c = admit-calm seat s call (viaFor s seat relay) now in
       let t = admitted s call relay now .station in
-      fine-quiet left r (admitRefusal room now (s .used) relay (isFull seat)) s t [] [] (admitted s call relay now .words) (c .quiet)
+      fine-quiet left r (admitRefusal room now (s .used) relay (isFull seat)) s t [] [] (admitted s call relay now .words) (c .quiet .0)
       (subst (λ (m : ℕ). Fine (slotsIn m) r t []) (c .list) (fine-none r t (subst (λ y. Rel r (y .turn)) (sym (c .wait)) e) (subst Low (sym (c .list)) l))) same
 
   receive-by : (b : Parsed Burst) (n : ℕ) (snr now : Float) (store : List ℕ)
@@ -148,7 +148,7 @@ calls (c ∷ cs) n r e l =
 
 -- ### A start
 
-start-is : (s : Station) (g : Given) (store : List ℕ) → startRefusal g (length store) ≡ 0
+pub start-is : (s : Station) (g : Given) (store : List ℕ) → startRefusal g (length store) ≡ 0
     → startOf s g store .station ≡ newStation (settingsOf g) (cellCount (length store / 6400))
 unfolding startOf
 start-is s g store z = ap (λ (n : ℕ). unless n s store (done (newStation (settingsOf g) (cellCount (length store / 6400))) store []) .station) z
@@ -161,13 +161,16 @@ new-list : (g : Settings) (count : ℕ) → newStation g count .round .list ≡ 
 unfolding newStation
 new-list g count = refl
 
--- From a start that is not refused on, over every list of calls: from the drawing up of a list on no slot begins a second turn until each other slot on it
--- has had one, and each turn has at most five polls and four acknowledgements.
-pub turns : (s : Station) (g : Given) (store : List ℕ) → startRefusal g (length store) ≡ 0 → (cs : List Call) → TurnsHold emptyView (trace cs (started s g store))
-turns s g store z cs =
+-- from a start that is not refused on, over every list of calls, the monitor accepts what they return
+pub followed : (s : Station) (g : Given) (store : List ℕ) → startRefusal g (length store) ≡ 0 → (cs : List Call) → Acc [] rest (trace cs (started s g store))
+followed s g store z cs =
     let n = started s g store in
     let e = start-is s g store z in
     let i : n .station .round .list ≡ 0 = ap (λ (t : Station). t .round .list) e ∙ new-list (settingsOf g) (cellCount (length store / 6400)) in
-    accepted (trace cs n)
-    (subst (λ (l : List ℕ). Acc l rest (trace cs n)) (list-none (n .station .round .list) i)
-    (calls cs n rest (subst (λ (t : Station). Rel rest (t .wait .turn)) (sym e) (new-turn (settingsOf g) (cellCount (length store / 6400)))) (subst Low (sym i) low-none)))
+    subst (λ (l : List ℕ). Acc l rest (trace cs n)) (list-none (n .station .round .list) i)
+    (calls cs n rest (subst (λ (t : Station). Rel rest (t .wait .turn)) (sym e) (new-turn (settingsOf g) (cellCount (length store / 6400)))) (subst Low (sym i) low-none))
+
+-- so from the drawing up of a list on no slot begins a second turn until each other slot on it has had one, and each turn has at most five polls and four
+-- acknowledgements
+pub turns : (s : Station) (g : Given) (store : List ℕ) → startRefusal g (length store) ≡ 0 → (cs : List Call) → TurnsHold emptyView (trace cs (started s g store))
+turns s g store z cs = accepted (trace cs (started s g store)) (followed s g store z cs)

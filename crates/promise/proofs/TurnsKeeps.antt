@@ -31,21 +31,22 @@ use Rattle.frames.specs.Reading.{Reading, alsoSaid}
 use Rattle.frames.specs.Pieces.{isRelayed, pieceEvents, relayIf, trafficIf, unkeptAt, keptPiece, takenPiece, pieceMember, pieceFrame}
 use Rattle.frames.specs.Control.{eachEntry, callAt, withActive, checkinFrame, isForwarded, reportStation, reportSays, reportFrame, relayOf, newcomer, heardBy, overheardBy, overheardEntry, overheardFrame, isKid, kidEvents, kidBy, kidEntry, kidsFrame}
 use Rattle.frames.specs.Frames.{controlBy, controlFrame, readFrame, frameStep, readFrames}
-use Rattle.promise.proofs.TurnsWords.{Quiet, quiet-none, quiet-both, quiet-event, quiet-message, quiet-missed}
+use Rattle.promise.proofs.TurnsWords.{Mute, mute-none, mute-both, mute-event, mute-message, mute-missed}
 
--- the waiting and the list are those of s, and no burst is sent
+-- the waiting, the list and the settings are those of s, and no burst is sent
 pub record Calm (s : Station) (x : Said) : Type 0 where
   pub wait : x .station .wait ≡ s .wait
   pub list : x .station .round .list ≡ s .round .list
-  pub quiet : Quiet (x .words)
+  pub settings : x .station .settings ≡ s .settings
+  pub quiet : Mute (x .words)
 
 pub calm-start : (s : Station) → Calm s (said s [])
-calm-start s = record { wait = refl; list = refl; quiet = quiet-none }
+calm-start s = record { wait = refl; list = refl; settings = refl; quiet = mute-none }
 
 -- one after the other
 calm-then : {s : Station} (x d : Said) → Calm s x → Calm (x .station) d → Calm s (said (d .station) (x .words ++ d .words))
 calm-then x d h k =
-    record { wait = k .wait ∙ h .wait; list = k .list ∙ h .list; quiet = quiet-both (x .words) (d .words) (h .quiet) (k .quiet) }
+    record { wait = k .wait ∙ h .wait; list = k .list ∙ h .list; settings = k .settings ∙ h .settings; quiet = mute-both (x .words) (d .words) (h .quiet) (k .quiet) }
 
 -- ### Rerouting
 
@@ -53,7 +54,7 @@ module _ (s : Station) where
   promote-calm : (l : Level) (i : ℕ) (x : Said) → Calm s x → Calm s (promoteWith l i x)
   promote-calm Unheard i x h = h
   promote-calm (Decibels snr) i x h =
-      record { wait = h .wait; list = h .list; quiet = quiet-both (x .words) (eventWord 5 i 63 ∷ []) (h .quiet) (quiet-event 5 i 63 (omega arith)) }
+      record { wait = h .wait; list = h .list; settings = h .settings; quiet = mute-both (x .words) (eventWord 5 i 63 ∷ []) (h .quiet) (mute-event 5 i 63 (omega arith)) }
 
   promote-at : (floor : Float) (i : ℕ) (x : Said) → Calm s x → Calm s (promoteAt floor i x)
   unfolding promoteAt
@@ -62,7 +63,7 @@ module _ (s : Station) where
   move-to : (r c : ℕ) (x : Said) → Calm s x → Calm s (moveTo r c x)
   move-to r c x h =
       cond-keeps (Calm s) (eqb r 63) x _ (λ e. h)
-      (λ e. record { wait = h .wait; list = h .list; quiet = quiet-both (x .words) (eventWord 5 c r ∷ []) (h .quiet) (quiet-event 5 c r (omega arith)) })
+      (λ e. record { wait = h .wait; list = h .list; settings = h .settings; quiet = mute-both (x .words) (eventWord 5 c r ∷ []) (h .quiet) (mute-event 5 c r (omega arith)) })
 
   move-at : (leaves c : ℕ) (x : Said) → Calm s x → Calm s (moveAt leaves c x)
   unfolding moveAt
@@ -77,15 +78,15 @@ module _ (s : Station) where
 
 -- ### Admission
 
-quiet-admit : (slot via : ℕ) → Quiet (admitEvents slot via)
+quiet-admit : (slot via : ℕ) → Mute (admitEvents slot via)
 quiet-admit slot via =
-    cond-keeps Quiet (eqb via 63) (eventWord 1 slot via ∷ []) (eventWord 4 slot via ∷ eventWord 1 slot via ∷ [])
-    (λ e. quiet-event 1 slot via (omega arith))
-    (λ e. quiet-both (eventWord 4 slot via ∷ []) (eventWord 1 slot via ∷ []) (quiet-event 4 slot via (omega arith)) (quiet-event 1 slot via (omega arith)))
+    cond-keeps Mute (eqb via 63) (eventWord 1 slot via ∷ []) (eventWord 4 slot via ∷ eventWord 1 slot via ∷ [])
+    (λ e. mute-event 1 slot via (omega arith))
+    (λ e. mute-both (eventWord 4 slot via ∷ []) (eventWord 1 slot via ∷ []) (mute-event 4 slot via (omega arith)) (mute-event 1 slot via (omega arith)))
 
 pub admit-calm : (seat : Seat) (s : Station) (call : List ℕ) (via : ℕ) (now : Float) → Calm s (admitBy seat s call via now)
-admit-calm (Known i) s call via now = record { wait = refl; list = refl; quiet = quiet-none }
-admit-calm (Free i) s call via now = record { wait = refl; list = refl; quiet = quiet-admit i via }
+admit-calm (Known i) s call via now = record { wait = refl; list = refl; settings = refl; quiet = mute-none }
+admit-calm (Free i) s call via now = record { wait = refl; list = refl; settings = refl; quiet = quiet-admit i via }
 admit-calm Full s call via now = calm-start s
 
 -- ### Control frames
@@ -98,10 +99,10 @@ each-keeps P f k w len (suc n) e a h =
 
 checkin-by : (t : Bool) (s : Station) (d : Said) → Calm s d → (ms : List Member) → Calm s (said (cond t (d .station) (withMembers (d .station) ms)) (d .words))
 checkin-by true s d h ms = h
-checkin-by false s d h ms = record { wait = h .wait; list = h .list; quiet = h .quiet }
+checkin-by false s d h ms = record { wait = h .wait; list = h .list; settings = h .settings; quiet = h .quiet }
 
 active-calm : (s : Station) (d : Said) → Calm s d → Calm s (said (withActive (d .station)) (d .words))
-active-calm s d h = record { wait = h .wait; list = h .list; quiet = h .quiet }
+active-calm s d h = record { wait = h .wait; list = h .list; settings = h .settings; quiet = h .quiet }
 
 checkin-calm : (a : Air) (len : ℕ) (p : List ℕ) (s : Station) → Calm s (checkinFrame a len p s)
 unfolding checkinFrame
@@ -112,11 +113,11 @@ checkin-calm a len p s =
 
 -- whom a boat hears may change
 hears-calm : (s t : Station) (ws : List ℕ) (b : Bool) (hears : List ℕ) → Calm s (said t ws) → Calm s (said (cond b (withHears t hears) t) ws)
-hears-calm s t ws true hears h = record { wait = h .wait; list = h .list; quiet = h .quiet }
+hears-calm s t ws true hears h = record { wait = h .wait; list = h .list; settings = h .settings; quiet = h .quiet }
 hears-calm s t ws false hears h = h
 
 member-calm : (s : Station) (d : Said) (ms : List Member) → Calm s d → Calm s (said (withMembers (d .station) ms) (d .words))
-member-calm s d ms h = record { wait = h .wait; list = h .list; quiet = h .quiet }
+member-calm s d ms h = record { wait = h .wait; list = h .list; settings = h .settings; quiet = h .quiet }
 
 overheard-by : (s : Station) (seat : Seat) (a : Air) (p : List ℕ) (e slot via : ℕ) (x : Said) → Calm s x → Calm s (overheardBy seat a p e slot via x)
 overheard-by s (Known i) a p e slot via x h = h
@@ -133,13 +134,13 @@ overheard-calm a len p slot s =
     each-keeps (Calm s) (overheardEntry a p slot (relayOf s slot))
     (λ e x h. overheard-by s (seatOf (x .station) (callAt p e)) a p e slot (relayOf s slot) x h) 8 len 32 1 (said s []) (calm-start s)
 
-quiet-kid : (c b : ℕ) → Quiet (kidEvents c b)
-quiet-kid c b = cond-keeps Quiet (leb 128 b) [] (missedWord c ∷ []) (λ e. quiet-none) (λ e. quiet-missed c)
+quiet-kid : (c b : ℕ) → Mute (kidEvents c b)
+quiet-kid c b = cond-keeps Mute (leb 128 b) [] (missedWord c ∷ []) (λ e. mute-none) (λ e. mute-missed c)
 
 kid-calm : (s : Station) (a : Air) (slot c b : ℕ) (x : Said) → Calm s x → Calm s (kidBy a slot c b x)
 kid-calm s a slot c b x h =
     cond-keeps (Calm s) (isKid (x .station) c slot) _ x
-    (λ e. record { wait = h .wait; list = h .list; quiet = quiet-both (x .words) (kidEvents c b) (h .quiet) (quiet-kid c b) }) (λ e. h)
+    (λ e. record { wait = h .wait; list = h .list; settings = h .settings; quiet = mute-both (x .words) (kidEvents c b) (h .quiet) (quiet-kid c b) }) (λ e. h)
 
 kids-calm : (a : Air) (len : ℕ) (p : List ℕ) (slot : ℕ) (s : Station) → Calm s (kidsFrame a len p slot s)
 unfolding kidsFrame kidEntry
@@ -159,7 +160,7 @@ says-calm true p x = refl
 says-calm false p x = refl
 
 report-by : (b : Bool) (s u : Station) (ws : List ℕ) (ms : List Member) (hs : List ℕ) → Calm s (said u ws) → Calm s (said (cond b (withHears (withMembers u ms) hs) u) ws)
-report-by true s u ws ms hs h = record { wait = h .wait; list = h .list; quiet = h .quiet }
+report-by true s u ws ms hs h = record { wait = h .wait; list = h .list; settings = h .settings; quiet = h .quiet }
 report-by false s u ws ms hs h = h
 
 report-calm : (s : Station) (a : Air) (len : ℕ) (p : List ℕ) (x : Reading) → CalmIn s x → CalmIn s (reportFrame a len p x)
@@ -184,23 +185,23 @@ control-by s a slot b len p x h =
     (λ k. also-calm s x (kidsFrame a len p slot (x .station)) h (kids-calm a len p slot (x .station))) (λ k. h))))
 
 quiet-piece : (b c : Bool) (slot polled cell number : ℕ)
-    → Quiet (cond b (cond c (eventWord 4 slot polled ∷ messageWord slot cell number ∷ []) (messageWord slot cell number ∷ [])) [])
+    → Mute (cond b (cond c (eventWord 4 slot polled ∷ messageWord slot cell number ∷ []) (messageWord slot cell number ∷ [])) [])
 quiet-piece true true slot polled cell number =
-    quiet-both (eventWord 4 slot polled ∷ []) (messageWord slot cell number ∷ []) (quiet-event 4 slot polled (omega arith)) (quiet-message slot cell number)
-quiet-piece true false slot polled cell number = quiet-message slot cell number
-quiet-piece false c slot polled cell number = quiet-none
+    mute-both (eventWord 4 slot polled ∷ []) (messageWord slot cell number ∷ []) (mute-event 4 slot polled (omega arith)) (mute-message slot cell number)
+quiet-piece true false slot polled cell number = mute-message slot cell number
+quiet-piece false c slot polled cell number = mute-none
 
 flags-calm : (b c : Bool) (s t : Station) (ws : List ℕ) → Calm s (said t ws) → Calm s (said (relayIf b (trafficIf c t)) ws)
-flags-calm true true s t ws h = record { wait = h .wait; list = h .list; quiet = h .quiet }
-flags-calm true false s t ws h = record { wait = h .wait; list = h .list; quiet = h .quiet }
-flags-calm false true s t ws h = record { wait = h .wait; list = h .list; quiet = h .quiet }
+flags-calm true true s t ws h = record { wait = h .wait; list = h .list; settings = h .settings; quiet = h .quiet }
+flags-calm true false s t ws h = record { wait = h .wait; list = h .list; settings = h .settings; quiet = h .quiet }
+flags-calm false true s t ws h = record { wait = h .wait; list = h .list; settings = h .settings; quiet = h .quiet }
 flags-calm false false s t ws h = h
 
 taken-calm : (s : Station) (a : Air) (slot : ℕ) (r : Accepted) (x : Reading) → CalmIn s x → CalmIn s (takenPiece a slot r x)
 taken-calm s a slot r x h =
     cond-keeps (CalmIn s) (r .lost) (unkeptAt x) (keptPiece a slot r x) (λ e. h)
     (λ e. flags-calm (isRelayed a (x .station) slot r) (hasLanded (r .landed)) s (withMember (withTable (x .station) (r .table)) slot (pieceMember a (memberAt (x .station) slot) slot r)) _
-    (record { wait = h .wait; list = h .list; quiet = quiet-both (x .words) (pieceEvents a (x .station) slot r) (h .quiet) (quiet-piece (hasLanded (r .landed)) (isRelayed a (x .station) slot r) slot (a .polled) (r .cell) (r .number)) }))
+    (record { wait = h .wait; list = h .list; settings = h .settings; quiet = mute-both (x .words) (pieceEvents a (x .station) slot r) (h .quiet) (quiet-piece (hasLanded (r .landed)) (isRelayed a (x .station) slot r) slot (a .polled) (r .cell) (r .number)) }))
 
 piece-calm : (s : Station) (a : Air) (slot field : ℕ) (p : List ℕ) (x : Reading) → CalmIn s x → CalmIn s (pieceFrame a slot field p x)
 unfolding pieceFrame

@@ -181,7 +181,7 @@ fine-rerouted : (s : Station) (x : Said) (now : Float) → Calm s x → Rel rest
     → Stage [] rest (reroutedStage x now)
 fine-rerouted s x now c t l e =
     let u = x .station in
-    stage-after (x .words) (c .quiet)
+    stage-after (x .words) (c .quiet .0)
     (stage-if (eqb (u .round .treenews) 0) (λ q. fine-draw u now (subst (λ y. Rel rest (y .turn)) (sym (c .wait)) t))
     (λ q. empty-left (u .round .list) (c .list ∙ e) (fine-acks u (subst Low (sym (c .list)) l))))
 
@@ -296,7 +296,7 @@ fine-again q s (turn x p a) z e l =
 
 -- no answer again: the waiting ends
 quiet-late : (b : Bool) (slot : ℕ) → w.Quiet (cond b (missedWord slot ∷ []) [])
-quiet-late true slot = w.quiet-missed slot
+quiet-late true slot = w.mute-missed slot .0
 quiet-late false slot = w.quiet-none
 
 over-wait : (s : Station) (slot source : ℕ) → (turnOverIn s slot source .wait ≡ s .wait) × (turnOverIn s slot source .round .list ≡ s .round .list)

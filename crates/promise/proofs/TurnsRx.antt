@@ -151,7 +151,7 @@ fined : (s : Station) (x : Reading) (r : Run) (e : Ended) → CalmIn s x → End
     → Fined (slotsIn (s .round .list)) r (receivedOf x e)
 fined s x r e c f =
     record {
-      fine = subst (λ (es : List TurnEvent). Fine (slotsIn (s .round .list)) r (e .station) (es ++ overIf (e .over))) (sym (quiet-first (x .words) (e .burst) (c .quiet)))
+      fine = subst (λ (es : List TurnEvent). Fine (slotsIn (s .round .list)) r (e .station) (es ++ overIf (e .over))) (sym (quiet-first (x .words) (e .burst) (c .quiet .0)))
           (subst (λ (m : ℕ). Fine (slotsIn m) r (e .station) (burstsIn (e .burst) ++ overIf (e .over))) (c .list) (f .fine));
     }
 

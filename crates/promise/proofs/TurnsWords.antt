@@ -6,7 +6,7 @@ use mathlib.Core.Bool.{Bool, true, false, cond, _||_}
 use mathlib.Core.List.{List, [], _∷_, _++_, append-assoc}
 use lib.Dec.{eqb}
 use lib.ListN.{length, take, drop}
-use borrow.Author.Tests.{ne-eqb}
+use borrow.Author.Tests.{ne-eqb, lt-leb}
 use Rattle.wire.specs.Kinds.{kPollack, kAck, kClose}
 use Rattle.words.specs.Words.{headOf}
 use Rattle.out.specs.Encode.{eventWord, messageWord, missedWord, headWord, waveWord, word12, pack, ctrlWords, chunksOf, chunkSize, chunkWords}
@@ -17,6 +17,7 @@ use Rattle.bursts.specs.Rows.{leastOf}
 use Rattle.bursts.specs.Bursts.{headWords, tinyWords, pollExtra, pollBurst}
 use Rattle.rx.specs.Ending.{ackExtra, ackWords}
 use Rattle.promise.specs.Promise.{TurnEvent, poll, ack, burstBy, burstsIn}
+use Rattle.promise.specs.Logs.{isSent, sentIn}
 
 -- no burst stands in these words
 abbrev pub Quiet : List ℕ → Type 0
@@ -52,14 +53,41 @@ quiet-none = refl
 
 -- ### Events
 
-pub quiet-event : (kind slot relay : ℕ) → kind < 8 → Quiet (eventWord kind slot relay ∷ [])
-quiet-event kind slot relay h = below-head (eventWord kind slot relay) [] (omega arith) ∙ quiet-none
+-- and no word of a sending
+abbrev pub Mute : List ℕ → Type 0
+Mute ws = Quiet ws × (sentIn ws ≡ [])
 
-pub quiet-message : (slot cell number : ℕ) → Quiet (messageWord slot cell number ∷ [])
-quiet-message slot cell number = below-head (messageWord slot cell number) [] (omega arith) ∙ quiet-none
+unsent : (w : ℕ) (ws : List ℕ) → w < 2147483648 → sentIn (w ∷ ws) ≡ sentIn ws
+unfolding sentIn
+unsent w ws h = rw (lt-leb 8 (w / 268435456) (omega arith))
 
-pub quiet-missed : (slot : ℕ) → Quiet (missedWord slot ∷ [])
-quiet-missed slot = below-head (missedWord slot) [] (omega arith) ∙ quiet-none
+sent-by : (b : Bool) (w : ℕ) (xs ys zs : List ℕ) → zs ≡ xs ++ ys → cond b (w ∷ zs) zs ≡ cond b (w ∷ xs) xs ++ ys
+sent-by true w xs ys zs h = ap (λ (l : List ℕ). w ∷ l) h
+sent-by false w xs ys zs h = h
+
+pub sent-append : (a b : List ℕ) → sentIn (a ++ b) ≡ sentIn a ++ sentIn b
+unfolding sentIn
+sent-append [] b = refl
+sent-append (w ∷ a) b = sent-by (isSent w) w (sentIn a) (sentIn b) (sentIn (a ++ b)) (sent-append a b)
+
+pub mute-none : Mute []
+unfolding sentIn
+mute-none = (quiet-none, refl)
+
+pub mute-both : (a b : List ℕ) → Mute a → Mute b → Mute (a ++ b)
+mute-both a b h k = (quiet-both a b (h .0) (k .0), sent-append a b ∙ rw (h .1, k .1))
+
+mute-one : (w : ℕ) → w < 2147483648 → Mute (w ∷ [])
+mute-one w h = (below-head w [] h ∙ quiet-none, unsent w [] h ∙ mute-none .1)
+
+pub mute-event : (kind slot relay : ℕ) → kind < 8 → Mute (eventWord kind slot relay ∷ [])
+mute-event kind slot relay h = mute-one (eventWord kind slot relay) (omega arith)
+
+pub mute-message : (slot cell number : ℕ) → Mute (messageWord slot cell number ∷ [])
+mute-message slot cell number = mute-one (messageWord slot cell number) (omega arith)
+
+pub mute-missed : (slot : ℕ) → Mute (missedWord slot ∷ [])
+mute-missed slot = mute-one (missedWord slot) (omega arith)
 
 -- ### Frames
 

@@ -1,0 +1,54 @@
+-- The station's own logs pass the turn check: `OwnLogs`, the last definition, is a statement over every list of calls from a start that is not refused.
+use Prim.Native.Nat.{ℕ, _+_, _/_, _<_}
+use mathlib.Core.Path.{_≡_}
+use mathlib.Core.Bool.{Bool, cond, _&&_}
+use mathlib.Core.List.{List, [], _∷_, _++_}
+use mathlib.Core.Option.{Option, none, some}
+use lib.Dec.{leb}
+use lib.ListN.{length}
+use Rattle.bits.specs.Mask.{slotsOf}
+use Rattle.words.specs.Fine.{Bytes}
+use Rattle.net.specs.declared.Station.{Station}
+use Rattle.config.specs.declared.Given.{Given}
+use Rattle.station.specs.Entries.{startRefusal}
+use Rattle.logs.specs.declared.Verdict.the-variants.{Accepted}
+use Rattle.logs.specs.Turns.{verdictOf}
+use Rattle.promise.specs.Promise.{Net, Call, result, outcome, isRefused, step, started}
+
+-- a word of a sending: kinds 8 to 12
+abbrev pub isSent : ℕ → Bool
+isSent w = leb 8 (w / 268435456) && leb (w / 268435456) 12
+
+-- the words of sendings among those returned; events are left out
+unfoldable pub sentIn : List ℕ → List ℕ
+sentIn [] = []
+sentIn (w ∷ ws) = cond (isSent w) (w ∷ sentIn ws) (sentIn ws)
+
+-- a word 6 for each slot
+unfoldable pub slotWords : List ℕ → List ℕ
+slotWords [] = []
+slotWords (x ∷ l) = (0x60000000 + x) ∷ slotWords l
+
+-- a mark: the count, then the slots
+abbrev pub markWords : List ℕ → List ℕ
+markWords l = (0x60000000 + length l) ∷ slotWords l
+
+-- where a list is drawn up
+abbrev pub markIf : Option ℕ → List ℕ
+markIf none = []
+markIf (some list) = markWords (slotsOf list 62 0)
+
+-- of one call: the mark stands before the burst of the decision that draws up the list; a refused call has none
+unfoldable pub logOf : Call → Net → List ℕ
+logOf c n = cond (isRefused c n) [] (markIf (result c n .drew) ++ sentIn (outcome c n .words))
+
+-- of all the calls
+unfoldable pub logFrom : List Call → Net → List ℕ
+logFrom [] n = []
+logFrom (c ∷ cs) n = logOf c n ++ logFrom cs (step c n)
+
+-- from a start that is not refused, of any calls; the name in the settings is bytes, and the window's slots are one
+abbrev pub OwnLogs : Type 0
+OwnLogs =
+    (s : Station) (g : Given) (store : List ℕ) → startRefusal g (length store) ≡ 0 → Bytes (g .settings .name) → g .settings .windowslots < 256
+    → (cs : List Call) → verdictOf (logFrom cs (started s g store)) ≡ Accepted
