@@ -17,7 +17,7 @@ use Rattle.laws.specs.Balance.{Balanced, Balance}
 use Rattle.promise.proofs.Links.{links}
 
 -- the relay of a boat is none or a boat
-relay-is : (s : Station) → LinksHold s → (i : ℕ) → isMember (s .used) i ≡ true
+pub relay-is : (s : Station) → LinksHold s → (i : ℕ) → isMember (s .used) i ≡ true
     → (memberAt s i .via ≡ 63) ⊎ (isMember (s .used) (memberAt s i .via) ≡ true)
 unfolding leads
 relay-is s h i m =

@@ -121,11 +121,11 @@ pub other-burst : (level : ℕ) (ws : List ℕ) → Quiet ws → burstsIn (headW
 unfolding burstsIn
 other-burst level ws h = above-head (waveWord level) ws (omega arith) ∙ h
 
-abbrev tinyBurst : ℕ → ℕ → List TurnEvent
+abbrev pub tinyBurst : ℕ → ℕ → List TurnEvent
 tinyBurst kind slot = cond (eqb kind 1 || eqb kind 5) (poll slot ∷ []) (cond (eqb kind 2 || eqb kind 3) (ack slot ∷ []) [])
 
 -- a burst without frames
-tiny-head : (kind extra level : ℕ) → kind < 16
+pub tiny-head : (kind extra level : ℕ) → kind < 16
     → burstsIn (tinyWords kind extra level) ≡ tinyBurst kind (extra % 64) ++ []
 unfolding burstsIn
 tiny-head kind extra level h =

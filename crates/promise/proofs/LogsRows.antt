@@ -1,0 +1,133 @@
+-- The payloads that the station sends are bytes: rows of the frames, and the beacon's own. Assumes nothing.
+use mathlib.Core.Path.{_≡_, refl, sym, ap, _∙_, subst}
+use mathlib.Core.Logic.{_⊎_, inl, inr, ⊎-elim}
+use Prim.Native.Nat.{ℕ, zero, suc, _+_, _*_, _/_, _%_, _≤_, _<_}
+use native.Mathlib.Omega.{arith}
+use mathlib.Core.Bool.{Bool, true, false, not, cond, _&&_, _||_}
+use mathlib.Core.List.{List, [], _∷_, _++_}
+use lib.Dec.{eqb, ltb}
+use lib.ListN.{length, getD, length-append}
+use borrow.Author.Tests.{lt-ltb}
+use Rattle.bits.specs.Loop.{fold}
+use Rattle.bits.specs.Mask.{hasBit, bothOf, eitherOf}
+use Rattle.bits.proofs.Laws.{has-both, has-either}
+use Rattle.bits.proofs.Lists.{and-true, or-elim}
+use Rattle.wire.specs.Call.{bytesOf, packed, packCall}
+use Rattle.wire.specs.Kinds.{cBeacon, cAcks, cTree, cRxlist}
+use Rattle.words.specs.Fine.{Bytes}
+use Rattle.words.proofs.Fine.{getD-bytes}
+use Rattle.out.specs.Encode.{ctrlWords, chunkWords}
+use Rattle.stream.specs.Window.{bitmapOf}
+use Rattle.net.specs.declared.Station.{Station}
+use Rattle.net.specs.declared.Settings.{Settings}
+use Rattle.net.specs.State.{memberAt}
+use Rattle.net.specs.Net.{isMember}
+use Rattle.net.proofs.Laws.{index-is, member-lt, member-is}
+use Rattle.roster.specs.Members.{noMember}
+use Rattle.bursts.specs.Rows.{seated, rowIf, rowsOf, ackRow, ackAt, ackRows, treeRow, treeAt, treeRows, listRow, listAt, listRows}
+use Rattle.bursts.specs.Bursts.{acked, movedIn, ackedOrMoved, nameBytes, beaconPayload, beaconRows}
+use Rattle.promise.specs.Promise.{LinksHold}
+use Rattle.promise.proofs.Dues.{relay-is}
+use Rattle.promise.proofs.LogsWords.{Frames, frames-both, frames-ctrl, frames-rows}
+
+bytes-append : {a b : List ℕ} → Bytes a → Bytes b → Bytes (a ++ b)
+bytes-append Bytes.none k = k
+bytes-append (Bytes.more h t) k = Bytes.more h (bytes-append t k)
+
+bytes-of : (n v : ℕ) → Bytes (bytesOf n v)
+bytes-of zero v = Bytes.none
+bytes-of (suc n) v = Bytes.more {b = v % 256} (omega arith) (bytes-of n (v / 256))
+
+-- ### Rows
+
+-- k bytes
+pub record Row (k : ℕ) (r : List ℕ) : Type 0 where
+  pub bytes : Bytes r
+  pub long : length r ≤ k
+
+module _ (p : ℕ → List ℕ → Bool) (row : ℕ → List ℕ) (k : ℕ) (each : (i : ℕ) (bs : List ℕ) → i < 62 → p i bs ≡ true → Row k (row i)) where
+  row-by : (i : ℕ) (bs : List ℕ) (m : ℕ) (t : Bool) → (t ≡ true → Row k (row i)) → Row m bs → Row (m + k) (cond t (bs ++ row i) bs)
+  row-by i bs m true f r =
+      record { bytes = bytes-append (r .bytes) (f refl .bytes); long = omega (arith, length-append bs (row i), r .long, f refl .long) }
+  row-by i bs m false f r = record { bytes = r .bytes; long = omega (arith, r .long) }
+
+  rows-from : (n i : ℕ) (bs : List ℕ) (m : ℕ) → i + n ≤ 62 → Row m bs → Row (m + n * k) (fold (rowIf p row) n i bs)
+  unfolding fold
+  rows-from zero i bs m h r = record { bytes = r .bytes; long = omega (arith, r .long) }
+  rows-from (suc n) i bs m h r =
+      let s = rows-from n (suc i) (rowIf p row i bs) (m + k) (omega arith) (row-by i bs m (p i bs) (λ e. each i bs (omega arith) e) r) in
+      record { bytes = s .bytes; long = omega (arith, s .long) }
+
+  rows : Row (62 * k) (rowsOf p row)
+  unfolding rowsOf
+  rows = let r = rows-from 62 0 [] 0 (omega arith) (record { bytes = Bytes.none; long = omega arith }) in record { bytes = r .bytes; long = omega (arith, r .long) }
+
+ack-row : (s : Station) (i : ℕ) → i < 62 → Row 6 (ackRow s i)
+ack-row s i h = record { bytes = Bytes.more {b = i} (omega arith) (bytes-of 5 (packed (seated s i .call))); long = omega arith }
+
+ack-rows : (s : Station) (mask most : ℕ) → Row 372 (ackRows s mask most)
+ack-rows s mask most = rows (ackAt mask most) (ackRow s) 6 (λ i bs h e. ack-row s i h)
+
+list-row : (s : Station) (i : ℕ) → i < 62 → Row 3 (listRow s i)
+list-row s i h = record { bytes = Bytes.more {b = i} (omega arith) (Bytes.more {b = seated s i .up .next % 256} (omega arith) (Bytes.more {b = bitmapOf (seated s i .up)} (omega arith) Bytes.none)); long = omega arith }
+
+list-rows : (s : Station) → Row 186 (listRows s)
+list-rows s = rows (listAt s) (listRow s) 3 (λ i bs h e. list-row s i h)
+
+-- ### The tree: a member's relay is none or a member
+
+moved-used : (s : Station) (i : ℕ) → hasBit (ackedOrMoved s) i ≡ true → hasBit (s .used) i ≡ true
+moved-used s i e =
+    or-elim (hasBit (acked s) i) (hasBit (movedIn s) i) (sym (has-either (acked s) (movedIn s) i) ∙ e)
+    (λ q. and-true (hasBit (s .round .toack) i) (hasBit (s .used) i) (sym (has-both (s .round .toack) (s .used) i) ∙ q) .1)
+    (λ q. and-true (hasBit (s .round .treenews) i) (hasBit (s .used) i) (sym (has-both (s .round .treenews) (s .used) i) ∙ q) .1)
+
+via-byte : (s : Station) → LinksHold s → (i : ℕ) → i < 62 → hasBit (s .used) i ≡ true → seated s i .via < 256
+via-byte s l i h e =
+    let m : isMember (s .used) i ≡ true = member-is (s .used) i h ∙ e in
+    ⊎-elim
+    (λ q. let z : seated s i .via ≡ 63 = subst (λ (j : ℕ). getD (s .members) j noMember .via ≡ 63) (index-is i h) q in omega arith)
+    (λ q. let z : seated s i .via < 62 = subst (λ (j : ℕ). getD (s .members) j noMember .via < 62) (index-is i h) (member-lt (s .used) (memberAt s i .via) q) in omega arith)
+    (relay-is s l i m)
+
+tree-row : (s : Station) (i : ℕ) → i < 62 → seated s i .via < 256 → Row 2 (treeRow s i)
+tree-row s i h v = record { bytes = Bytes.more {b = i} (omega arith) (Bytes.more v Bytes.none); long = omega arith }
+
+tree-rows : (s : Station) → LinksHold s → Row 124 (treeRows s (ackedOrMoved s) (movedIn s))
+tree-rows s l =
+    rows (treeAt s (ackedOrMoved s) (movedIn s)) (treeRow s) 2
+    (λ i bs h e. tree-row s i h (via-byte s l i h (moved-used s i (and-true (hasBit (ackedOrMoved s) i) (not (eqb (seated s i .via) 63) || hasBit (movedIn s) i) e .0))))
+
+-- ### The frames of each burst
+
+more-frames : {n k : ℕ} {fs : List ℕ} → Frames n fs → n ≤ k → Frames k fs
+more-frames f h = record { plain = f .plain; good = λ m ws g room q. f .good m ws g room (omega arith) }
+
+pub acks-frames : (s : Station) → LinksHold s
+    → Frames 64 (chunkWords cAcks 18 (ackRows s (acked s) 62) ++ chunkWords cTree 20 (treeRows s (ackedOrMoved s) (movedIn s)))
+acks-frames s l =
+    let a = ack-rows s (acked s) 62 in
+    let t = tree-rows s l in
+    more-frames (frames-both (frames-rows cAcks 18 21 _ (omega arith) (omega arith) (a .bytes) (omega (arith, a .long)))
+    (frames-rows cTree 20 7 _ (omega arith) (omega arith) (t .bytes) (omega (arith, t .long)))) (omega arith)
+
+pub list-frames : (s : Station) → Frames 64 (chunkWords cRxlist 21 (listRows s))
+list-frames s = let r = list-rows s in more-frames (frames-rows cRxlist 21 9 _ (omega arith) (omega arith) (r .bytes) (omega (arith, r .long))) (omega arith)
+
+-- the settings that a beacon sends as they are
+pub record Sendable (g : Settings) : Type 0 where
+  pub name : Bytes (g .name)
+  pub window : g .windowslots < 256
+
+beacon-bytes : (g : Settings) → Sendable g → Bytes (beaconPayload g)
+beacon-bytes g o =
+    let b : (i : ℕ) → getD (g .name) i 0 < 256 = λ i. getD-bytes i (o .name) in
+    bytes-append (Bytes.more {b = cBeacon} (omega arith) (bytes-of 5 (packed (g .call))))
+    (Bytes.more (b 0) (Bytes.more (b 1) (Bytes.more (b 2) (Bytes.more (b 3) (Bytes.more (b 4) (Bytes.more (b 5) (Bytes.more {b = 1} (omega arith) (Bytes.more (o .window) Bytes.none))))))))
+
+pub beacon-frames : (s : Station) → Sendable (s .settings) → Frames 64 (ctrlWords (beaconPayload (s .settings)) ++ chunkWords cAcks 18 (beaconRows s))
+unfolding beaconRows
+beacon-frames s o =
+    let a = ack-rows s (s .used) 9 in
+    more-frames (frames-both (frames-ctrl (beaconPayload (s .settings)) (omega arith) (beacon-bytes (s .settings) o))
+    (frames-rows cAcks 18 21 _ (omega arith) (omega arith) (a .bytes) (omega (arith, a .long)))) (omega arith)
