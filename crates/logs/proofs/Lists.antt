@@ -4,12 +4,12 @@ use mathlib.Core.Bool.{Bool, true, false, not, cond, _&&_}
 use mathlib.Core.List.{List, [], _∷_}
 use Prim.Native.Nat.{ℕ, zero, suc, _-_, _%_, _≤_, _<_}
 use native.Mathlib.Omega.{arith}
-use lib.Dec.{eqb, ltb}
+use lib.Dec.{eqb}
 use borrow.Author.Tests.{eq-eqb, ne-eqb, lt-ltb, le-ltb}
 use Rattle.bits.specs.Mask.{hasBit, withBit}
 use Rattle.bits.proofs.Lists.{cond-false}
 use Rattle.logs.specs.declared.Marks.{Marks}
-use Rattle.logs.specs.Reading.{isMark, markOk, has, slotOk, listOk, marksFrom, marksOk}
+use Rattle.logs.specs.Reading.{isMark, markOk, slotOk, listOk, marksFrom, marksOk}
 use Rattle.logs.specs.Steps.{walk, marks, faulty, countStep, slotFits, slotStep, markStep, marksEnd}
 use Rattle.logs.proofs.Sets.{Same, same-none, same-with}
 

@@ -1,5 +1,5 @@
 -- The parts of a log at an index of its words, and a walk at an index. Assumes nothing.
-use mathlib.Core.Path.{_≡_, refl, sym, ap, _∙_}
+use mathlib.Core.Path.{_≡_, refl, _∙_}
 use mathlib.Core.Bool.{Bool, true, false, cond, _&&_}
 use mathlib.Core.List.{List, [], _∷_}
 use Prim.Native.Nat.{ℕ, zero, suc, _+_, _-_, _≤_, _<_}
@@ -8,7 +8,7 @@ use native.Mathlib.Omega.{arith}
 use lib.Dec.{eqb, ltb}
 use lib.ListN.{length, drop, getD, drop-of-length-le, length-drop}
 use lib.Seq.{drop-cons, drop-drop}
-use borrow.Author.Tests.{le-ltb, lt-ltb}
+use borrow.Author.Tests.{lt-ltb}
 use Rattle.words.specs.Words.{sizeOf, itemAt, headOk}
 use Rattle.words.specs.declared.Item.{Item}
 use Rattle.words.specs.declared.Item.the-variants.{End, Bad, Lost, Frame}
@@ -69,7 +69,8 @@ part-within ws at room p h e = rw e (omega (arith, part-fits room (drop at ws), 
 
 -- ### Part after part
 
-parts-skip : (k room : ℕ) (l : List ℕ) → partsFrom k room l ≡ partsFrom 0 room (drop k l)
+-- words that belong to a part already read
+pub parts-skip : (k room : ℕ) (l : List ℕ) → partsFrom k room l ≡ partsFrom 0 room (drop k l)
 unfolding partsFrom
 parts-skip zero room l = refl
 parts-skip (suc k) room [] = refl

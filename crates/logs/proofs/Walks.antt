@@ -7,14 +7,14 @@ use native.Mathlib.Numerals.{add-one}
 use native.Mathlib.Omega.{arith}
 use lib.Dec.{eqb, ltb}
 use borrow.Author.Tests.{ne-eqb, eqb-true}
-use Rattle.bits.specs.Mask.{hasBit, withBit, withoutBit}
+use Rattle.bits.specs.Mask.{withBit, withoutBit}
 use Rattle.bits.proofs.Lists.{cond-false}
 use Rattle.wire.specs.Kinds.{tiny, kPoll, kPollack, kAck, kRelay}
 use Rattle.words.specs.Words.{headOf}
 use Rattle.words.specs.declared.Head.{Head}
 use Rattle.logs.specs.declared.Watch.{Watch}
 use Rattle.logs.specs.Reading.{Entry, mark, poll, pollack, ack, isMark, has, sendingBy, slotsIn, entriesFrom}
-use Rattle.logs.specs.Turns.{Turn, turn, Running, idle, runs, begun}
+use Rattle.logs.specs.Turns.{turn, Running, idle, runs, begun}
 use Rattle.logs.specs.Steps.{walk, watch, rejected, drawn, listed, begins, again, polled, slotAfter, acked, tinySent, sent, wordStep, watchStep}
 use Rattle.logs.proofs.Sets.{without, isNone, Same, same-none, same-behind, same-without, same-empty}
 use Rattle.logs.proofs.Watched.{watched}

@@ -4,7 +4,7 @@ use mathlib.Core.List.{List, [], _∷_}
 use Prim.Native.Nat.{ℕ, suc}
 use lib.Dec.{eqb, ltb}
 use Rattle.logs.specs.Reading.{Entry, mark, poll, pollack, ack, has}
-use Rattle.logs.specs.Turns.{Turn, turn, Running, idle, runs, begun}
+use Rattle.logs.specs.Turns.{turn, Running, idle, runs, begun}
 use Rattle.logs.proofs.Sets.{without, isNone}
 
 unfoldable pub watched : List ℕ → Running → List Entry → Bool

@@ -1,8 +1,8 @@
 -- The turns in a log, and which logs are accepted.
 use mathlib.Core.Bool.{Bool, true, false, not, cond, _&&_, _||_}
 use mathlib.Core.List.{List, [], _∷_}
-use Prim.Native.Nat.{ℕ, suc, _<_}
-use lib.Dec.{eqb, ltb, leb}
+use Prim.Native.Nat.{ℕ, suc}
+use lib.Dec.{eqb, leb}
 use Rattle.logs.specs.Reading.{Entry, mark, poll, pollack, ack, has, sendingsOk, marksOk, entriesOf}
 use Rattle.logs.specs.declared.Verdict.{Verdict}
 use Rattle.logs.specs.declared.Verdict.the-variants.{Refused, Accepted, Rejected}
@@ -27,7 +27,8 @@ abbrev pub endOf : Running → List Turn
 endOf idle = []
 endOf (runs t) = t ∷ []
 
--- the turns up to the next mark, in order: runs of one slot. A poll of another slot starts another turn, K_ACK ends one, and a mark breaks one.
+-- the turns up to the next mark, in order: runs of one slot. A poll of another slot starts another turn, K_ACK ends one, and a mark breaks one. (Of
+-- which slot an acknowledgement is, `insideFrom` asks.)
 unfoldable pub turnsFrom : Running → List Entry → List Turn
 turnsFrom r [] = endOf r
 turnsFrom r (mark l ∷ es) = endOf r

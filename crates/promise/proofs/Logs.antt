@@ -1,25 +1,20 @@
 -- The station's own logs pass the turn check: what the monitor accepts, the check accepts. Assumes nothing.
 use mathlib.Core.Path.{_≡_, refl, sym, ap, _∙_, subst}
-use mathlib.Core.Logic.{_⊎_, inl, inr}
-use Prim.Native.Nat.{ℕ, zero, suc, _+_, _/_, _%_, _≤_, _<_}
+use mathlib.Core.Logic.{inl, inr}
+use Prim.Native.Nat.{ℕ, zero, suc, _+_, _/_, _%_, _<_}
 use native.Mathlib.Omega.{arith}
-use mathlib.Core.Bool.{Bool, true, false, not, cond, _&&_}
-use mathlib.Core.List.{List, [], _∷_, _++_, append-assoc, append-nil}
+use mathlib.Core.Bool.{Bool, true, false, cond, _&&_}
+use mathlib.Core.List.{List, [], _∷_, _++_, append-assoc}
 use mathlib.Core.Option.{Option, none, some}
-use lib.Dec.{eqb, ltb}
 use lib.ListN.{length}
 use borrow.Author.Tests.{eq-eqb, ne-eqb, lt-ltb}
 use Rattle.bits.specs.Mask.{hasBit, slotsOf}
 use Rattle.bits.proofs.Laws.{slots-length}
-use Rattle.words.specs.Fine.{Bytes}
-use Rattle.config.specs.declared.Given.{Given}
 use Rattle.config.specs.Checks.{settingsOf}
 use Rattle.stream.specs.Table.{cellCount}
 use Rattle.net.specs.declared.Station.{Station}
 use Rattle.net.specs.declared.Settings.{Settings}
 use Rattle.net.specs.Net.{newStation}
-use Rattle.station.specs.Entries.{startRefusal}
-use Rattle.logs.specs.declared.Verdict.the-variants.{Accepted}
 use Rattle.logs.specs.Reading.{Entry, has, listOk, marksFrom, slotsIn, entriesFrom}
 use Rattle.logs.specs.Reading as log
 use Rattle.logs.specs.Turns.{Running, idle, runs, begun, accepted, verdictOf}
@@ -34,7 +29,7 @@ use Rattle.promise.proofs.Links.{links}
 use Rattle.promise.proofs.TurnsWords.{sent-append, quiet-first}
 use Rattle.promise.proofs.TurnsLists.{list-once}
 use Rattle.promise.proofs.Turns.{start-is, followed}
-use Rattle.promise.proofs.LogsWords.{GoodFrom, Good, good-none, good-mark, Agree, Burst}
+use Rattle.promise.proofs.LogsWords.{Good, good-none, good-mark, Agree}
 use Rattle.promise.proofs.LogsRows.{Sendable}
 use Rattle.promise.proofs.LogsCalls.{Spoken, Reports, reports}
 
@@ -117,8 +112,9 @@ goes-burst es k (Agree.ends {x} {y}) g = goes-ack es k x y g
 
 -- ### The words of a mark
 
-abbrev Low : List ℕ → Type 0
-Low l = (x : ℕ) → In x l → x < 62
+-- each is a slot
+abbrev Slots : List ℕ → Type 0
+Slots l = (x : ℕ) → In x l → x < 62
 
 below : (m n i x : ℕ) → In x (slotsOf m n i) → x < i + n
 unfolding slotsOf
@@ -133,14 +129,14 @@ below m (suc n) i x h = go (hasBit m i) h (λ u. below m n (suc i) x u)
 slot-kind : (x : ℕ) → x < 64 → ((0x60000000 + x) / 268435456 ≡ 6) × ((0x60000000 + x) % 64 ≡ x) × ((0x60000000 + x) / 64 ≡ 25165824)
 slot-kind x h = (omega arith, omega arith, omega arith)
 
-slots-good : (l ws : List ℕ) → Low l → Good ws → Good (slotWords l ++ ws)
+slots-good : (l ws : List ℕ) → Slots l → Good ws → Good (slotWords l ++ ws)
 unfolding slotWords
 slots-good [] ws h g = g
 slots-good (x ∷ l) ws h g =
     let b = h x (inl refl) in
     good-mark (0x60000000 + x) (slotWords l ++ ws) (slot-kind x (omega arith) .0) (slots-good l ws (λ y i. h y (inr i)) g)
 
-slots-read : (l ws : List ℕ) → Low l → slotsIn (length l) (slotWords l ++ ws) ≡ l
+slots-read : (l ws : List ℕ) → Slots l → slotsIn (length l) (slotWords l ++ ws) ≡ l
 unfolding slotWords slotsIn
 slots-read [] ws h = refl
 slots-read (x ∷ l) ws h =
@@ -161,7 +157,7 @@ has-not : (x : ℕ) (l : List ℕ) → (In x l → ⊥) → has x l ≡ false
 has-not x [] n = refl
 has-not x (y ∷ l) n = rw (ne-eqb x y (λ e. n (inl e))) (has-not x l (λ i. n (inr i)))
 
-slots-listed : (l bs ws : List ℕ) → Low l → NoDup l → ((x : ℕ) → In x l → In x bs → ⊥) → listOk bs (length l) (slotWords l ++ ws) ≡ true
+slots-listed : (l bs ws : List ℕ) → Slots l → NoDup l → ((x : ℕ) → In x l → In x bs → ⊥) → listOk bs (length l) (slotWords l ++ ws) ≡ true
 unfolding slotWords listOk
 slots-listed [] bs ws h d n = refl
 slots-listed (x ∷ l) bs ws h d n =
@@ -174,7 +170,7 @@ slots-listed (x ∷ l) bs ws h d n =
     apart f n y i (inl e) = f (subst (λ (z : ℕ). In z l) e i)
     apart f n y i (inr j) = n y (inr i) j
 
-module _ (l ws : List ℕ) (h : Low l) (short : length l < 64) where
+module _ (l ws : List ℕ) (h : Slots l) (short : length l < 64) where
   abbrev count : ℕ
   count = 0x60000000 + length l
 
@@ -219,7 +215,7 @@ sound-mark : (o : Option ℕ) (v : List ℕ) (k : List TurnEvent) → Sound v k 
 sound-mark none v k f = f
 sound-mark (some m) v k f =
     let l = slotsOf m 62 0 in
-    let h : Low l = λ x i. below m 62 0 x i in
+    let h : Slots l = λ x i. below m 62 0 x i in
     let short : length l < 64 = omega (arith, slots-length m 62 0) in
     record {
       good = mark-good l v h short (f .good);

@@ -12,8 +12,6 @@ use Rattle.bits.proofs.Loops.{fold-keeps}
 use Rattle.bits.specs.Mask.{lowestBit}
 use Rattle.bits.specs.declared.Found.{Found}
 use Rattle.bits.specs.declared.Found.the-variants as found
-use Rattle.level.specs.declared.Clock.{Clock}
-use Rattle.level.specs.declared.Clock.the-variants as clock
 use Rattle.wire.specs.Call.{unpackCall}
 use Rattle.wire.specs.Kinds.{tiny, kIdle, cAcks, cTree, cRxlist}
 use Rattle.words.specs.Words as words
@@ -21,7 +19,6 @@ use Rattle.words.specs.Words.{Parsed, malformed, parsed, parse}
 use Rattle.words.specs.declared.Head.{Head}
 use Rattle.out.specs.Encode.{missedWord, ctrlWords, chunkWords}
 use Rattle.roster.specs.declared.Member.{Member}
-use Rattle.stream.specs.Table.{freedTable}
 use Rattle.net.specs.declared.Station.{Station}
 use Rattle.net.specs.declared.Settings.{Settings}
 use Rattle.net.specs.declared.Reply.{Reply}
@@ -29,7 +26,7 @@ use Rattle.net.specs.declared.Turn.{Turn}
 use Rattle.net.specs.declared.Turn.the-variants.{Idle, Sending, Waiting}
 use Rattle.net.specs.declared.Round.{Round}
 use Rattle.net.specs.declared.Wait.{Wait}
-use Rattle.net.specs.State.{memberAt, withWait, withRound, withRxsent, withRxdirty, withClosing, withTable, tableOf, oneList, oneReply}
+use Rattle.net.specs.State.{memberAt, withWait, withRound, withRxsent, withRxdirty, oneList, oneReply}
 use Rattle.net.specs.Net.{isMember, idleWait, Said, said, onTxDone}
 use Rattle.admit.specs.Admission.{seatOf, isFull, viaFor}
 use Rattle.bursts.specs.Rows.{ackRows, treeRows, listRows, leastReach, leastDirect}
@@ -39,18 +36,18 @@ use Rattle.next.specs.declared.Act.{Act}
 use Rattle.next.specs.declared.Act.the-variants as act
 use Rattle.next.specs.declared.Due.{Due}
 use Rattle.next.specs.declared.Due.the-variants.{Free, Quiet, Close, Again, Missed}
-use Rattle.next.specs.Next.{Decision, silent, spoke, after, pollBy, pollStage, nextNumber, listFor, drawn, drawStage, reroutedStage, rerouteStage, listStage, roundEnd, hurried, actOf, actBy, actStage, windowStage, closeStage, againStage, missedEvent, missedStage, dueOf, byDue, ncsNext}
+use Rattle.next.specs.Next.{Decision, silent, spoke, after, pollBy, pollStage, drawn, drawStage, rerouteStage, listStage, roundEnd, actOf, actBy, actStage, windowStage, closeStage, againStage, missedEvent, missedStage, dueOf, byDue, ncsNext}
 use Rattle.next.specs.Next as next
 use Rattle.frames.specs.declared.Air.{Air}
 use Rattle.frames.specs.Reading.{Reading}
 use Rattle.frames.specs.Frames.{readFrames}
-use Rattle.rx.specs.Ending.{Ended, nothingMore, turnOverIn, idleHeard, idleBy, idleEnd, replyHeard, answerBy, goesOn, isReply, replyBy, replyEnd, busyWait}
+use Rattle.rx.specs.Ending.{Ended, nothingMore, turnOverIn, idleHeard, idleBy, idleEnd, answerBy, goesOn, isReply, replyBy, replyEnd, busyWait}
 use Rattle.rx.specs.Reception.{Received, airOf, firstReading, receivedOf, ncsRxFrom, ncsRx}
-use Rattle.station.specs.Entries.{Outcome, refused, done, unless, admitted, admitOf, receiveBy, receiveRefusal, receiveOf, nextOf, sentOf, closeOf, freeOf, readRefusal, check1, admitRefusal, nextRefusal, closeRefusal, cellRefusal}
+use Rattle.station.specs.Entries.{Outcome, refused, done, unless, admitOf, receiveBy, receiveRefusal, receiveOf, nextOf, sentOf, closeOf, freeOf, readRefusal, check1, admitRefusal, nextRefusal, closeRefusal, cellRefusal}
 use Rattle.dues.specs.Dues.{duesRefusal}
 use Rattle.promise.specs.Promise.{lentTo, Net, ofBurst, Call, admission, reception, decision, sending, closing, reading, freeing, charging, result, outcome, leads, LinksHold}
 use Rattle.promise.proofs.TurnsWords.{Mute, mute-none, mute-both, mute-missed, other-burst, quiet-both, quiet-ctrl, quiet-chunk-words}
-use Rattle.promise.proofs.TurnsKeeps.{Calm, reroute-calm, admit-calm, CalmIn, calm-start, frames-calm}
+use Rattle.promise.proofs.TurnsKeeps.{reroute-calm, admit-calm, CalmIn, calm-start, frames-calm}
 use Rattle.promise.proofs.LogsWords.{Burst, burst-none, burst-other, burst-poll, burst-pollack, burst-ack, burst-close}
 use Rattle.promise.proofs.LogsRows.{Sendable, acks-frames, list-frames, beacon-frames}
 

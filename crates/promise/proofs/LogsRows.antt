@@ -1,18 +1,17 @@
 -- The payloads that the station sends are bytes: rows of the frames, and the beacon's own. Assumes nothing.
-use mathlib.Core.Path.{_≡_, refl, sym, ap, _∙_, subst}
-use mathlib.Core.Logic.{_⊎_, inl, inr, ⊎-elim}
+use mathlib.Core.Path.{_≡_, refl, sym, _∙_, subst}
+use mathlib.Core.Logic.{_⊎_, ⊎-elim}
 use Prim.Native.Nat.{ℕ, zero, suc, _+_, _*_, _/_, _%_, _≤_, _<_}
 use native.Mathlib.Omega.{arith}
-use mathlib.Core.Bool.{Bool, true, false, not, cond, _&&_, _||_}
-use mathlib.Core.List.{List, [], _∷_, _++_}
-use lib.Dec.{eqb, ltb}
+use mathlib.Core.Bool.{Bool, true, false, not, cond, _||_}
+use mathlib.Core.List.{List, [], _++_}
+use lib.Dec.{eqb}
 use lib.ListN.{length, getD, length-append}
-use borrow.Author.Tests.{lt-ltb}
 use Rattle.bits.specs.Loop.{fold}
-use Rattle.bits.specs.Mask.{hasBit, bothOf, eitherOf}
+use Rattle.bits.specs.Mask.{hasBit}
 use Rattle.bits.proofs.Laws.{has-both, has-either}
 use Rattle.bits.proofs.Lists.{and-true, or-elim}
-use Rattle.wire.specs.Call.{bytesOf, packed, packCall}
+use Rattle.wire.specs.Call.{bytesOf, packed}
 use Rattle.wire.specs.Kinds.{cBeacon, cAcks, cTree, cRxlist}
 use Rattle.words.specs.Fine.{Bytes}
 use Rattle.words.proofs.Fine.{getD-bytes}
@@ -25,7 +24,7 @@ use Rattle.net.specs.Net.{isMember}
 use Rattle.net.proofs.Laws.{index-is, member-lt, member-is}
 use Rattle.roster.specs.Members.{noMember}
 use Rattle.bursts.specs.Rows.{seated, rowIf, rowsOf, ackRow, ackAt, ackRows, treeRow, treeAt, treeRows, listRow, listAt, listRows}
-use Rattle.bursts.specs.Bursts.{acked, movedIn, ackedOrMoved, nameBytes, beaconPayload, beaconRows}
+use Rattle.bursts.specs.Bursts.{acked, movedIn, ackedOrMoved, beaconPayload, beaconRows}
 use Rattle.promise.specs.Promise.{LinksHold}
 use Rattle.promise.proofs.Dues.{relay-is}
 use Rattle.promise.proofs.LogsWords.{Frames, frames-both, frames-ctrl, frames-rows}

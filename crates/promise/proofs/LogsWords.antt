@@ -1,17 +1,15 @@
 -- The words of one burst in a log: they are a sending, no word of a mark, and its head alone is an entry. Assumes nothing.
 use mathlib.Core.Path.{_≡_, refl, sym, ap, _∙_, subst}
 use Prim.Native.Nat.{ℕ, zero, suc, _+_, _-_, _*_, _/_, _%_, _≤_, _<_}
-use native.Mathlib.Nat.{zero-add}
 use native.Mathlib.Omega.{arith}
-use mathlib.Core.Bool.{Bool, true, false, cond, _&&_, _||_}
+use mathlib.Core.Bool.{Bool, true, false, cond, _||_}
 use mathlib.Core.List.{List, [], _∷_, _++_, append-assoc}
 use mathlib.Core.Option.{Option, none, some}
-use lib.Dec.{eqb, ltb, leb}
-use lib.ListN.{length, take, drop, length-drop, length-take}
+use lib.Dec.{eqb}
+use lib.ListN.{length, take, drop, length-drop}
 use lib.Seq.{drop-at}
 use borrow.Author.Tests.{eq-eqb, ne-eqb, le-leb, lt-ltb}
 use Rattle.words.specs.Words.{wordsFor, wordOk, payloadOk, frameOf, itemAt, headOk, headOf}
-use Rattle.words.specs.declared.Head.{Head}
 use Rattle.words.specs.declared.Item.the-variants.{Frame}
 use Rattle.words.specs.Fine.{Bytes}
 use Rattle.words.proofs.Laws.{payload-done}
@@ -19,10 +17,11 @@ use Rattle.words.proofs.Fine.{take-bytes}
 use Rattle.out.specs.Encode.{headWord, waveWord, word12, pack, ctrlWords, chunksOf, chunkSize, chunkWords}
 use Rattle.out.proofs.Pack.{length-pack, length-take-most}
 use Rattle.bursts.specs.Bursts.{headWords, tinyWords}
-use Rattle.logs.specs.Reading.{Entry, isMark, part, noPart, headPart, framePart, partOf, partsFrom, marksFrom, sendingBy, entriesFrom}
+use Rattle.logs.specs.Reading.{Entry, framePart, partOf, partsFrom, marksFrom, sendingBy, entriesFrom}
 use Rattle.logs.specs.Reading as log
-use Rattle.promise.specs.Promise.{TurnEvent, poll, ack, burstBy, burstsIn}
-use Rattle.promise.specs.Logs.{isSent, sentIn}
+use Rattle.logs.proofs.Parts.{parts-skip}
+use Rattle.promise.specs.Promise.{TurnEvent, poll, ack, burstsIn}
+use Rattle.promise.specs.Logs.{sentIn}
 use Rattle.promise.proofs.TurnsWords.{tiny-head, tinyBurst}
 
 -- ### Words 9 to 12
@@ -70,12 +69,6 @@ Good ws = GoodFrom 0 ws
 pub good-none : Good []
 unfolding partsFrom
 good-none room h = refl
-
-skip : (k room : ℕ) (l : List ℕ) → partsFrom k room l ≡ partsFrom 0 room (drop k l)
-unfolding partsFrom
-skip zero room l = refl
-skip (suc k) room [] = refl
-skip (suc k) room (w ∷ ws) = skip k room ws
 
 -- a word of a mark
 pub good-mark : (w : ℕ) (ws : List ℕ) → w / 268435456 ≡ 6 → Good ws → Good (w ∷ ws)
@@ -135,7 +128,7 @@ module _ (p ws : List ℕ) (n : length p < 256) (bs : Bytes p) where
   good-frame m g room h =
       let k : 2 + wordsFor (length p) - 1 ≡ suc (wordsFor (length p)) = omega arith in
       rw (frame-part room, ne-eqb room 0 (λ e. omega arith), lt-ltb 0 (2 + wordsFor (length p)) (omega arith), k)
-      (skip (wordsFor (length p)) (room - 1) (pack p ++ ws) ∙ rw (drop-at (pack p) ws (wordsFor (length p)) (length-pack p)) (g (room - 1) (omega arith)))
+      (parts-skip (wordsFor (length p)) (room - 1) (pack p ++ ws) ∙ rw (drop-at (pack p) ws (wordsFor (length p)) (length-pack p)) (g (room - 1) (omega arith)))
 
 -- ### Frames
 

@@ -25,8 +25,11 @@ use Rattle.next.specs.Next.{pollStage, listFor, drawStage, rerouteStage, roundE
 use Rattle.frames.specs.Frames.{readFrames}
 use Rattle.rx.specs.Ending.{replyEnd}
 use Rattle.rx.specs.Reception.{ncsRx}
+use Rattle.logs.specs.Reading.{slotsIn, entriesFrom, entriesOf}
+use Rattle.logs.specs.Reading as log
 use Rattle.station.specs.Entries.{admitRefusal, admitOf, receiveRefusal, receiveOf, nextRefusal, nextOf, sentOf}
 use Rattle.promise.specs.Promise.{handed, net, Call, admission, reception, decision, sending, result, step, drew, over, poll, ack, burstsIn, turnEvents, trace}
+use Rattle.promise.specs.Logs.{sentIn, slotWords, logOf, logFrom}
 
 abbrev nil : Float
 nil = fin false 0 (pos 0)
@@ -54,7 +57,16 @@ abbrev begin : List Call
 begin =
     admission (0 ∷ 0 ∷ 0 ∷ 0 ∷ 1 ∷ []) 63 nil 8192 ∷ admission (0 ∷ 0 ∷ 0 ∷ 0 ∷ 2 ∷ []) 63 nil 8192 ∷ next ∷ sent ∷ []
 
-longest : trace (begin ++ (next ∷ sent ∷ next ∷ more ∷ sent ∷ next ∷ more ∷ sent ∷ next ∷ more ∷ sent ∷ next ∷ more ∷ sent ∷ next ∷ [])) (net (newStation settings 1) (replicate 6400 7))
+abbrev run : List Call
+run = begin ++ (next ∷ sent ∷ next ∷ more ∷ sent ∷ next ∷ more ∷ sent ∷ next ∷ more ∷ sent ∷ next ∷ more ∷ sent ∷ next ∷ [])
+
+longest : trace run (net (newStation settings 1) (replicate 6400 7))
     ≡ drew (0 ∷ 1 ∷ []) ∷ poll 0 ∷ poll 0 ∷ ack 0 ∷ poll 0 ∷ ack 0 ∷ poll 0 ∷ ack 0 ∷ poll 0 ∷ ack 0 ∷ over 0 ∷ poll 1 ∷ []
 unfolding size units round sum add mul lt le ofInt ofBits first fold every any hasBit withBit withoutBit bothOf eitherOf minusOf lowestBit lowestFree slotsOf stop levelBelow totalLt digit char trimStart trimEnd unpacked shifted itemAt framesOf headOk parse pack framesWords chunksOf heardAt relaySrcFor turnOver isMember newStation onTxDone seatOf findCall leadsTo pollBurst acksBurst beaconRows beaconPayload beyond beaconOf tellAll listSent rxListBurst triedOf sourceFor promoteAt promoteAll moveAt moveAll rerouteOf maskWhere rowsOn leastReach leastDirect pollStage listFor drawStage rerouteStage roundEnd actOf windowStage againStage dueOf ncsNext readFrames replyEnd ncsRx admitRefusal admitOf receiveRefusal receiveOf nextRefusal nextOf sentOf result step burstsIn turnEvents trace
 longest = refl
+
+-- its log: the beacon's sending is passed over, and the last acknowledgement is K_ACK
+longest-log : entriesOf (logFrom run (net (newStation settings 1) (replicate 6400 7)))
+    ≡ log.mark (0 ∷ 1 ∷ []) ∷ log.poll 0 ∷ log.poll 0 ∷ log.pollack 0 ∷ log.poll 0 ∷ log.pollack 0 ∷ log.poll 0 ∷ log.pollack 0 ∷ log.poll 0 ∷ log.ack 0 ∷ log.poll 1 ∷ []
+unfolding size units round sum add mul lt le ofInt ofBits first fold every any hasBit withBit withoutBit bothOf eitherOf minusOf lowestBit lowestFree slotsOf stop levelBelow totalLt digit char trimStart trimEnd unpacked shifted itemAt framesOf headOk parse pack framesWords chunksOf heardAt relaySrcFor turnOver isMember newStation onTxDone seatOf findCall leadsTo pollBurst acksBurst beaconRows beaconOf tellAll listSent rxListBurst triedOf sourceFor promoteAt promoteAll moveAt moveAll rerouteOf maskWhere rowsOf leastReach leastDirect pollStage listFor drawStage rerouteStage roundEnd actOf windowStage againStage dueOf ncsNext readFrames replyEnd ncsRx admitRefusal admitOf receiveRefusal receiveOf nextRefusal nextOf sentOf result step burstsIn turnEvents trace sentIn slotWords logOf logFrom slotsIn entriesFrom
+longest-log = refl

@@ -1,5 +1,5 @@
 -- Assumes nothing.
-use mathlib.Core.Path.{_≡_, sym, ap, _∙_}
+use mathlib.Core.Path.{sym, ap, _∙_}
 use Prim.Native.Nat.{ℕ}
 use borrow.Author.Needs.{needs}
 use Rattle.bits.proofs.Lists.{cond-true, cond-false}

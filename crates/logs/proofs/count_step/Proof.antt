@@ -1,8 +1,8 @@
 -- Assumes nothing.
-use mathlib.Core.Path.{_≡_, sym, ap, _∙_}
+use mathlib.Core.Path.{sym, _∙_}
 use borrow.Author.Needs.{needs}
 use borrow.Author.Tests.{not-true, not-false}
-use Rattle.bits.proofs.Lists.{cond-true, cond-false}
+use Rattle.bits.proofs.Lists.{cond-false}
 use Rattle.logs.specs.Steps.{countStep}
 use Rattle.logs.proofs.count_step.Statement.{statement}
 use Rattle.logs.proofs.count_step.Tie as tie

@@ -1,12 +1,10 @@
 -- Assumes nothing.
-use mathlib.Core.Path.{_≡_, refl, sym, ap, _∙_}
-use mathlib.Core.Bool.{Bool, _&&_, true, false}
+use mathlib.Core.Path.{_≡_, refl, _∙_}
 use Prim.Native.Nat.{_≤_, _-_}
 use native.Mathlib.Omega.{arith}
 use lib.ListN.{length, drop}
 use borrow.Author.Needs.{needs}
-use borrow.Author.Tests.{eq-eqb, ne-eqb}
-use Rattle.logs.specs.Steps.{walk, marks, markStep, marksEnd}
+use Rattle.logs.specs.Steps.{walk, marks, markStep}
 use Rattle.logs.proofs.Parts.{walk-end, walk-step}
 use Rattle.logs.proofs.Lists.{marks-walk, ends-good, ends-short}
 use Rattle.logs.proofs.marks_ok.Statement.{statement}
