@@ -1,19 +1,23 @@
 -- The one pass accepts exactly the logs that are accepted. Assumes nothing.
-use mathlib.Core.Path.{_≡_, refl, sym, ap, _∙_}
+use mathlib.Core.Path.{_≡_, refl, sym, ap, _∙_, subst}
 use mathlib.Core.Bool.{Bool, true, false, not, cond, _&&_, _||_}
 use mathlib.Core.List.{List, [], _∷_}
-use mathlib.Core.Logic.{_⊎_, inl, inr}
+use mathlib.Core.Logic.{_⊎_, inl, inr, ⊎-elim}
 use Prim.Native.Nat.{ℕ, suc, _≤_}
 use native.Mathlib.Omega.{arith}
 use lib.Dec.{eqb, ltb, leb}
 use borrow.Author.Tests.{ne-eqb, eq-eqb, eqb-true, eqb-false, le-leb, leb-true, lt-leb, ltb-false, ltb-true}
-use Rattle.bits.proofs.Lists.{and-true, never-both, eq-or-not}
+use Rattle.bits.proofs.Lists.{and-true, never-both, eq-or-not, same-test}
 use Rattle.logs.specs.Reading.{Entry, mark, poll, pollack, ack, has}
-use Rattle.logs.specs.Turns.{Turn, turn, Running, idle, runs, begun, endOf, turnsFrom, insideFrom, slotsOf, within, distinct, allIn, markAhead, roundOk, roundsOk, accepted}
+use Rattle.logs.specs.Turns.{Turn, turn, Running, idle, runs, begun, endOf, turnsFrom, insideFrom, within, turnsOf, oneEach, onlyListed, markAhead, roundOk, roundsOk, accepted}
 use Rattle.logs.proofs.Sets.{without, isNone, has-here, has-there, without-has, without-keeps}
 use Rattle.logs.proofs.Watched.{watched}
 
 -- ### Slots whose turns begin, up to the next mark
+
+abbrev slotsOf : List Turn → List ℕ
+slotsOf [] = []
+slotsOf (turn s p a ∷ ts) = s ∷ slotsOf ts
 
 unfoldable new : Running → List Entry → List ℕ
 new r [] = []
@@ -76,6 +80,22 @@ abbrev fits : List ℕ → List ℕ → Bool → Bool
 fits due [] ahead = not ahead || isNone due
 fits due (x ∷ n) ahead = has x due && fits (without x due) n ahead
 
+-- how often x stands on the list
+abbrev times : ℕ → List ℕ → ℕ
+times x [] = 0
+times x (y ∷ n) = cond (eqb x y) (suc (times x n)) (times x n)
+
+abbrev right : Bool → ℕ → Bool
+right ahead k = cond ahead (eqb k 1) (leb k 1)
+
+abbrev each : Bool → List ℕ → List ℕ → Bool
+each ahead [] n = true
+each ahead (x ∷ due) n = right ahead (times x n) && each ahead due n
+
+abbrev allIn : List ℕ → List ℕ → Bool
+allIn [] m = true
+allIn (x ∷ l) m = has x m && allIn l m
+
 swap : (a b c : Bool) → a && (b && c) ≡ b && (a && c)
 swap true true c = refl
 swap true false c = refl
@@ -91,35 +111,82 @@ in-without x (y ∷ n) due = by (eq-or-not y x) (in-without x n due)
     by (inl e) ih = rw (e, without-has x due, has-here x n)
     by (inr d) ih = rw (without-keeps y x due d, has-there x y n (λ e. d (sym e)), ih) (swap (has y due) (not (has x n)) (allIn n due))
 
-without-in : (x : ℕ) (due n : List ℕ) → allIn (without x due) n ≡ allIn due (x ∷ n)
-without-in x [] n = refl
-without-in x (y ∷ l) n = by (eqb x y) refl (without-in x l n)
+-- a slot stands on a list no times where it is not on it
+times-none : (x : ℕ) (n : List ℕ) → eqb (times x n) 0 ≡ not (has x n)
+times-none x [] = refl
+times-none x (y ∷ n) = by (eqb x y) (times-none x n)
   where
-    by : (b : Bool) → eqb x y ≡ b → allIn (without x l) n ≡ allIn l (x ∷ n) → allIn (cond b (without x l) (y ∷ without x l)) n ≡ has y (x ∷ n) && allIn l (x ∷ n)
-    by true e ih = rw (eq-eqb y x (sym (eqb-true x y e))) ih
-    by false e ih = rw (ne-eqb y x (λ q. eqb-false x y e (sym q)), ih)
+    by : (b : Bool) → eqb (times x n) 0 ≡ not (has x n) → eqb (cond b (suc (times x n)) (times x n)) 0 ≡ not (cond b true (has x n))
+    by true ih = ne-eqb (suc (times x n)) 0 (λ e. omega arith)
+    by false ih = ih
 
-none-in : (due : List ℕ) → isNone due ≡ allIn due []
-none-in [] = refl
-none-in (x ∷ l) = refl
+one-more : (ahead : Bool) (k : ℕ) → right ahead (suc k) ≡ eqb k 0
+one-more true k = same-test (suc k) 1 k 0 (λ e. omega arith) (λ e. omega arith)
+one-more false k = ⊎-elim (λ e. le-leb (suc k) 1 (omega arith) ∙ sym (eq-eqb k 0 e)) (λ d. lt-leb (suc k) 1 (omega arith) ∙ sym (ne-eqb k 0 d)) (eq-or-not k 0)
 
-shuffle : (a h d q z : Bool) → a && (d && ((h && q) && z)) ≡ (h && d) && ((a && q) && z)
-shuffle true true true q z = refl
-shuffle true true false q z = refl
-shuffle true false true q z = refl
-shuffle true false false q z = refl
-shuffle false true true q z = refl
-shuffle false true false q z = refl
-shuffle false false d q z = refl
+join : (n o h : Bool) → n && (o && (not h || n)) ≡ o && n
+join true true true = refl
+join true true false = refl
+join true false h = refl
+join false true h = refl
+join false false h = refl
 
-fits-is : (n due : List ℕ) (ahead : Bool) → fits due n ahead ≡ distinct n && (allIn n due && (not ahead || allIn due n))
-fits-is [] due ahead = ap (λ (b : Bool). not ahead || b) (none-in due)
+pair : (a b c : Bool) → a && (b && c) ≡ (a && b) && c
+pair true b c = refl
+pair false b c = refl
+
+-- a turn of slot x more
+each-more : (ahead : Bool) (x : ℕ) (due n : List ℕ) → each ahead due (x ∷ n) ≡ each ahead (without x due) n && (not (has x due) || not (has x n))
+each-more ahead x [] n = refl
+each-more ahead x (y ∷ due) n = by (eqb x y) refl (each-more ahead x due n)
+  where
+    by : (b : Bool) → eqb x y ≡ b → each ahead due (x ∷ n) ≡ each ahead (without x due) n && (not (has x due) || not (has x n))
+        → right ahead (times y (x ∷ n)) && each ahead due (x ∷ n)
+        ≡ each ahead (cond b (without x due) (y ∷ without x due)) n && (not (cond b true (has x due)) || not (has x n))
+    by true e ih =
+        let q : x ≡ y = eqb-true x y e in
+        let z : right ahead (times y (x ∷ n)) ≡ not (has x n) = subst (λ (w : ℕ). right ahead (times w (x ∷ n)) ≡ not (has x n)) q (rw (eq-eqb x x refl) (one-more ahead (times x n) ∙ times-none x n)) in
+        rw (z, ih) (join (not (has x n)) (each ahead (without x due) n) (has x due))
+    by false e ih =
+        rw (ne-eqb y x (λ q. eqb-false x y e (sym q)), ih)
+        (pair (right ahead (times y n)) (each ahead (without x due) n) (not (has x due) || not (has x n)))
+
+none-each : (ahead : Bool) (due : List ℕ) → not ahead || isNone due ≡ each ahead due [] && true
+none-each true [] = refl
+none-each true (x ∷ due) = refl
+none-each false [] = refl
+none-each false (x ∷ due) = none-each false due
+
+-- where x is listed, and where it is not
+step-by : (h o t q : Bool) → h && (o && (not t && q)) ≡ (o && (not h || not t)) && (h && q)
+step-by true true true q = refl
+step-by true true false q = refl
+step-by true false t q = refl
+step-by false true t q = refl
+step-by false false t q = refl
+
+fits-is : (n due : List ℕ) (ahead : Bool) → fits due n ahead ≡ each ahead due n && allIn n due
+fits-is [] due ahead = none-each ahead due
 fits-is (x ∷ n) due ahead =
-    rw (fits-is n (without x due) ahead, in-without x n due, without-in x due n)
-    (shuffle (has x due) (not (has x n)) (distinct n) (allIn n due) (not ahead || allIn due (x ∷ n)))
+    rw (fits-is n (without x due) ahead, in-without x n due, each-more ahead x due n)
+    (step-by (has x due) (each ahead (without x due) n) (has x n) (allIn n due))
+
+-- the definition's own words
+times-slots : (x : ℕ) (ts : List Turn) → turnsOf x ts ≡ times x (slotsOf ts)
+times-slots x [] = refl
+times-slots x (turn s p a ∷ ts) = rw (times-slots x ts)
+
+each-slots : (ahead : Bool) (l : List ℕ) (ts : List Turn) → oneEach ahead l ts ≡ each ahead l (slotsOf ts)
+each-slots ahead [] ts = refl
+each-slots ahead (x ∷ l) ts = rw (times-slots x ts, each-slots ahead l ts)
+
+only-slots : (l : List ℕ) (ts : List Turn) → onlyListed l ts ≡ allIn (slotsOf ts) l
+only-slots l [] = refl
+only-slots l (turn s p a ∷ ts) = rw (only-slots l ts)
 
 round-is : (l : List ℕ) (es : List Entry) → roundOk l es ≡ insideFrom idle es && (within (turnsFrom idle es) && fits l (new idle es) (markAhead es))
-round-is l es = rw (slots-new idle es, fits-is (new idle es) l (markAhead es))
+round-is l es =
+    rw (each-slots (markAhead es) l (turnsFrom idle es), only-slots l (turnsFrom idle es), slots-new idle es, fits-is (new idle es) l (markAhead es))
 
 -- ### The pass
 

@@ -52,25 +52,25 @@ insideFrom (runs (turn s p a)) (ack x ∷ es) = eqb x s && insideFrom idle es
 
 -- ### What is asked of them
 
--- a turn's slot
-abbrev pub slotsOf : List Turn → List ℕ
-slotsOf [] = []
-slotsOf (turn s p a ∷ ts) = s ∷ slotsOf ts
-
 -- no turn passes five polls or four acknowledgements
 abbrev pub within : List Turn → Bool
 within [] = true
 within (turn s p a ∷ ts) = leb p 5 && (leb a 4 && within ts)
 
--- none twice
-abbrev pub distinct : List ℕ → Bool
-distinct [] = true
-distinct (x ∷ l) = not (has x l) && distinct l
+-- how many of them are turns of slot x
+abbrev pub turnsOf : ℕ → List Turn → ℕ
+turnsOf x [] = 0
+turnsOf x (turn s p a ∷ ts) = cond (eqb x s) (suc (turnsOf x ts)) (turnsOf x ts)
 
--- each of the first is on the second
-abbrev pub allIn : List ℕ → List ℕ → Bool
-allIn [] m = true
-allIn (x ∷ l) m = has x m && allIn l m
+-- each listed slot has one turn before the next mark, or after the last mark at most one
+abbrev pub oneEach : Bool → List ℕ → List Turn → Bool
+oneEach ahead [] ts = true
+oneEach ahead (x ∷ l) ts = cond ahead (eqb (turnsOf x ts) 1) (leb (turnsOf x ts) 1) && oneEach ahead l ts
+
+-- no other slot has one
+abbrev pub onlyListed : List ℕ → List Turn → Bool
+onlyListed l [] = true
+onlyListed l (turn s p a ∷ ts) = has s l && onlyListed l ts
 
 -- a mark follows
 abbrev pub markAhead : List Entry → Bool
@@ -80,12 +80,11 @@ markAhead (poll x ∷ es) = markAhead es
 markAhead (pollack x ∷ es) = markAhead es
 markAhead (ack x ∷ es) = markAhead es
 
--- from a mark with the list l to the next one: no acknowledgement outside a turn, no turn too long, no slot with two turns, none with one that is not
--- listed, and, if another mark follows, none listed without one
+-- from a mark with the list l to the next one
 abbrev pub roundOk : List ℕ → List Entry → Bool
 roundOk l es =
     let ts = turnsFrom idle es in
-    insideFrom idle es && (within ts && (distinct (slotsOf ts) && (allIn (slotsOf ts) l && (not (markAhead es) || allIn l (slotsOf ts)))))
+    insideFrom idle es && (within ts && (oneEach (markAhead es) l ts && onlyListed l ts))
 
 -- so it is after every mark
 unfoldable pub roundsOk : List Entry → Bool
