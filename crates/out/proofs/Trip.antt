@@ -82,11 +82,12 @@ module _ (flags field : ℕ) (p rest : List ℕ) (f : flags < 256) (g : field < 
   unfolding frameOf
   frame-by = rw (eq-eqb (v / 16777216) 176 (omega arith), len, payload-ok rest bs, flag, back)
 
-  item-back : itemAt (frameWords flags field p ++ rest) ≡ Frame flags field (length p)
+  -- it reads back, whatever follows
+  pub item-back : itemAt (frameWords flags field p ++ rest) ≡ Frame flags field (length p)
   unfolding itemAt
   item-back = rw (ne-eqb w 0xd0000000 (omega arith), eq-eqb (w / 65536) 0xa000 (omega arith)) frame-by
 
-  rest-back : drop (2 + wordsFor (length p)) (frameWords flags field p ++ rest) ≡ rest
+  pub rest-back : drop (2 + wordsFor (length p)) (frameWords flags field p ++ rest) ≡ rest
   rest-back =
       let e : 2 + wordsFor (length p) ≡ suc (suc (wordsFor (length p))) = omega arith in
       rw e (drop-at (pack p) rest (wordsFor (length p)) (length-pack p))

@@ -16,6 +16,7 @@ use Rattle.words.proofs.Laws.{payload-done}
 use Rattle.words.proofs.Fine.{take-bytes}
 use Rattle.out.specs.Encode.{headWord, waveWord, word12, pack, ctrlWords, chunksOf, chunkSize, chunkWords}
 use Rattle.out.proofs.Pack.{length-pack, length-take-most}
+use Rattle.out.proofs.Trip.{item-back}
 use Rattle.bursts.specs.Bursts.{headWords, tinyWords}
 use Rattle.logs.specs.Reading.{Entry, framePart, partOf, partsFrom, marksFrom, sendingBy, entriesFrom}
 use Rattle.logs.specs.Reading as log
@@ -87,40 +88,14 @@ good-head code hi extra level ws g room h =
       eq-eqb (waveWord level / 32) 75497472 (omega arith),
     ) (g 64 (omega arith))
 
--- a payload, as its words say it
-payload-ok : {p : List ℕ} (rest : List ℕ) → Bytes p → payloadOk (pack p ++ rest) (length p) ≡ true
-unfolding payloadOk pack wordOk
-payload-ok rest Bytes.none = payload-done rest 0 refl
-payload-ok rest (Bytes.more {b = a} h Bytes.none) =
-    rw (eq-eqb (word12 a 0 0 / 16777216) 192 (omega arith), eq-eqb (word12 a 0 0 % 65536) 0 (omega arith)) (payload-done rest 0 refl)
-payload-ok rest (Bytes.more {b = a} h (Bytes.more {b = b} i Bytes.none)) =
-    rw (eq-eqb (word12 a b 0 / 16777216) 192 (omega arith), eq-eqb (word12 a b 0 % 256) 0 (omega arith)) (payload-done rest 0 refl)
-payload-ok rest (Bytes.more {b = a} h (Bytes.more {b = b} i (Bytes.more {b = c} {l = l} j t))) =
-    let e : suc (suc (suc (length l))) - 3 ≡ length l = omega arith in
-    rw (
-      ne-eqb (suc (suc (suc (length l)))) 0 (omega arith),
-      eq-eqb (word12 a b c / 16777216) 192 (omega arith),
-      ne-eqb (suc (suc (suc (length l)))) 1 (omega arith),
-      ne-eqb (suc (suc (suc (length l)))) 2 (omega arith),
-      e,
-    ) (payload-ok rest t)
-
 module _ (p ws : List ℕ) (n : length p < 256) (bs : Bytes p) where
   abbrev w : ℕ
   w = 0xa0000000 + 0xbf * 256 + length p
 
-  frame-item : itemAt (ctrlWords p ++ ws) ≡ Frame 0xbf 0 (length p)
-  unfolding itemAt frameOf
-  frame-item =
-      let a : w % 256 ≡ length p = omega arith in
-      let d : w / 256 ≡ 10485951 = omega arith in
-      let b : w / 256 % 256 ≡ 0xbf = rw d refl in
-      rw (ne-eqb w 0xd0000000 (omega arith), eq-eqb (w / 65536) 0xa000 (omega arith), a, payload-ok ws bs, b)
-
   frame-part : (room : ℕ) → partOf room (ctrlWords p ++ ws) ≡ framePart room (Frame 0xbf 0 (length p))
   unfolding partOf headOk
   frame-part room =
-      rw (ne-eqb (w / 268435456) 6 (λ e. omega arith), ne-eqb (w / 268435456) 8 (λ e. omega arith)) (ap (framePart room) frame-item)
+      rw (ne-eqb (w / 268435456) 6 (λ e. omega arith), ne-eqb (w / 268435456) 8 (λ e. omega arith)) (ap (framePart room) (item-back 0xbf 0 p ws (omega arith) (omega arith) n bs))
 
   -- a control frame, where one may follow
   good-frame : (m : ℕ) → GoodFrom m ws → GoodFrom (suc m) (ctrlWords p ++ ws)
