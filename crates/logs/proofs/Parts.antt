@@ -70,7 +70,7 @@ part-within ws at room p h e = rw e (omega (arith, part-fits room (drop at ws), 
 -- ### Part after part
 
 -- words that belong to a part already read
-pub parts-skip : (k room : ℕ) (l : List ℕ) → partsFrom k room l ≡ partsFrom 0 room (drop k l)
+parts-skip : (k room : ℕ) (l : List ℕ) → partsFrom k room l ≡ partsFrom 0 room (drop k l)
 unfolding partsFrom
 parts-skip zero room l = refl
 parts-skip (suc k) room [] = refl

@@ -1,26 +1,26 @@
 -- The words of one burst in a log: they are a sending, no word of a mark, and its head alone is an entry. Assumes nothing.
 use mathlib.Core.Path.{_≡_, refl, sym, ap, _∙_, subst}
 use Prim.Native.Nat.{ℕ, zero, suc, _+_, _-_, _*_, _/_, _%_, _≤_, _<_}
+use native.Mathlib.Nat.{zero-add}
 use native.Mathlib.Omega.{arith}
 use mathlib.Core.Bool.{Bool, true, false, cond, _||_}
 use mathlib.Core.List.{List, [], _∷_, _++_, append-assoc}
 use mathlib.Core.Option.{Option, none, some}
 use lib.Dec.{eqb}
 use lib.ListN.{length, take, drop, length-drop}
-use lib.Seq.{drop-at}
-use borrow.Author.Tests.{eq-eqb, ne-eqb, le-leb, lt-ltb}
-use Rattle.words.specs.Words.{wordsFor, wordOk, payloadOk, frameOf, itemAt, headOk, headOf}
+use borrow.Author.Tests.{eq-eqb, ne-eqb, le-leb}
+use Rattle.bits.proofs.Lists.{cond-false}
+use Rattle.words.specs.Words.{wordsFor, headOk, headOf}
 use Rattle.words.specs.declared.Item.the-variants.{Frame}
 use Rattle.words.specs.Fine.{Bytes}
-use Rattle.words.proofs.Laws.{payload-done}
 use Rattle.words.proofs.Fine.{take-bytes}
 use Rattle.out.specs.Encode.{headWord, waveWord, word12, pack, ctrlWords, chunksOf, chunkSize, chunkWords}
-use Rattle.out.proofs.Pack.{length-pack, length-take-most}
-use Rattle.out.proofs.Trip.{item-back}
+use Rattle.out.proofs.Pack.{length-take-most}
+use Rattle.out.proofs.Trip.{item-back, rest-back}
 use Rattle.bursts.specs.Bursts.{headWords, tinyWords}
-use Rattle.logs.specs.Reading.{Entry, framePart, partOf, partsFrom, marksFrom, sendingBy, entriesFrom}
+use Rattle.logs.specs.Reading.{Entry, part, framePart, partOf, partsFrom, marksFrom, sendingBy, entriesFrom}
 use Rattle.logs.specs.Reading as log
-use Rattle.logs.proofs.Parts.{parts-skip}
+use Rattle.logs.proofs.Parts.{parts-more}
 use Rattle.promise.specs.Promise.{TurnEvent, poll, ack, burstsIn}
 use Rattle.promise.specs.Logs.{sentIn}
 use Rattle.promise.proofs.TurnsWords.{tiny-head, tinyBurst}
@@ -99,11 +99,10 @@ module _ (p ws : List ℕ) (n : length p < 256) (bs : Bytes p) where
 
   -- a control frame, where one may follow
   good-frame : (m : ℕ) → GoodFrom m ws → GoodFrom (suc m) (ctrlWords p ++ ws)
-  unfolding partsFrom
   good-frame m g room h =
-      let k : 2 + wordsFor (length p) - 1 ≡ suc (wordsFor (length p)) = omega arith in
-      rw (frame-part room, ne-eqb room 0 (λ e. omega arith), lt-ltb 0 (2 + wordsFor (length p)) (omega arith), k)
-      (parts-skip (wordsFor (length p)) (room - 1) (pack p ++ ws) ∙ rw (drop-at (pack p) ws (wordsFor (length p)) (length-pack p)) (g (room - 1) (omega arith)))
+      let q : partOf room (ctrlWords p ++ ws) ≡ part (2 + wordsFor (length p)) (room - 1) = frame-part room ∙ cond-false (eqb room 0) _ _ (ne-eqb room 0 (λ e. omega arith)) in
+      parts-more (ctrlWords p ++ ws) 0 room (part (2 + wordsFor (length p)) (room - 1)) (sym q) (omega arith) (λ e. omega arith)
+      ∙ rw (zero-add (2 + wordsFor (length p)), rest-back 0xbf 0 p ws (omega arith) (omega arith) n bs) (g (room - 1) (omega arith))
 
 -- ### Frames
 
