@@ -12,3 +12,8 @@ pub mod LawsLevels
 pub mod LawsBoats
 pub mod Laws
 pub mod LawsRun
+pub mod LogsWords
+pub mod LogsRows
+pub mod LogsCalls
+pub mod Logs
+pub mod LogsRun

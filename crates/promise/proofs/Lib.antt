@@ -24,12 +24,6 @@ pub mod Receptions
 pub mod Messages
 pub mod Sounds
 pub mod Item3
-pub mod LogsWords
-pub mod LogsRows
-pub mod LogsCalls
-pub mod Logs
-pub mod Landings
-pub mod Marks
 pub mod Runs
 pub mod Alike
 pub mod Needed

@@ -22,16 +22,16 @@ use Rattle.logs.specs.Turns as log-turns
 use Rattle.logs.proofs.Sets.{without}
 use Rattle.logs.proofs.Watched.{watched}
 use Rattle.logs.proofs.Exact.{exact}
 use Rattle.promise.specs.Promise.{Net, Call, result, outcome, isRefused, step, after, started, TurnEvent, drew, over, poll, ack, overIf, drewIf, burstsIn, turnEvents, trace, LinksHold}
-use Rattle.promise.specs.Logs.{sentIn, slotWords, markWords, markIf, logOf, logFrom, OwnLogs}
+use Rattle.laws.specs.Logs.{sentIn, slotWords, markWords, markIf, logOf, logFrom, OwnLogs}
 use Rattle.promise.proofs.Monitor.{In, NoDup, Run, rest, turn, Acc}
 use Rattle.promise.proofs.Links.{links}
 use Rattle.promise.proofs.TurnsWords.{sent-append, quiet-first}
 use Rattle.promise.proofs.TurnsLists.{list-once}
 use Rattle.promise.proofs.Turns.{start-is, followed}
-use Rattle.promise.proofs.LogsWords.{Good, good-none, good-mark, Agree}
-use Rattle.promise.proofs.LogsRows.{Sendable}
-use Rattle.promise.proofs.LogsCalls.{Spoken, Reports, reports}
+use Rattle.laws.proofs.LogsWords.{Good, good-none, good-mark, Agree}
+use Rattle.laws.proofs.LogsRows.{Sendable}
+use Rattle.laws.proofs.LogsCalls.{Spoken, Reports, reports}
 
 -- ### The check beside the monitor
 

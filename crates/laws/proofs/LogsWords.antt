@@ -21,9 +21,9 @@ use Rattle.bursts.specs.Bursts.{headWords, tinyWords}
 use Rattle.logs.specs.Reading.{Entry, part, framePart, partOf, partsFrom, marksFrom, sendingBy, entriesFrom}
 use Rattle.logs.specs.Reading as log
 use Rattle.logs.proofs.Parts.{parts-more}
 use Rattle.promise.specs.Promise.{TurnEvent, poll, ack, burstsIn}
-use Rattle.promise.specs.Logs.{sentIn}
+use Rattle.laws.specs.Logs.{sentIn}
 use Rattle.promise.proofs.TurnsWords.{tiny-head, tinyBurst}
 
 -- ### Words 9 to 12
 

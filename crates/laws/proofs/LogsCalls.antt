@@ -45,11 +45,11 @@ use Rattle.rx.specs.Ending.{Ended, nothingMore, turnOverIn, idleHeard, idleBy, 
 use Rattle.rx.specs.Reception.{Received, airOf, firstReading, receivedOf, ncsRxFrom, ncsRx}
 use Rattle.station.specs.Entries.{Outcome, refused, done, unless, admitOf, receiveBy, receiveRefusal, receiveOf, nextOf, sentOf, closeOf, freeOf, readRefusal, check1, admitRefusal, nextRefusal, closeRefusal, cellRefusal}
 use Rattle.dues.specs.Dues.{duesRefusal}
 use Rattle.promise.specs.Promise.{lentTo, Net, ofBurst, Call, admission, reception, decision, sending, closing, reading, freeing, charging, result, outcome, leads, LinksHold}
 use Rattle.promise.proofs.TurnsWords.{Mute, mute-none, mute-both, mute-missed, other-burst, quiet-both, quiet-ctrl, quiet-chunk-words}
 use Rattle.promise.proofs.TurnsKeeps.{reroute-calm, admit-calm, CalmIn, calm-start, frames-calm}
-use Rattle.promise.proofs.LogsWords.{Burst, burst-none, burst-other, burst-poll, burst-pollack, burst-ack, burst-close}
-use Rattle.promise.proofs.LogsRows.{Sendable, acks-frames, list-frames, beacon-frames}
+use Rattle.laws.proofs.LogsWords.{Burst, burst-none, burst-other, burst-poll, burst-pollack, burst-ack, burst-close}
+use Rattle.laws.proofs.LogsRows.{Sendable, acks-frames, list-frames, beacon-frames}
 
 -- events, then a burst or none
 pub record Spoken (ws : List ℕ) (behind : Option ℕ) : Type 0 where

@@ -25,9 +25,9 @@ use Rattle.net.proofs.Laws.{index-is, member-lt, member-is}
 use Rattle.roster.specs.Members.{noMember}
 use Rattle.bursts.specs.Rows.{seated, rowIf, rowsOf, ackRow, ackAt, ackRows, treeRow, treeAt, treeRows, listRow, listAt, listRows}
 use Rattle.bursts.specs.Bursts.{acked, movedIn, ackedOrMoved, beaconPayload, beaconRows}
 use Rattle.promise.specs.Promise.{LinksHold}
-use Rattle.promise.proofs.Dues.{relay-is}
-use Rattle.promise.proofs.LogsWords.{Frames, frames-both, frames-ctrl, frames-rows}
+use Rattle.laws.proofs.Dues.{relay-is}
+use Rattle.laws.proofs.LogsWords.{Frames, frames-both, frames-ctrl, frames-rows}
 
 bytes-append : {a b : List ℕ} → Bytes a → Bytes b → Bytes (a ++ b)
 bytes-append Bytes.none k = k
