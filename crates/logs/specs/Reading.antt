@@ -10,7 +10,7 @@ use Rattle.words.specs.declared.Item.the-variants.{End, Bad, Lost, Frame}
 use Rattle.words.specs.declared.Head.{Head}
 use Rattle.logs.specs.declared.Part.{Part}
 
--- ### Check 3: the words of sendings
+-- ---- check 3: the words of sendings
 
 -- kind 6
 abbrev pub isMark : ℕ → Bool
@@ -57,7 +57,7 @@ partsFrom zero room (w ∷ ws) =
 abbrev pub sendingsOk : List ℕ → Bool
 sendingsOk ws = partsFrom 0 0 ws
 
--- ### Check 27: the words of marks
+-- ---- check 27: the words of marks
 
 -- kind 6 with a number in 5-0
 abbrev pub markOk : ℕ → Bool
@@ -89,7 +89,7 @@ marksFrom zero (w ∷ ws) =
 abbrev pub marksOk : List ℕ → Bool
 marksOk ws = marksFrom 0 ws
 
--- ### What the words say
+-- ---- what the words say
 
 -- a mark with the round's list; K_POLL or K_RELAY; K_POLLACK; K_ACK
 pub data Entry : Type 0 where

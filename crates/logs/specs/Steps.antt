@@ -16,7 +16,7 @@ unfoldable pub walk : {A : Type 0} → (A → ℕ → A) → A → List ℕ → 
 walk f a [] = a
 walk f a (w ∷ ws) = walk f (f a w) ws
 
--- ### Marks
+-- ---- marks
 
 -- so many words of a list to come, and the slots of those before
 abbrev pub marks : ℕ → ℕ → Marks
@@ -44,7 +44,7 @@ markStep m w = cond (m .good) (cond (eqb (m .left) 0) (countStep m w) (slotStep 
 abbrev pub marksEnd : Marks → Bool
 marksEnd m = m .good && eqb (m .left) 0
 
--- ### Turns
+-- ---- turns
 
 -- so many words of a list to come, the listed slots that have had no turn, the slot whose turn runs, 64 for none, and what that turn has had
 abbrev pub watch : ℕ → ℕ → ℕ → ℕ → ℕ → Watch

@@ -7,7 +7,7 @@ use Rattle.logs.specs.Reading.{Entry, mark, poll, pollack, ack, has, sen
 use Rattle.logs.specs.declared.Verdict.{Verdict}
 use Rattle.logs.specs.declared.Verdict.the-variants.{Refused, Accepted, Rejected}
 
--- ### Turns
+-- ---- turns
 
 -- a turn: its slot, and the polls and acknowledgements that it has had
 pub data Turn : Type 0 where
@@ -50,7 +50,7 @@ insideFrom (runs (turn s p a)) (pollack x ∷ es) = eqb x s && insideFrom (runs 
 insideFrom idle (ack x ∷ es) = false
 insideFrom (runs (turn s p a)) (ack x ∷ es) = eqb x s && insideFrom idle es
 
--- ### What is asked of them
+-- ---- what is asked of them
 
 -- no turn passes five polls or four acknowledgements
 abbrev pub within : List Turn → Bool
@@ -98,7 +98,7 @@ roundsOk (ack x ∷ es) = roundsOk es
 abbrev pub accepted : List Entry → Bool
 accepted es = roundOk [] es && roundsOk es
 
--- ### The verdict
+-- ---- the verdict
 
 -- 3 for words that are no sendings, then 27 for a fault in the marks
 unfoldable pub verdictOf : List ℕ → Verdict
