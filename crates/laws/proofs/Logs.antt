@@ -15,7 +15,7 @@ use Rattle.stream.specs.Table.{cellCount}
 use Rattle.net.specs.declared.Station.{Station}
 use Rattle.net.specs.declared.Settings.{Settings}
 use Rattle.net.specs.Net.{newStation}
-use Rattle.logs.specs.Reading.{Entry, has, listOk, marksFrom, slotsIn, entriesFrom}
+use Rattle.logs.specs.Reading.{Entry, has, listOk, marksFrom, slotsIn, entriesFrom, sentIn}
 use Rattle.logs.specs.Reading as log
 use Rattle.logs.specs.Turns.{Running, idle, runs, begun, accepted, verdictOf}
 use Rattle.logs.specs.Turns as log-turns
@@ -23,7 +23,7 @@ use Rattle.logs.proofs.Sets.{without}
 use Rattle.logs.proofs.Watched.{watched}
 use Rattle.logs.proofs.Exact.{exact}
 use Rattle.promise.specs.Promise.{Net, Call, result, outcome, isRefused, step, after, started, TurnEvent, drew, over, poll, ack, overIf, drewIf, burstsIn, turnEvents, trace, LinksHold}
-use Rattle.laws.specs.Logs.{sentIn, slotWords, markWords, markIf, logOf, logFrom, OwnLogs}
+use Rattle.laws.specs.Logs.{slotWords, markWords, markIf, logOf, logFrom, OwnLogs}
 use Rattle.promise.proofs.Monitor.{In, NoDup, Run, rest, turn, Acc}
 use Rattle.promise.proofs.Links.{links}
 use Rattle.promise.proofs.TurnsWords.{sent-append, quiet-first}
@@ -33,7 +33,7 @@ use Rattle.laws.proofs.LogsWords.{Good, good-none, good-mark, Agree}
 use Rattle.laws.proofs.LogsRows.{Sendable}
 use Rattle.laws.proofs.LogsCalls.{Spoken, Reports, reports}
 
--- ### The check beside the monitor
+-- ---- the check beside the monitor
 
 -- the listed slots without a turn are the same; a waiting that has ended may leave its run in the log, of a slot that is not due
 abbrev Link : List ℕ → Run → Running → Type 0
@@ -110,7 +110,7 @@ goes-burst es k (Agree.polls {x}) g = goes-poll es k x g
 goes-burst es k (Agree.goes {x}) g = goes-pollack es k x g
 goes-burst es k (Agree.ends {x} {y}) g = goes-ack es k x y g
 
--- ### The words of a mark
+-- ---- the words of a mark
 
 -- each is a slot
 abbrev Slots : List ℕ → Type 0
@@ -189,7 +189,7 @@ module _ (l ws : List ℕ) (h : Slots l) (short : length l < 64) where
       let s = slot-kind (length l) short in
       rw (s .0, s .1, slots-read l ws h, slots-pass l ws)
 
--- ### One call
+-- ---- one call
 
 -- a log that goes on as the trace k does
 record Sound (ws : List ℕ) (k : List TurnEvent) : Type 0 where
@@ -249,7 +249,7 @@ sound-call c n v k s f = by (isRefused c n)
         (sound-before r (markIf d ++ (sentIn ws ++ v)) (drewIf d ++ ((burstsIn ws ++ overIf o) ++ k))
         (sound-mark d (sentIn ws ++ v) ((burstsIn ws ++ overIf o) ++ k) (sound-burst v k (s .spoken) f)))
 
--- ### Every list of calls
+-- ---- every list of calls
 
 sound-none : Sound [] []
 unfolding marksFrom entriesFrom watched

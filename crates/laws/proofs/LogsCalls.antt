@@ -30,7 +30,7 @@ use Rattle.net.specs.State.{memberAt, withWait, withRound, withRxsent, withRxdi
 use Rattle.net.specs.Net.{isMember, idleWait, Said, said, onTxDone}
 use Rattle.admit.specs.Admission.{seatOf, isFull, viaFor}
 use Rattle.bursts.specs.Rows.{ackRows, treeRows, listRows, leastReach, leastDirect}
-use Rattle.bursts.specs.Bursts.{tinyWords, pollBurst, acked, movedIn, ackedOrMoved, acksBurst, beaconPayload, beaconRows, beaconOf, listSent, rxListBurst, sends, tellAt, tellAll, listTold, listWords}
+use Rattle.bursts.specs.Bursts.{tinyWords, pollBurst, acked, movedIn, ackedOrMoved, acksBurst, beaconPayload, beaconRows, beaconAcks, beaconOf, listSent, rxListBurst, sends, tellAt, tellAll, listTold, listWords}
 use Rattle.bursts.specs.Reroute.{sourceFor, rerouteOf}
 use Rattle.next.specs.declared.Act.{Act}
 use Rattle.next.specs.declared.Act.the-variants as act
@@ -69,7 +69,7 @@ spoken-after : {v : List ℕ} {behind : Option ℕ} (ws : List ℕ) → Mute ws 
 spoken-after {v} ws m s =
     record { events = ws ++ s .events; burst = s .burst; words = ap (λ (l : List ℕ). ws ++ l) (s .words) ∙ sym (append-assoc ws (s .events) (s .burst)); mute = mute-both ws (s .events) m (s .mute); ok = s .ok }
 
--- ### The next decision
+-- ---- the next decision
 
 pub record Says (s : Station) (d : Decision) : Type 0 where
   pub spoken : Spoken (d .words) none
@@ -138,11 +138,11 @@ told-acks s l =
 told-beacon : (s : Station) (now : Float) → Sendable (s .settings) → Told s (spoke (beaconOf s now))
 unfolding beaconOf
 told-beacon s now o =
-    let p = ctrlWords (beaconPayload (s .settings)) in
+    let p = ctrlWords (beaconPayload (s .settings) (beaconAcks s)) in
     let a = chunkWords cAcks 18 (beaconRows s) in
     told-burst s (beaconOf s now)
     (burst-other (s .settings .beaconlevel) (p ++ a) (beacon-frames s o)
-    (other-burst (s .settings .beaconlevel) (p ++ a) (quiet-both p a (quiet-ctrl (beaconPayload (s .settings))) (quiet-chunk-words cAcks 18 (beaconRows s))))) refl
+    (other-burst (s .settings .beaconlevel) (p ++ a) (quiet-both p a (quiet-ctrl (beaconPayload (s .settings) (beaconAcks s))) (quiet-chunk-words cAcks 18 (beaconRows s))))) refl
 
 told-reroute : (s : Station) (now : Float) → Told s (rerouteStage s now)
 unfolding rerouteStage
@@ -235,7 +235,7 @@ told-next : (s : Station) (now : Float) → Sendable (s .settings) → Told s (n
 unfolding ncsNext
 told-next s now o = told-due (dueOf (s .wait) (s .round .closed) now) s now o
 
--- ### The reception
+-- ---- the reception
 
 record Ends (s : Station) (e : Ended) : Type 0 where
   burst : Burst (e .burst) (e .over)
@@ -307,7 +307,7 @@ heard-rx s b level now store =
     let f = heard-from (withWait s (busyWait (s .wait) (b .head) (s .settings) now)) (airOf s (b .head) level now) b store in
     record { spoken = f .spoken; settings = f .settings }
 
--- ### Each call
+-- ---- each call
 
 pub record Reports (s : Station) (o : Outcome) (behind : Option ℕ) : Type 0 where
   pub spoken : Spoken (o .words) behind

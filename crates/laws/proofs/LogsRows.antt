@@ -7,10 +7,12 @@ use mathlib.Core.Bool.{Bool, true, false, not, cond, _||_}
 use mathlib.Core.List.{List, [], _++_}
 use lib.Dec.{eqb}
 use lib.ListN.{length, getD, length-append}
+use lib.Ieee.{Float, nan, inf, fin}
+use Rattle.rounding.specs.Round.{announced}
 use Rattle.bits.specs.Loop.{fold}
-use Rattle.bits.specs.Mask.{hasBit}
+use Rattle.bits.specs.Mask.{hasBit, minusOf}
 use Rattle.bits.proofs.Laws.{has-both, has-either}
-use Rattle.bits.proofs.Lists.{and-true, or-elim}
+use Rattle.bits.proofs.Lists.{cond-keeps, and-true, or-elim}
 use Rattle.wire.specs.Call.{bytesOf, packed}
 use Rattle.wire.specs.Kinds.{cBeacon, cAcks, cTree, cRxlist}
 use Rattle.words.specs.Fine.{Bytes}
@@ -20,11 +22,11 @@ use Rattle.stream.specs.Window.{bitmapOf}
 use Rattle.net.specs.declared.Station.{Station}
 use Rattle.net.specs.declared.Settings.{Settings}
 use Rattle.net.specs.State.{memberAt}
-use Rattle.net.specs.Net.{isMember}
+use Rattle.net.specs.Net.{isMember, times, slotLen}
 use Rattle.net.proofs.Laws.{index-is, member-lt, member-is}
 use Rattle.roster.specs.Members.{noMember}
-use Rattle.bursts.specs.Rows.{seated, rowIf, rowsOf, ackRow, ackAt, ackRows, treeRow, treeAt, treeRows, listRow, listAt, listRows}
-use Rattle.bursts.specs.Bursts.{acked, movedIn, ackedOrMoved, beaconPayload, beaconRows}
+use Rattle.bursts.specs.Rows.{seated, rowIf, rowsOn, rowsOf, ackRow, ackAt, ackRows, treeRow, treeAt, treeRows, listRow, listAt, listRows}
+use Rattle.bursts.specs.Bursts.{acked, movedIn, ackedOrMoved, thousand, firstMs, lenMs, twoBytes, timing, namePayload, beaconPayload, beaconRows, beaconAcks}
 use Rattle.promise.specs.Promise.{LinksHold}
 use Rattle.laws.proofs.Dues.{relay-is}
 use Rattle.laws.proofs.LogsWords.{Frames, frames-both, frames-ctrl, frames-rows}
@@ -37,7 +39,7 @@ bytes-of : (n v : ℕ) → Bytes (bytesOf n v)
 bytes-of zero v = Bytes.none
 bytes-of (suc n) v = Bytes.more {b = v % 256} (omega arith) (bytes-of n (v / 256))
 
--- ### Rows
+-- ---- rows
 
 -- k bytes
 pub record Row (k : ℕ) (r : List ℕ) : Type 0 where
@@ -57,9 +59,12 @@ module _ (p : ℕ → List ℕ → Bool) (row : ℕ → List ℕ) (k : ℕ) (eac
       let s = rows-from n (suc i) (rowIf p row i bs) (m + k) (omega arith) (row-by i bs m (p i bs) (λ e. each i bs (omega arith) e) r) in
       record { bytes = s .bytes; long = omega (arith, s .long) }
 
+  rows-on : (bs : List ℕ) (m : ℕ) → Row m bs → Row (m + 62 * k) (rowsOn p row bs)
+  unfolding rowsOn
+  rows-on bs m r = rows-from 62 0 bs m (omega arith) r
+
   rows : Row (62 * k) (rowsOf p row)
-  unfolding rowsOf
-  rows = let r = rows-from 62 0 [] 0 (omega arith) (record { bytes = Bytes.none; long = omega arith }) in record { bytes = r .bytes; long = omega (arith, r .long) }
+  rows = let r = rows-on [] 0 (record { bytes = Bytes.none; long = omega arith }) in record { bytes = r .bytes; long = omega (arith, r .long) }
 
 ack-row : (s : Station) (i : ℕ) → i < 62 → Row 6 (ackRow s i)
 ack-row s i h = record { bytes = Bytes.more {b = i} (omega arith) (bytes-of 5 (packed (seated s i .call))); long = omega arith }
@@ -67,13 +72,19 @@ ack-row s i h = record { bytes = Bytes.more {b = i} (omega arith) (bytes-of 5 (p
 ack-rows : (s : Station) (mask most : ℕ) → Row 372 (ackRows s mask most)
 ack-rows s mask most = rows (ackAt mask most) (ackRow s) 6 (λ i bs h e. ack-row s i h)
 
+beacon-rows : (s : Station) → Row 744 (beaconRows s)
+unfolding beaconRows
+beacon-rows s =
+    let r = rows-on (ackAt (minusOf (s .used) (s .round .toack)) 9) (ackRow s) 6 (λ i bs h e. ack-row s i h) (ackRows s (acked s) 9) 372 (ack-rows s (acked s) 9) in
+    record { bytes = r .bytes; long = omega (arith, r .long) }
+
 list-row : (s : Station) (i : ℕ) → i < 62 → Row 3 (listRow s i)
 list-row s i h = record { bytes = Bytes.more {b = i} (omega arith) (Bytes.more {b = seated s i .up .next % 256} (omega arith) (Bytes.more {b = bitmapOf (seated s i .up)} (omega arith) Bytes.none)); long = omega arith }
 
 list-rows : (s : Station) → Row 186 (listRows s)
 list-rows s = rows (listAt s) (listRow s) 3 (λ i bs h e. list-row s i h)
 
--- ### The tree: a member's relay is none or a member
+-- ---- the tree: a member's relay is none or a member
 
 moved-used : (s : Station) (i : ℕ) → hasBit (ackedOrMoved s) i ≡ true → hasBit (s .used) i ≡ true
 moved-used s i e =
@@ -97,7 +108,7 @@ tree-rows s l =
     rows (treeAt s (ackedOrMoved s) (movedIn s)) (treeRow s) 2
     (λ i bs h e. tree-row s i h (via-byte s l i h (moved-used s i (and-true (hasBit (ackedOrMoved s) i) (not (eqb (seated s i .via) 63) || hasBit (movedIn s) i) e .0))))
 
--- ### The frames of each burst
+-- ---- the frames of each burst
 
 more-frames : {n k : ℕ} {fs : List ℕ} → Frames n fs → n ≤ k → Frames k fs
 more-frames f h = record { plain = f .plain; good = λ m ws g room q. f .good m ws g room (omega arith) }
@@ -118,15 +129,47 @@ pub record Sendable (g : Settings) : Type 0 where
   pub name : Bytes (g .name)
   pub window : g .windowslots < 256
 
-beacon-bytes : (g : Settings) → Sendable g → Bytes (beaconPayload g)
-beacon-bytes g o =
-    let b : (i : ℕ) → getD (g .name) i 0 < 256 = λ i. getD-bytes i (o .name) in
-    bytes-append (Bytes.more {b = cBeacon} (omega arith) (bytes-of 5 (packed (g .call))))
-    (Bytes.more (b 0) (Bytes.more (b 1) (Bytes.more (b 2) (Bytes.more (b 3) (Bytes.more (b 4) (Bytes.more (b 5) (Bytes.more {b = 1} (omega arith) (Bytes.more (o .window) Bytes.none))))))))
+-- the window's timing: two numbers of 16 bits
+announced-most : (x : Float) → announced x ≤ 65535
+unfolding announced
+announced-most nan = omega arith
+announced-most (inf true) = omega arith
+announced-most (inf false) = omega arith
+announced-most (fin true m e) = omega arith
+announced-most (fin false m e) = omega arith
 
-pub beacon-frames : (s : Station) → Sendable (s .settings) → Frames 64 (ctrlWords (beaconPayload (s .settings)) ++ chunkWords cAcks 18 (beaconRows s))
-unfolding beaconRows
+len-most : (g : Settings) → lenMs g ≤ 65535
+len-most g =
+    let n = announced (times (slotLen g) thousand) in
+    cond-keeps (λ (x : ℕ). x ≤ 65535) (eqb n 0) 1 n (λ _. omega arith) (λ _. announced-most (times (slotLen g) thousand))
+
+two-bytes : (n : ℕ) → n ≤ 65535 → Bytes (twoBytes n)
+two-bytes n h = Bytes.more {b = n % 256} (omega arith) (Bytes.more {b = n / 256} (omega arith) Bytes.none)
+
+timing-row : (g : Settings) (acks : ℕ) → Row 4 (timing g acks)
+timing-row g acks =
+    cond-keeps (Row 4) (g .prime) (twoBytes (firstMs g acks) ++ twoBytes (lenMs g)) []
+    (λ _. record { bytes = bytes-append (two-bytes (firstMs g acks) (announced-most _)) (two-bytes (lenMs g) (len-most g)); long = omega arith })
+    (λ _. record { bytes = Bytes.none; long = omega arith })
+
+beacon-row : (g : Settings) (acks : ℕ) → Sendable g → Row 18 (beaconPayload g acks)
+unfolding beaconPayload
+beacon-row g acks o =
+    let b : (i : ℕ) → getD (g .name) i 0 < 256 = λ i. getD-bytes i (o .name) in
+    let t = timing-row g acks in
+    let e : length (namePayload g) ≡ 14 = refl in
+    record {
+      bytes =
+          bytes-append
+          (bytes-append (Bytes.more {b = cBeacon} (omega arith) (bytes-of 5 (packed (g .call))))
+          (Bytes.more (b 0) (Bytes.more (b 1) (Bytes.more (b 2) (Bytes.more (b 3) (Bytes.more (b 4) (Bytes.more (b 5) (Bytes.more {b = 1} (omega arith) (Bytes.more (o .window) Bytes.none)))))))))
+          (t .bytes);
+      long = omega (arith, length-append (namePayload g) (timing g acks), t .long, e);
+    }
+
+pub beacon-frames : (s : Station) → Sendable (s .settings) → Frames 64 (ctrlWords (beaconPayload (s .settings) (beaconAcks s)) ++ chunkWords cAcks 18 (beaconRows s))
 beacon-frames s o =
-    let a = ack-rows s (s .used) 9 in
-    more-frames (frames-both (frames-ctrl (beaconPayload (s .settings)) (omega arith) (beacon-bytes (s .settings) o))
-    (frames-rows cAcks 18 21 _ (omega arith) (omega arith) (a .bytes) (omega (arith, a .long)))) (omega arith)
+    let a = beacon-rows s in
+    let p = beacon-row (s .settings) (beaconAcks s) o in
+    more-frames (frames-both (frames-ctrl (beaconPayload (s .settings) (beaconAcks s)) (omega (arith, p .long)) (p .bytes))
+    (frames-rows cAcks 18 42 _ (omega arith) (omega arith) (a .bytes) (omega (arith, a .long)))) (omega arith)

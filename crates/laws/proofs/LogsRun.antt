@@ -27,9 +27,9 @@ use Rattle.rx.specs.Reception.{ncsRx}
 use Rattle.station.specs.Entries.{admitRefusal, admitOf, receiveRefusal, receiveOf, nextRefusal, nextOf, sentOf}
 use Rattle.promise.specs.Promise.{handed, net, Call, admission, reception, decision, sending, result, step, drew, over, poll, ack, burstsIn, turnEvents, trace}
 use Rattle.promise.proofs.TurnsRun.{settings, run}
-use Rattle.logs.specs.Reading.{slotsIn, entriesFrom, entriesOf}
+use Rattle.logs.specs.Reading.{slotsIn, entriesFrom, entriesOf, sentIn}
 use Rattle.logs.specs.Reading as log
-use Rattle.laws.specs.Logs.{sentIn, slotWords, logOf, logFrom}
+use Rattle.laws.specs.Logs.{slotWords, logOf, logFrom}
 
 -- its log: the beacon's sending is passed over, and the last acknowledgement is K_ACK
 longest-log : entriesOf (logFrom run (net (newStation settings 1) (replicate 6400 7)))

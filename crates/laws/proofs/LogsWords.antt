@@ -18,14 +18,13 @@ use Rattle.out.specs.Encode.{headWord, waveWord, word12, pack, ctrlWords, chunk
 use Rattle.out.proofs.Pack.{length-take-most}
 use Rattle.out.proofs.Trip.{item-back, rest-back}
 use Rattle.bursts.specs.Bursts.{headWords, tinyWords}
-use Rattle.logs.specs.Reading.{Entry, part, framePart, partOf, partsFrom, marksFrom, sendingBy, entriesFrom}
+use Rattle.logs.specs.Reading.{Entry, part, framePart, partOf, partsFrom, marksFrom, sendingBy, entriesFrom, sentIn}
 use Rattle.logs.specs.Reading as log
 use Rattle.logs.proofs.Parts.{parts-more}
 use Rattle.promise.specs.Promise.{TurnEvent, poll, ack, burstsIn}
-use Rattle.laws.specs.Logs.{sentIn}
 use Rattle.promise.proofs.TurnsWords.{tiny-head, tinyBurst}
 
--- ### Words 9 to 12
+-- ---- words 9 to 12
 
 pub data Plain : List ℕ → Type 0 where
   empty : Plain []
@@ -58,7 +57,7 @@ plain-pack (Bytes.more {b = a} h Bytes.none) = Plain.more {w = word12 a 0 0} (om
 plain-pack (Bytes.more {b = a} h (Bytes.more {b = b} i Bytes.none)) = Plain.more {w = word12 a b 0} (omega arith) (omega arith) Plain.empty
 plain-pack (Bytes.more {b = a} h (Bytes.more {b = b} i (Bytes.more {b = c} j t))) = Plain.more {w = word12 a b c} (omega arith) (omega arith) (plain-pack t)
 
--- ### Parts of a log, one after the other
+-- ---- parts of a log, one after the other
 
 -- a log goes on with these words where m frames may follow
 abbrev pub GoodFrom : ℕ → List ℕ → Type 0
@@ -104,7 +103,7 @@ module _ (p ws : List ℕ) (n : length p < 256) (bs : Bytes p) where
       parts-more (ctrlWords p ++ ws) 0 room (part (2 + wordsFor (length p)) (room - 1)) (sym q) (omega arith) (λ e. omega arith)
       ∙ rw (zero-add (2 + wordsFor (length p)), rest-back 0xbf 0 p ws (omega arith) (omega arith) n bs) (g (room - 1) (omega arith))
 
--- ### Frames
+-- ---- frames
 
 -- n frames at most
 pub record Frames (n : ℕ) (fs : List ℕ) : Type 0 where
@@ -149,7 +148,7 @@ module _ (kind size : ℕ) (byte : kind < 256) (most : size ≤ 31) where
 pub frames-rows : (kind size n : ℕ) (l : List ℕ) → kind < 256 → chunkSize size ≤ 31 → Bytes l → length l ≤ n * chunkSize size → Frames n (chunkWords kind size l)
 frames-rows kind size n l k m bs e = frames-chunks kind (chunkSize size) k m (length l) n bs e
 
--- ### Bursts
+-- ---- bursts
 
 -- what the monitor sees of a burst, the slot whose waiting ends behind it, and what the log shows of it: only K_ACK ends a waiting
 pub data Agree : List TurnEvent → Option ℕ → List Entry → Type 0 where
@@ -212,7 +211,7 @@ module _ (code hi extra level : ℕ) (fs : List ℕ) (f : Frames 64 fs) where
 pub burst-other : (level : ℕ) (fs : List ℕ) → Frames 64 fs → burstsIn (headWords 0 0 0 level ++ fs) ≡ [] → Burst (headWords 0 0 0 level ++ fs) none
 burst-other level fs f e = burst-of 0 0 0 level fs f none (subst (λ (l : List TurnEvent). Agree l none []) (sym e) Agree.neither)
 
--- ### Header-only bursts
+-- ---- header-only bursts
 
 abbrev tinyEntry : ℕ → ℕ → List Entry
 tinyEntry kind slot =

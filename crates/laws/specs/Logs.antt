@@ -1,10 +1,9 @@
 -- The station's own logs pass the turn check: `OwnLogs`, the last definition, is a statement over every list of calls from a start that is not refused.
-use Prim.Native.Nat.{ℕ, _+_, _/_, _<_}
+use Prim.Native.Nat.{ℕ, _+_, _<_}
 use mathlib.Core.Path.{_≡_}
-use mathlib.Core.Bool.{Bool, cond, _&&_}
+use mathlib.Core.Bool.{cond}
 use mathlib.Core.List.{List, [], _∷_, _++_}
 use mathlib.Core.Option.{Option, none, some}
-use lib.Dec.{leb}
 use lib.ListN.{length}
 use Rattle.bits.specs.Mask.{slotsOf}
 use Rattle.words.specs.Fine.{Bytes}
@@ -12,17 +11,9 @@ use Rattle.net.specs.declared.Station.{Station}
 use Rattle.config.specs.declared.Given.{Given}
 use Rattle.station.specs.Entries.{startRefusal}
 use Rattle.logs.specs.declared.Verdict.the-variants.{Accepted}
+use Rattle.logs.specs.Reading.{sentIn}
 use Rattle.logs.specs.Turns.{verdictOf}
 use Rattle.promise.specs.Promise.{Net, Call, result, outcome, isRefused, step, started}
-
--- a word of a sending: kinds 8 to 12
-abbrev pub isSent : ℕ → Bool
-isSent w = leb 8 (w / 268435456) && leb (w / 268435456) 12
-
--- the words of sendings among those returned; events are left out
-unfoldable pub sentIn : List ℕ → List ℕ
-sentIn [] = []
-sentIn (w ∷ ws) = cond (isSent w) (w ∷ sentIn ws) (sentIn ws)
 
 -- a word 6 for each slot
 unfoldable pub slotWords : List ℕ → List ℕ

@@ -13,7 +13,7 @@ use Rattle.logs.specs.Turns.{Turn, turn, Running, idle, runs, begun, end
 use Rattle.logs.proofs.Sets.{without, isNone, has-here, has-there, without-has, without-keeps}
 use Rattle.logs.proofs.Watched.{watched}
 
--- ### Slots whose turns begin, up to the next mark
+-- ---- slots whose turns begin, up to the next mark
 
 abbrev slotsOf : List Turn → List ℕ
 slotsOf [] = []
@@ -53,7 +53,7 @@ slots-new (runs (turn s p a)) (pollack x ∷ es) = slots-new (runs (turn s p (su
 slots-new idle (ack x ∷ es) = slots-new idle es
 slots-new (runs (turn s p a)) (ack x ∷ es) = ap (λ (l : List ℕ). s ∷ l) (slots-new idle es)
 
--- ### A turn only grows
+-- ---- a turn only grows
 
 first-few : (s p a : ℕ) (ts : List Turn) → within (turn s p a ∷ ts) ≡ true → (p ≤ 5) × (a ≤ 4)
 first-few s p a ts e =
@@ -73,7 +73,7 @@ few s p a (poll x ∷ es) e = few-by s p a (eqb x s) (turnsFrom (runs (turn s (s
 few s p a (pollack x ∷ es) e = let h = few s p (suc a) es e in (h .0, omega arith)
 few s p a (ack x ∷ es) e = let h = first-few s p (suc a) (turnsFrom idle es) e in (h .0, omega arith)
 
--- ### Each listed slot once
+-- ---- each listed slot once
 
 -- taken off the list one by one, and at a mark none is left
 abbrev fits : List ℕ → List ℕ → Bool → Bool
@@ -188,7 +188,7 @@ round-is : (l : List ℕ) (es : List Entry) → roundOk l es ≡ insideFrom idle
 round-is l es =
     rw (each-slots (markAhead es) l (turnsFrom idle es), only-slots l (turnsFrom idle es), slots-new idle es, fits-is (new idle es) l (markAhead es))
 
--- ### The pass
+-- ---- the pass
 
 abbrev Ok : Running → Type 0
 Ok idle = Unit {0}

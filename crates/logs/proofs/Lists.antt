@@ -63,7 +63,7 @@ pub marks-walk : (ws : List ℕ) → marksEnd (walk markStep (marks 0 0) ws) ≡
 unfolding listOk
 marks-walk ws = walked ws 0 0 [] same-none
 
--- ### At the end of the words
+-- ---- at the end of the words
 
 pub ends-good : (m n : Marks) → m .left ≡ 0 → n ≡ m → m .good ≡ marksEnd n
 ends-good m n z e = and-one (m .good) ∙ ap (λ (b : Bool). m .good && b) (sym (eq-eqb (m .left) 0 z)) ∙ ap marksEnd (sym e)
@@ -71,7 +71,7 @@ ends-good m n z e = and-one (m .good) ∙ ap (λ (b : Bool). m .good && b) (sym 
 pub ends-short : (m n : Marks) → (m .left ≡ 0 → ⊥) → n ≡ m → false ≡ marksEnd n
 ends-short m n z e = and-none (m .good) ∙ ap (λ (b : Bool). m .good && b) (sym (ne-eqb (m .left) 0 z)) ∙ ap marksEnd (sym e)
 
--- ### A slot's word, test by test
+-- ---- a slot's word, test by test
 
 module _ (before w : ℕ) where
   pub fits-bad : markOk w ≡ false → false ≡ slotFits before w

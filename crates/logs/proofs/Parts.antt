@@ -34,7 +34,7 @@ module _ (ws : List ℕ) (at : ℕ) where
   pub head-cons : at < length ws → headPart (drop at ws) ≡ cond (waveOk (getD ws at 0)) (part 2 64) noPart
   head-cons h = rw (drop-cons ws at 0)
 
--- ### A part lies within the words
+-- ---- a part lies within the words
 
 frame-fits : (room : ℕ) (i : Item) → framePart room i .size ≤ sizeOf i
 frame-fits room End = omega arith
@@ -67,7 +67,7 @@ part-fits room (w ∷ ws) = by (isMark w) (headOk w)
 pub part-within : (ws : List ℕ) (at room : ℕ) (p : Part) → at ≤ length ws → p ≡ partOf room (drop at ws) → at + p .size ≤ length ws
 part-within ws at room p h e = rw e (omega (arith, part-fits room (drop at ws), length-drop at ws))
 
--- ### Part after part
+-- ---- part after part
 
 -- words that belong to a part already read
 parts-skip : (k room : ℕ) (l : List ℕ) → partsFrom k room l ≡ partsFrom 0 room (drop k l)
@@ -97,7 +97,7 @@ module _ (ws : List ℕ) (at room : ℕ) (p : Part) (e : p ≡ partOf room (drop
       let k : suc at + (p .size - 1) ≡ at + p .size = omega arith in
       parts-at ∙ rw (lt-ltb 0 (p .size) (omega arith)) (parts-skip (p .size - 1) (p .room) (drop (suc at) ws) ∙ rw (drop-drop, k))
 
--- ### A walk
+-- ---- a walk
 
 pub walk-end : {A : Type 0} (f : A → ℕ → A) (a : A) (ws : List ℕ) (at : ℕ) → length ws ≤ at → walk f a (drop at ws) ≡ a
 unfolding walk

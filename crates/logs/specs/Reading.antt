@@ -2,7 +2,7 @@
 use mathlib.Core.Bool.{Bool, true, false, not, cond, _&&_, _||_}
 use mathlib.Core.List.{List, [], _∷_, _++_}
 use Prim.Native.Nat.{ℕ, zero, suc, _+_, _-_, _/_, _%_}
-use lib.Dec.{eqb, ltb}
+use lib.Dec.{eqb, ltb, leb}
 use Rattle.wire.specs.Kinds.{tiny, kPoll, kPollack, kAck, kRelay}
 use Rattle.words.specs.Words.{wordsFor, itemAt, headOk, headOf}
 use Rattle.words.specs.declared.Item.{Item}
@@ -124,3 +124,14 @@ entriesFrom zero (w ∷ ws) =
 -- the marks and the sendings of turns in a log
 abbrev pub entriesOf : List ℕ → List Entry
 entriesOf ws = entriesFrom 0 ws
+
+-- ---- a log from words that a station returns
+
+-- a word of a sending: kinds 8 to 12
+abbrev pub isSent : ℕ → Bool
+isSent w = leb 8 (w / 268435456) && leb (w / 268435456) 12
+
+-- the words of sendings among those returned; events are left out
+unfoldable pub sentIn : List ℕ → List ℕ
+sentIn [] = []
+sentIn (w ∷ ws) = cond (isSent w) (w ∷ sentIn ws) (sentIn ws)

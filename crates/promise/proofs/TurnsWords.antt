@@ -17,7 +17,7 @@ use Rattle.bursts.specs.Rows.{leastOf}
 use Rattle.bursts.specs.Bursts.{headWords, tinyWords, pollExtra, pollBurst}
 use Rattle.rx.specs.Ending.{ackExtra, ackWords}
 use Rattle.promise.specs.Promise.{TurnEvent, poll, ack, burstBy, burstsIn}
-use Rattle.promise.specs.Logs.{isSent, sentIn}
+use Rattle.logs.specs.Reading.{isSent, sentIn}
 
 -- no burst stands in these words
 abbrev pub Quiet : List ℕ → Type 0
