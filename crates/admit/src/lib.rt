@@ -25,9 +25,10 @@ fn low(i: usize) -> u8
 fn find_call(s: Station, key: u64) -> Found
     ensures { λ r. ⌜ r ≡ findCall s key ⌝ }
 {
+    let ms = s.members;
     let mut i: usize = 0;
     while i < 62 {
-        let m = s.members[i];
+        let m = ms[i];
         let call = m.call;
         if bits::has(s.used, i) & (wire::calls::key_of(call) == key) {
             return Found::At(i);
@@ -129,6 +130,7 @@ pub fn admit(
 fn leads_to(s: Station, from: u8, to: u8) -> bool
     ensures { λ r. ⌜ r ≡ leadsTo 62 s from to ⌝ }
 {
+    let ms = s.members;
     let mut at = from;
     let mut n: usize = 0;
     while n < 62 {
@@ -139,7 +141,7 @@ fn leads_to(s: Station, from: u8, to: u8) -> bool
             return false;
         }
         let i = net::index(at);
-        let m = s.members[i];
+        let m = ms[i];
         at = m.via;
         n += 1;
     }

@@ -30,12 +30,13 @@ pub struct Surveyed {
 pub fn survey(s: Station) -> Surveyed
     ensures { λ r. ⌜ r ≡ surveyOf s ⌝ }
 {
+    let ms = s.members;
     let mut able: u64 = 0;
     let mut needs: u64 = 0;
     let mut tried = [0u64; 62];
     let mut i: usize = 0;
     while i < 62 {
-        let m = s.members[i];
+        let m = ms[i];
         let here = bits::has(s.used, i);
         able = with_if(able, here & relay::could_relay(m), i);
         needs = with_if(needs, here & relay::needs_relay(m), i);
@@ -99,11 +100,12 @@ fn promote(mut s: Station, o: &mut [u32], at: &mut usize) -> Station
 fn leaves_of(s: Station) -> u64
     ensures { λ r. ⌜ r ≡ leavesOf s ⌝ }
 {
+    let ms = s.members;
     let limit = s.settings.misslimit;
     let mut leaves: u64 = 0;
     let mut i: usize = 0;
     while i < 62 {
-        let m = s.members[i];
+        let m = ms[i];
         leaves = with_if(leaves, bits::has(s.used, i) & relay::is_leaf(m, limit), i);
         i += 1;
     }

@@ -36,10 +36,11 @@ fn ack_rows_on(s: Station, mask: u64, most: usize, rows: &mut [u8], from: usize)
     requires { ⌜ from + 372 ≤ length (now rows) ⌝ }
     ensures { λ r. ⌜ Filled (ackRowsOn s mask most (take from (now (rows .entry)))) (now (rows .exit)) r ⌝ }
 {
+    let ms = s.members;
     let mut n = from;
     let mut i: usize = 0;
     while i < 62 {
-        let m = s.members[i];
+        let m = ms[i];
         n = ack_row(rows, n, bits::has(mask, i) & (n / 6 < most), m, i as u8);
         i += 1;
     }
@@ -79,10 +80,11 @@ fn tree_row(rows: &mut [u8], n: usize, told: bool, m: Member, i: u8) -> usize
 pub fn tree_rows(s: Station, mask: u64, moved: u64, rows: &mut [u8; 372]) -> usize
     ensures { λ r. ⌜ Filled (treeRows s mask moved) (now (rows .exit)) r ⌝ }
 {
+    let ms = s.members;
     let mut n: usize = 0;
     let mut i: usize = 0;
     while i < 62 {
-        let m = s.members[i];
+        let m = ms[i];
         let told = bits::has(mask, i) & ((m.via != 63) | bits::has(moved, i));
         n = tree_row(rows, n, told, m, i as u8);
         i += 1;
@@ -110,10 +112,11 @@ fn list_row(rows: &mut [u8], n: usize, told: bool, m: Member, i: u8) -> usize
 pub fn list_rows(s: Station, rows: &mut [u8; 372]) -> usize
     ensures { λ r. ⌜ Filled (listRows s) (now (rows .exit)) r ⌝ }
 {
+    let ms = s.members;
     let mut n: usize = 0;
     let mut i: usize = 0;
     while i < 62 {
-        let m = s.members[i];
+        let m = ms[i];
         let told = bits::has(s.used, i) & roster::is_news(m);
         n = list_row(rows, n, told, m, i as u8);
         i += 1;
@@ -125,9 +128,10 @@ pub fn list_rows(s: Station, rows: &mut [u8; 372]) -> usize
 pub fn any_holes(s: Station) -> bool
     ensures { λ r. ⌜ r ≡ anyHoles s ⌝ }
 {
+    let ms = s.members;
     let mut i: usize = 0;
     while i < 62 {
-        let m = s.members[i];
+        let m = ms[i];
         let w = m.up;
         if bits::has(s.used, i) & window::holes(w) {
             return true;
@@ -171,13 +175,14 @@ fn reach_level(g: Settings, used: u64, m: Member, p: Member) -> u32
 pub fn least_reach(s: Station, mask: u64) -> u32
     ensures { λ r. ⌜ r ≡ leastReach s mask ⌝ }
 {
+    let ms = s.members;
     let g = s.settings;
     let mut lev: u32 = 17;
     let mut i: usize = 0;
     while i < 62 {
-        let m = s.members[i];
+        let m = ms[i];
         let v = net::index(m.via);
-        let p = s.members[v];
+        let p = ms[v];
         lev = least_if(lev, bits::has(mask, i), reach_level(g, s.used, m, p));
         i += 1;
     }
@@ -188,11 +193,12 @@ pub fn least_reach(s: Station, mask: u64) -> u32
 pub fn least_direct(s: Station) -> u32
     ensures { λ r. ⌜ r ≡ leastDirect s ⌝ }
 {
+    let ms = s.members;
     let g = s.settings;
     let mut lev: u32 = 17;
     let mut i: usize = 0;
     while i < 62 {
-        let m = s.members[i];
+        let m = ms[i];
         let counts = bits::has(s.used, i) & roster::is_direct(m, g.misslimit);
         lev = least_if(lev, counts, net::down_level(g, m));
         i += 1;

@@ -1,12 +1,12 @@
 -- A frame read by its kind, as the code does it, is the frame read by its flags and its first byte; a report's stores. Assumes nothing.
 use mathlib.Core.Path.{_≡_, refl, sym}
-use mathlib.Core.Bool.{Bool, true, false, cond}
+use mathlib.Core.Bool.{Bool, true, false, not, cond, _&&_}
 use mathlib.Core.List.{List}
-use Prim.Native.Nat.{ℕ, _/_, _%_, _<_}
+use Prim.Native.Nat.{ℕ, _/_, _%_, _<_, _≤_}
 use native.Mathlib.Omega.{arith}
 use lib.Dec.{eqb, leb}
 use lib.ListN.{length, getD, drop}
-use borrow.Author.Tests.{eqb-false}
+use borrow.Author.Tests.{eqb-false, eq-eqb, ne-eqb, le-leb, lt-leb}
 use Rattle.wire.specs.Kinds.{tUp, tCtrl, cCheckin, cReport, cOverheard, cKids}
 use Rattle.words.specs.Words.{itemAt, heardOf, sizeOf, payload, byteAt}
 use Rattle.words.specs.declared.Item.{Item}
@@ -18,12 +18,11 @@ use Rattle.net.specs.Net.{isMember}
 use Rattle.net.proofs.Laws.{member-again}
 use Rattle.frames.specs.declared.Air.{Air}
 use Rattle.frames.specs.declared.Frame.{Frame}
-use Rattle.frames.specs.declared.Kind.{Kind}
-use Rattle.frames.specs.declared.Kind.the-variants.{Nothing, Piece, Checkin, Report, Overheard, Kids}
+use Rattle.frames.specs.Kinds.{Kind, Nothing, Piece, Checkin, Report, Overheard, Kids}
 use Rattle.frames.specs.Reading.{Reading, alsoSaid}
 use Rattle.frames.specs.Pieces.{pieceFrame}
 use Rattle.frames.specs.Control.{checkinFrame, reportFrame, overheardFrame, kidsFrame, forwardedBy, reportMember, hearPairs, reportStation}
-use Rattle.frames.specs.Frames.{controlBy, controlFrame, readFrame, frameOf, controlKind, kindOf, readBy}
+use Rattle.frames.specs.Frames.{controlBy, controlFrame, readFrame, frameOf, controlByte, byteKind, controlKind, kindOf, readBy}
 
 -- ### Kinds
 
@@ -72,6 +71,43 @@ read-kind a l (item.Frame flags field len) x e =
     let f = frameOf (item.Frame flags field len) in
     sym (kind-by a f p x (eqb (flags / 64) tUp) (eqb (flags / 64) tCtrl) (controlKind len (byteAt l 0)) (controlFrame a (flags % 64) p x)
     (control-by a f p x (byteAt l 0) (payload-length l flags field len e) (λ h. byte-in l len 0 h)))
+
+pub kind-up : (f : Frame) (b : ℕ) → f .ty ≡ tUp → Piece ≡ kindOf f b
+unfolding kindOf
+kind-up f b h = simp (eq-eqb _ _ h)
+
+-- of a frame that is no piece the control byte says it
+pub kind-byte : (f : Frame) (b : ℕ) {c : ℕ} → (f .ty ≡ tUp → ⊥) → c ≡ controlByte f b → byteKind (f .len) c ≡ kindOf f b
+unfolding kindOf
+kind-byte f b h e = rw (e, ne-eqb _ _ h) (go (eqb (f .ty) tCtrl) (eqb (f .len) 0))
+  where
+    go : (t u : Bool) → byteKind (f .len) (cond (t && not u) b 0) ≡ cond t (cond u Nothing (byteKind (f .len) b)) Nothing
+    go true true = refl
+    go true false = refl
+    go false u = refl
+
+-- what each arm knows
+module _ (len : ℕ) {b : ℕ} where
+  pub is-checkin : b ≡ cCheckin → 7 ≤ len → Checkin ≡ byteKind len b
+  is-checkin e h = simp (e, le-leb _ _ h)
+
+  pub short-checkin : b ≡ cCheckin → len < 7 → Nothing ≡ byteKind len b
+  short-checkin e h = simp (e, lt-leb _ _ h)
+
+  pub is-report : b ≡ cReport → 12 ≤ len → Report ≡ byteKind len b
+  is-report e h = simp (e, le-leb _ _ h)
+
+  pub short-report : b ≡ cReport → len < 12 → Nothing ≡ byteKind len b
+  short-report e h = simp (e, lt-leb _ _ h)
+
+  pub is-overheard : b ≡ cOverheard → Overheard ≡ byteKind len b
+  is-overheard e = simp e
+
+  pub is-kids : b ≡ cKids → Kids ≡ byteKind len b
+  is-kids e = simp e
+
+  pub is-none : (b ≡ cCheckin → ⊥) → (b ≡ cReport → ⊥) → (b ≡ cOverheard → ⊥) → (b ≡ cKids → ⊥) → Nothing ≡ byteKind len b
+  is-none c r o k = simp (ne-eqb _ _ c, ne-eqb _ _ r, ne-eqb _ _ o, ne-eqb _ _ k)
 
 -- how many words it takes
 pub frame-size : (i : Item) → (i ≡ item.End → ⊥) → (i ≡ item.Bad → ⊥) → frameOf i .size ≡ sizeOf i

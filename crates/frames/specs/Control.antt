@@ -17,8 +17,7 @@ use Rattle.admit.specs.Admission.{seatOf, slotOf, admitBy}
 use Rattle.admit.specs.declared.Seat.{Seat}
 use Rattle.admit.specs.declared.Seat.the-variants.{Known, Free, Full}
 use Rattle.frames.specs.declared.Air.{Air}
-use Rattle.frames.specs.declared.Kind.{Kind}
-use Rattle.frames.specs.declared.Kind.the-variants.{Nothing, Piece, Checkin, Report, Overheard, Kids}
+use Rattle.frames.specs.Kinds.{Kind, Nothing, Piece, Checkin, Report, Overheard, Kids}
 use Rattle.frames.specs.Reading.{Reading, onStation}
 
 -- the payload of the frame of len bytes at `at`

@@ -11,8 +11,7 @@ use Rattle.words.specs.declared.Item.{Item}
 use Rattle.words.specs.declared.Item.the-variants as item
 use Rattle.frames.specs.declared.Air.{Air}
 use Rattle.frames.specs.declared.Frame.{Frame}
-use Rattle.frames.specs.declared.Kind.{Kind}
-use Rattle.frames.specs.declared.Kind.the-variants.{Nothing, Piece, Checkin, Report, Overheard, Kids}
+use Rattle.frames.specs.Kinds.{Kind, Nothing, Piece, Checkin, Report, Overheard, Kids}
 use Rattle.frames.specs.Reading.{Reading, alsoSaid}
 use Rattle.frames.specs.Pieces.{pieceFrame}
 use Rattle.frames.specs.Control.{checkinFrame, reportFrame, overheardFrame, kidsFrame}
@@ -73,7 +72,18 @@ frameOf item.Lost = lostFrame
 frameOf (item.Frame flags field len) =
     record { lost = false; ty = flags / 64; slot = flags % 64; field = field; len = len; size = 2 + wordsFor len }
 
--- b is the payload's first byte
+-- b is the payload's first byte; 0 means nothing
+abbrev pub controlByte : Frame → ℕ → ℕ
+controlByte f b = cond (eqb (f .ty) tCtrl && not (eqb (f .len) 0)) b 0
+
+-- the kind that a control byte says
+abbrev pub byteKind : ℕ → ℕ → Kind
+byteKind len b =
+    cond (eqb b cCheckin) (cond (leb 7 len) Checkin Nothing)
+    (cond (eqb b cReport) (cond (leb 12 len) Report Nothing)
+    (cond (eqb b cOverheard) Overheard
+    (cond (eqb b cKids) Kids Nothing)))
+
 abbrev pub controlKind : ℕ → ℕ → Kind
 controlKind len b =
     cond (eqb len 0) Nothing

@@ -1,3 +1,4 @@
+pub mod Kinds
 pub mod Reading
 pub mod Pieces
 pub mod Control

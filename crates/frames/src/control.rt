@@ -1,7 +1,5 @@
 // Reception, control frames: a check-in, a report, boats overheard, a relay's children.
 use crate::Air;
-use crate::Frame;
-use crate::Kind;
 use crate::Rx;
 use admit::Seat;
 use net::Station;
@@ -15,7 +13,7 @@ ghost use Rattle.out.specs.Encode.{Wrote};
 ghost use Rattle.net.specs.Net.{Did, said};
 ghost use Rattle.admit.specs.declared.Seat.the-variants.{Free};
 ghost use Rattle.frames.specs.Reading.{reportRx};
-ghost use Rattle.frames.specs.Control.{payloadIn, callAt, checkinMember, checkinFrame, forwardedBy, reportMember, hearing, hearPairs, isPending, relayOf, newcomer, overheardBy, overheardEntry, overheardFrame, kidMember, kidEvents, kidOf, kidsFrame, controlSays};
+ghost use Rattle.frames.specs.Control.{payloadIn, callAt, checkinMember, checkinFrame, forwardedBy, reportMember, hearing, hearPairs, isPending, relayOf, newcomer, overheardBy, overheardEntry, overheardFrame, kidMember, kidEvents, kidOf, kidsFrame};
 
 // Byte j of the payload of the frame of len bytes at `at`; 0 past its end.
 pub fn byte_in(words: &[u32], at: usize, len: u8, j: usize) -> u8
@@ -129,7 +127,7 @@ fn checkin_member(m: Member, a: Air, words: &[u32], at: usize, len: u8) -> Membe
     roster::with_version(c, 9 < len, byte_in(words, at, len, 9))
 }
 
-fn checkin(
+pub fn checkin(
     s: Station,
     a: Air,
     words: &[u32],
@@ -227,7 +225,7 @@ fn overheard_entry(
 }
 
 // Stations that a member heard asking in and the control station did not.
-fn overheard(
+pub fn overheard(
     s: Station,
     slot: u8,
     a: Air,
@@ -283,7 +281,7 @@ fn kid_event(ok: bool, b: u8, slot: u8, o: &mut [u32], at: usize) -> usize
 }
 
 // The entries of two bytes: which of its leaves the relay reached this turn.
-fn kids(
+pub fn kids(
     mut s: Station,
     slot: u8,
     a: Air,
@@ -314,27 +312,4 @@ fn kids(
     }
     *end = put;
     s
-}
-
-// A control frame that is no report.
-pub fn control(
-    s: Station,
-    kind: Kind,
-    f: Frame,
-    a: Air,
-    words: &[u32],
-    at: usize,
-    o: &mut [u32],
-    end: &mut usize,
-) -> Station
-    ensures { λ r. ⌜ Did (controlSays kind a (f .slot) (f .len) (payloadIn (now (words .entry)) at (f .len)) s) r (now (o .entry)) (now (end .entry)) (now (o .exit)) (now (end .exit)) ⌝ }
-{
-    match kind {
-        Kind::Nothing => s,
-        Kind::Piece => s,
-        Kind::Checkin => checkin(s, a, words, at, f.len, o, end),
-        Kind::Report => s,
-        Kind::Overheard => overheard(s, f.slot, a, words, at, f.len, o, end),
-        Kind::Kids => kids(s, f.slot, a, words, at, f.len, o, end),
-    }
 }

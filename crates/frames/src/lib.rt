@@ -4,7 +4,7 @@ ghost use Prim.Native.Nat.{_+_, _%_, _^_, _<_};
 ghost use lib.ListN.{drop};
 ghost use Rattle.words.specs.Words.{peekAt, byteAt};
 ghost use Rattle.frames.specs.Reading.{firstRx, nextRx};
-ghost use Rattle.frames.specs.Frames.{lostFrame, frameOf, controlKind, kindOf};
+ghost use Rattle.frames.specs.Frames.{lostFrame, frameOf, controlByte};
 use words::Item;
 
 pub mod control;
@@ -46,16 +46,6 @@ pub fn first_rx() -> Rx
     }
 }
 
-// What kind of frame stands at the cursor.
-pub enum Kind {
-    Nothing,
-    Piece,
-    Checkin,
-    Report,
-    Overheard,
-    Kids,
-}
-
 // A frame: `ty` is the top two bits of its flags, `slot` the low six, `len` the length of its payload, `size` how many words it takes.
 pub struct Frame {
     pub lost: bool,
@@ -88,16 +78,14 @@ pub fn frame_at(words: &[u32], at: usize) -> Frame
     }
 }
 
-pub fn kind_of(words: &[u32], at: usize, f: Frame) -> Kind
-    ensures { λ r. ⌜ r ≡ kindOf f (byteAt (drop at (now (words .entry))) 0) ⌝ }
+// The first byte of a control frame; of any other, and of an empty one, 0, which means nothing.
+pub fn control_byte(words: &[u32], at: usize, f: Frame) -> u8
+    ensures { λ r. ⌜ r ≡ controlByte f (byteAt (drop at (now (words .entry))) 0) ⌝ }
 {
-    if f.ty == wire::T_UP {
-        return Kind::Piece;
+    if (f.ty == wire::T_CTRL) & (f.len != 0) {
+        return words::payload_byte(words, at, 0);
     }
-    if f.ty == wire::T_CTRL {
-        return control_kind(f.len, words::payload_byte(words, at, 0));
-    }
-    Kind::Nothing
+    0
 }
 
 // On to the next frame; a lost one is not heard.
@@ -136,34 +124,4 @@ fn low_len(x: usize) -> u8
     ensures { λ r. ⌜ r ≡ x % 256 ⌝ }
 {
     (x % 256) as u8
-}
-
-// The first byte of a control frame decides its meaning; bytes not listed do nothing.
-fn control_kind(len: u8, first: u8) -> Kind
-    ensures { λ r. ⌜ r ≡ controlKind len first ⌝ }
-{
-    if len == 0 {
-        return Kind::Nothing;
-    }
-    if first == wire::C_CHECKIN {
-        return if 7 <= len {
-            Kind::Checkin
-        } else {
-            Kind::Nothing
-        };
-    }
-    if first == wire::C_REPORT {
-        return if 12 <= len {
-            Kind::Report
-        } else {
-            Kind::Nothing
-        };
-    }
-    if first == wire::C_OVERHEARD {
-        return Kind::Overheard;
-    }
-    if first == wire::C_KIDS {
-        return Kind::Kids;
-    }
-    Kind::Nothing
 }

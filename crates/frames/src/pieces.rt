@@ -47,10 +47,10 @@ pub fn piece_of(
 ) -> Piece
     ensures { λ r. ⌜ r ≡ pieceOf w here slot field (now (owners .entry)) busy landed count ⌝ }
 {
-    match number::widen8(high8(field), w.next) {
-        Number::Is(n) => numbered(w, here, slot, field, n, owners, busy, landed, count),
-        Number::Before => unwanted(slot, here),
-    }
+    let Number::Is(n) = number::widen8(high8(field), w.next) else {
+        return unwanted(slot, here);
+    };
+    numbered(w, here, slot, field, n, owners, busy, landed, count)
 }
 
 // The piece offered to its cell c.

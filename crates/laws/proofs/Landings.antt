@@ -31,6 +31,9 @@ use Rattle.stream.proofs.Accepts.{leftAs, answerOf, cellIn, heldAfter, putAs, a
 use Rattle.net.specs.declared.Station.{Station}
 use Rattle.net.specs.State.{memberAt, tableOf, withWait}
 use Rattle.net.specs.Net.{isMember}
+use Rattle.net.proofs.Laws.{member-lt}
+use Rattle.stream.proofs.Windows.{fresh-none}
+use Rattle.station.specs.SignOff.{signOff, signOffRefusal, signOffOf}
 use Rattle.frames.specs.declared.Air.{Air}
 use Rattle.frames.specs.Reading.{Reading}
 use Rattle.frames.specs.Pieces.{pieceEvents, keptPiece, pieceFrame}
@@ -38,7 +41,7 @@ use Rattle.frames.specs.Frames.{readFrame, frameStep, readFrames}
 use Rattle.rx.specs.Ending.{busyWait, idleEnd, replyEnd, nothingMore, Ended}
 use Rattle.rx.specs.Reception.{Received, airOf, firstReading, receivedOf, ncsRx}
 use Rattle.station.specs.Entries.{Outcome, receiveBy, receiveRefusal, receiveOf, cellRefusal, freeOf}
-use Rattle.promise.specs.Promise.{lentTo, Net, net, Call, admission, reception, decision, sending, closing, reading, freeing, charging, result, inBook, outcome, step, after, alsoHanded, Event2, eventsIn, answersOf}
+use Rattle.promise.specs.Promise.{lentTo, Net, net, Call, admission, reception, decision, sending, closing, reading, freeing, charging, signing, result, inBook, outcome, step, after, alsoHanded, Event2, eventsIn, answersOf}
 use Rattle.laws.specs.Marks.{alsoLanded, landedBy, landedIn}
 use Rattle.promise.proofs.Ledgers.{handed-other}
 use Rattle.promise.proofs.Ties.{View}
@@ -47,7 +50,9 @@ use Rattle.promise.proofs.Quiet.{windowAt, Keeps, kept-self, viewOf, kept-view}
 use Rattle.promise.proofs.Events.{events-none, events-append, append-quiet}
 use Rattle.promise.proofs.QuietRx.{Untouched, untouched, control-untouched, QuietEnd, idle-kept, reply-kept}
 use Rattle.promise.proofs.Readings.{piece-view, piece-events}
-use Rattle.promise.proofs.Messages.{admission-kept, decision-kept, sending-kept, closing-kept, reading-kept, charging-kept}
+use Rattle.promise.proofs.Signs.{sign-member}
+use Rattle.promise.proofs.SignTies.{window-gone, window-still}
+use Rattle.promise.proofs.Messages.{admission-kept, decision-kept, sending-kept, closing-kept, reading-kept, charging-kept, refusedBy}
 use Rattle.promise.proofs.Sounds.{FitView, Fit, FitRead, accept-land, step-read-fit, other-store, room-of, step-fit}
 
 -- ---- the cell of a landed message
@@ -297,9 +302,9 @@ module _ (f : ℕ → ℕ → Bool) where
       cond-keeps LogReceived (eqb (u .head .code) tiny) _ _
       (λ _. end-log x (cond (eqb (u .head .hi) kIdle) (idleEnd a (u .head .extra) (x .station)) (nothingMore (x .station))) log
       (cond-keeps (QuietEnd (x .station)) (eqb (u .head .hi) kIdle) _ _
-      (λ _. idle-kept (x .station) a (u .head .extra) (x .station) (kept-self (x .station)))
+      (λ _. idle-kept a (u .head .extra) (x .station))
       (λ _. (kept-self (x .station), events-none))))
-      (λ _. end-log y (replyEnd a (u .head) y) (frames-log a (u .frames) x k g log) (reply-kept (y .station) a (u .head) y (kept-self (y .station))))
+      (λ _. end-log y (replyEnd a (u .head) y) (frames-log a (u .frames) x k g log) (reply-kept a (u .head) y))
 
 -- ---- the calls
 
@@ -332,8 +337,26 @@ module _ (f : ℕ → ℕ → Bool) (n : Net) (fit : Fit n) (told : Told f (n .s
   free-told cell =
       cond-keeps (λ (o : Outcome). Told f (o .station)) (eqb (cellRefusal (n .station .count) (n .station .landed) cell) 0) _ _ (λ _. told) (λ _. told)
 
+  -- a sign-off: the slot's window is fresh, and nothing has landed in its next stay
+  abbrev EndsTold : ℕ → Outcome → Type 0
+  EndsTold slot o = (i k : ℕ) → cond (refusedBy o) f (λ x y. cond (eqb slot x) false (f x y)) i k ≡ handedOf (windowAt (o .station) i) k
+
+  sign-told : (slot : ℕ) → EndsTold slot (signOffOf (n .station) slot)
+  unfolding signOffOf
+  sign-told slot =
+      cond-keeps (EndsTold slot) (eqb (signOffRefusal (n .station .used) slot) 0) _ _
+      (λ q. by (member-lt (n .station .used) slot (sign-member (n .station .used) slot (eqb-true _ 0 q))))
+      (λ q i k. ap (λ (t : Bool). cond (cond t false true) f (λ x y. cond (eqb slot x) false (f x y)) i k) q ∙ told i k)
+    where
+      by : slot < 62 → (i k : ℕ) → cond (eqb slot i) false (f i k) ≡ handedOf (windowAt (signOff (n .station) slot) i) k
+      by low i k =
+          ⊎-elim (λ e. ap (λ (t : Bool). cond t false (f i k)) (eq-eqb slot i (sym e)) ∙ sym (fresh-none k)
+          ∙ ap (λ (w : Window). handedOf w k) (sym (ap (windowAt (signOff (n .station) slot)) e ∙ window-gone slot (n .station) low (fit .long))))
+          (λ z. ap (λ (t : Bool). cond t false (f i k)) (ne-eqb slot i (λ e. z (sym e))) ∙ told i k ∙ ap (λ (w : Window). handedOf w k) (sym (window-still slot (n .station) low (fit .long) i z)))
+          (eq-or-not i slot)
+
   abbrev next-told : Call → ℕ → ℕ → Bool
-  next-told c = landedBy (inBook c) (answersOf c n .events) (step c n .station .owners) f
+  next-told c = landedBy (inBook c) (answersOf c n .refused) (answersOf c n .events) (step c n .station .owners) f
 
   call-told : (c : Call) → Told (next-told c) (step c n .station)
   unfolding step result
@@ -345,10 +368,11 @@ module _ (f : ℕ → ℕ → Bool) (n : Net) (fit : Fit n) (told : Told f (n .s
   call-told (reading cell lent) = kept-told (reading cell lent) (reading-kept cell lent n)
   call-told (freeing cell) = free-told cell
   call-told (charging figures) = kept-told (charging figures) (charging-kept figures n)
+  call-told (signing slot) = sign-told slot
 
 -- every list of calls
 pub calls-told : (cs : List Call) (n : Net) (f : ℕ → ℕ → Bool) → Fit n → Told f (n .station) → Told (landedIn cs n f) (after cs n .station)
 unfolding landedIn after
 calls-told [] n f fit told = told
 calls-told (c ∷ cs) n f fit told =
-    calls-told cs (step c n) (landedBy (inBook c) (answersOf c n .events) (step c n .station .owners) f) (step-fit c n fit) (call-told f n fit told c)
+    calls-told cs (step c n) (landedBy (inBook c) (answersOf c n .refused) (answersOf c n .events) (step c n .station .owners) f) (step-fit c n fit) (call-told f n fit told c)

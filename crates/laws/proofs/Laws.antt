@@ -1,5 +1,5 @@
 -- The theorem of the three laws. It stands on the definitions that the entry points' contracts name, and assumes nothing.
-use Rattle.promise.specs.Promise.{after, started, emptyBook}
+use Rattle.promise.specs.Promise.{after, started, sentNow, emptyBook}
 use Rattle.laws.specs.Marks.{bookAfter}
 use Rattle.laws.specs.Laws.{Laws}
 use Rattle.promise.proofs.Messages.{started-tied}
@@ -15,6 +15,7 @@ laws s g store e cs =
     record {
       smooths = levels.smooths s g store e cs;
       splits = λ M small ok.
-          all-split M small (after cs n) (bookAfter M cs n emptyBook) (calls-tied M small cs n emptyBook (started-tied M s g store e) ok);
+          let b = bookAfter M cs n emptyBook in
+          all-split (sentNow M b) (λ x k. small x (b .stay x) k) (after cs n) b (calls-tied M small cs n emptyBook (started-tied (sentNow M emptyBook) s g store e) ok);
       commutes = boats.commutes (after cs n) (runs-fit s g store e cs);
     }

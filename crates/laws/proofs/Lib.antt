@@ -3,8 +3,6 @@ pub mod Marks
 pub mod MarksRun
 pub mod Dues
 pub mod SilentCount
-pub mod SilentNext
-pub mod SilentRx
 pub mod Silent
 pub mod SilentRun
 pub mod LawsParts
@@ -17,3 +15,9 @@ pub mod LogsRows
 pub mod LogsCalls
 pub mod Logs
 pub mod LogsRun
+pub mod Room
+pub mod Vacant
+pub mod VacantSign
+pub mod VacantWalk
+pub mod RoundTrip
+pub mod RoundTripRun

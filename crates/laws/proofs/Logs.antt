@@ -4,7 +4,7 @@ use mathlib.Core.Logic.{inl, inr}
 use Prim.Native.Nat.{ℕ, zero, suc, _+_, _/_, _%_, _<_}
 use native.Mathlib.Omega.{arith}
 use mathlib.Core.Bool.{Bool, true, false, cond, _&&_}
-use mathlib.Core.List.{List, [], _∷_, _++_, append-assoc}
+use mathlib.Core.List.{List, [], _∷_, _++_, append-assoc, append-nil}
 use mathlib.Core.Option.{Option, none, some}
 use lib.ListN.{length}
 use borrow.Author.Tests.{eq-eqb, ne-eqb, lt-ltb}
@@ -22,8 +22,8 @@ use Rattle.logs.specs.Turns as log-turns
 use Rattle.logs.proofs.Sets.{without}
 use Rattle.logs.proofs.Watched.{watched}
 use Rattle.logs.proofs.Exact.{exact}
-use Rattle.promise.specs.Promise.{Net, Call, result, outcome, isRefused, step, after, started, TurnEvent, drew, over, poll, ack, overIf, drewIf, burstsIn, turnEvents, trace, LinksHold}
-use Rattle.laws.specs.Logs.{slotWords, markWords, markIf, logOf, logFrom, OwnLogs}
+use Rattle.promise.specs.Promise.{Net, Call, signing, result, outcome, isRefused, step, after, started, TurnEvent, drew, over, poll, ack, overIf, drewIf, burstsIn, turnEvents, trace, LinksHold}
+use Rattle.laws.specs.Logs.{slotWords, markWords, marksIn, logOf, logFrom, NoSignOff, OwnLogs}
 use Rattle.promise.proofs.Monitor.{In, NoDup, Run, rest, turn, Acc}
 use Rattle.promise.proofs.Links.{links}
 use Rattle.promise.proofs.TurnsWords.{sent-append, quiet-first}
@@ -31,7 +31,7 @@ use Rattle.promise.proofs.TurnsLists.{list-once}
 use Rattle.promise.proofs.Turns.{start-is, followed}
 use Rattle.laws.proofs.LogsWords.{Good, good-none, good-mark, Agree}
 use Rattle.laws.proofs.LogsRows.{Sendable}
-use Rattle.laws.proofs.LogsCalls.{Spoken, Reports, reports}
+use Rattle.laws.proofs.LogsCalls.{Spoken, Reports, overOf, drewOf, behindOf, events-are, reports}
 
 -- ---- the check beside the monitor
 
@@ -211,6 +211,11 @@ sound-burst {ws} {o} v k s f =
           (subst (λ (l : List TurnEvent). Goes (b .entries ++ entriesFrom 0 v) l) (sym (append-assoc (burstsIn (s .burst)) (overIf o) k)) (goes-burst (entriesFrom 0 v) k (b .agree) (f .goes)));
     }))
 
+-- the mark of a list that is drawn up
+abbrev markIf : Option ℕ → List ℕ
+markIf none = []
+markIf (some list) = markWords (slotsOf list 62 0)
+
 sound-mark : (o : Option ℕ) (v : List ℕ) (k : List TurnEvent) → Sound v k → Sound (markIf o ++ v) (drewIf o ++ k)
 sound-mark none v k f = f
 sound-mark (some m) v k f =
@@ -226,28 +231,32 @@ sound-mark (some m) v k f =
 sound-before : (o : Option ℕ) (v : List ℕ) (k : List TurnEvent) → Sound v k → Sound v (overIf o ++ k)
 sound-before o v k f = record { good = f .good; marks = f .marks; goes = goes-over-if (entriesFrom 0 v) k o (f .goes) }
 
-sound-call : (c : Call) (n : Net) (v : List ℕ) (k : List TurnEvent) → Reports (n .station) (outcome c n) (result c n .behind) → Sound v k → Sound (logOf c n ++ v) (turnEvents c n ++ k)
+marks-over : (o : Option ℕ) (es : List TurnEvent) → marksIn (overIf o ++ es) ≡ marksIn es
+marks-over none es = refl
+marks-over (some x) es = refl
+
+marks-drew : (o : Option ℕ) → marksIn (drewIf o) ≡ markIf o
+marks-drew none = refl
+marks-drew (some m) = append-nil (markWords (slotsOf m 62 0))
+
+sound-by : (b : Bool) (r d o : Option ℕ) (ws v : List ℕ) (k : List TurnEvent) → Spoken ws o → Sound v k
+    → Sound (cond b [] (markIf d ++ sentIn ws) ++ v) (cond b [] ((overIf r ++ drewIf d) ++ (burstsIn ws ++ overIf o)) ++ k)
+sound-by true r d o ws v k s f = f
+sound-by false r d o ws v k s f =
+    rw (append-assoc (markIf d) (sentIn ws) v, append-assoc (overIf r ++ drewIf d) (burstsIn ws ++ overIf o) k, append-assoc (overIf r) (drewIf d) ((burstsIn ws ++ overIf o) ++ k))
+    (sound-before r (markIf d ++ (sentIn ws ++ v)) (drewIf d ++ ((burstsIn ws ++ overIf o) ++ k))
+    (sound-mark d (sentIn ws ++ v) ((burstsIn ws ++ overIf o) ++ k) (sound-burst v k s f)))
+
+sound-call : (c : Call) (n : Net) (v : List ℕ) (k : List TurnEvent) → ((slot : ℕ) → c ≡ signing slot → ⊥) → Reports (n .station) (outcome c n) (behindOf c n) → Sound v k → Sound (logOf c n ++ v) (turnEvents c n ++ k)
 unfolding logOf turnEvents
-sound-call c n v k s f = by (isRefused c n)
-  where
-    r : Option ℕ
-    r = result c n .before
-
-    d : Option ℕ
-    d = result c n .drew
-
-    ws : List ℕ
-    ws = outcome c n .words
-
-    o : Option ℕ
-    o = result c n .behind
-
-    by : (b : Bool) → Sound (cond b [] (markIf d ++ sentIn ws) ++ v) (cond b [] ((overIf r ++ drewIf d) ++ (burstsIn ws ++ overIf o)) ++ k)
-    by true = f
-    by false =
-        rw (append-assoc (markIf d) (sentIn ws) v, append-assoc (overIf r ++ drewIf d) (burstsIn ws ++ overIf o) k, append-assoc (overIf r) (drewIf d) ((burstsIn ws ++ overIf o) ++ k))
-        (sound-before r (markIf d ++ (sentIn ws ++ v)) (drewIf d ++ ((burstsIn ws ++ overIf o) ++ k))
-        (sound-mark d (sentIn ws ++ v) ((burstsIn ws ++ overIf o) ++ k) (sound-burst v k (s .spoken) f)))
+sound-call c n v k z s f =
+    let e = events-are c n z in
+    let ws = outcome c n .words in
+    let m : marksIn (result c n .before) ≡ markIf (drewOf c n) = ap marksIn (e .0) ∙ marks-over (overOf c n) (drewIf (drewOf c n)) ∙ marks-drew (drewOf c n) in
+    subst (λ (l : List ℕ). Sound (cond (isRefused c n) [] (l ++ sentIn ws) ++ v) (cond (isRefused c n) [] (result c n .before ++ (burstsIn ws ++ result c n .behind)) ++ k)) (sym m)
+    (subst (λ (l : List TurnEvent). Sound (cond (isRefused c n) [] (markIf (drewOf c n) ++ sentIn ws) ++ v) (cond (isRefused c n) [] (l ++ (burstsIn ws ++ result c n .behind)) ++ k)) (sym (e .0))
+    (subst (λ (l : List TurnEvent). Sound (cond (isRefused c n) [] (markIf (drewOf c n) ++ sentIn ws) ++ v) (cond (isRefused c n) [] ((overIf (overOf c n) ++ drewIf (drewOf c n)) ++ (burstsIn ws ++ l)) ++ k)) (sym (e .1))
+    (sound-by (isRefused c n) (overOf c n) (drewOf c n) (behindOf c n) ws v k (s .spoken) f)))
 
 -- ---- every list of calls
 
@@ -255,12 +264,12 @@ sound-none : Sound [] []
 unfolding marksFrom entriesFrom watched
 sound-none = record { good = good-none; marks = refl; goes = λ left r v l c. refl }
 
-sound : (cs : List Call) (n : Net) → Sendable (n .station .settings) → ((ds : List Call) → LinksHold (after ds n .station)) → Sound (logFrom cs n) (trace cs n)
+sound : (cs : List Call) (n : Net) → NoSignOff cs → Sendable (n .station .settings) → ((ds : List Call) → LinksHold (after ds n .station)) → Sound (logFrom cs n) (trace cs n)
 unfolding logFrom trace after step
-sound [] n o l = sound-none
-sound (c ∷ cs) n o l =
-    let r = reports c n o (l (c ∷ [])) in
-    sound-call c n (logFrom cs (step c n)) (trace cs (step c n)) r (sound cs (step c n) (subst Sendable (sym (r .settings)) o) (λ ds. l (c ∷ ds)))
+sound [] n z o l = sound-none
+sound (c ∷ cs) n z o l =
+    let r = reports c n (z .0) o (l (c ∷ [])) in
+    sound-call c n (logFrom cs (step c n)) (trace cs (step c n)) (z .0) r (sound cs (step c n) (z .1) (subst Sendable (sym (r .settings)) o) (λ ds. l (c ∷ ds)))
 
 new-settings : (g : Settings) (count : ℕ) → newStation g count .settings ≡ g
 unfolding newStation
@@ -269,9 +278,9 @@ new-settings g count = refl
 -- our own logs are accepted
 pub own-logs : OwnLogs
 unfolding verdictOf
-own-logs s g store z name window cs =
+own-logs s g store z name window cs unsigned =
     let n = started s g store in
     let e : n .station .settings ≡ settingsOf g = ap (λ (t : Station). t .settings) (start-is s g store z) ∙ new-settings (settingsOf g) (cellCount (length store / 6400)) in
-    let f = sound cs n (subst Sendable (sym e) (record { name = name; window = window })) (links s g store z) in
+    let f = sound cs n unsigned (subst Sendable (sym e) (record { name = name; window = window })) (links s g store z) in
     let a : accepted (entriesFrom 0 (logFrom cs n)) ≡ true = sym (exact (entriesFrom 0 (logFrom cs n))) ∙ f .goes [] rest idle tt (followed s g store z cs) in
     rw (f .good 0 (omega arith), f .marks, a)

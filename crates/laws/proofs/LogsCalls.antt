@@ -45,7 +45,7 @@ use Rattle.rx.specs.Ending.{Ended, nothingMore, turnOverIn, idleHeard, idleBy, 
 use Rattle.rx.specs.Reception.{Received, airOf, firstReading, receivedOf, ncsRxFrom, ncsRx}
 use Rattle.station.specs.Entries.{Outcome, refused, done, unless, admitOf, receiveBy, receiveRefusal, receiveOf, nextOf, sentOf, closeOf, freeOf, readRefusal, check1, admitRefusal, nextRefusal, closeRefusal, cellRefusal}
 use Rattle.dues.specs.Dues.{duesRefusal}
-use Rattle.promise.specs.Promise.{lentTo, Net, ofBurst, Call, admission, reception, decision, sending, closing, reading, freeing, charging, result, outcome, leads, LinksHold}
+use Rattle.promise.specs.Promise.{lentTo, Net, ofBurst, Call, admission, reception, decision, sending, closing, reading, freeing, charging, signing, result, outcome, overIf, drewIf, leads, LinksHold}
 use Rattle.promise.proofs.TurnsWords.{Mute, mute-none, mute-both, mute-missed, other-burst, quiet-both, quiet-ctrl, quiet-chunk-words}
 use Rattle.promise.proofs.TurnsKeeps.{reroute-calm, admit-calm, CalmIn, calm-start, frames-calm}
 use Rattle.laws.proofs.LogsWords.{Burst, burst-none, burst-other, burst-poll, burst-pollack, burst-ack, burst-close}
@@ -333,23 +333,71 @@ reports-receive (parsed b) n s snr now store =
     reports-unless n s store (receiveBy (parsed b) s snr now store) (ncsRx s b snr now store .over)
     (λ l. let f = heard-rx s b snr now store in record { spoken = f .spoken; settings = f .settings })
 
-pub reports : (c : Call) (n : Net) → Sendable (n .station .settings) → LinksHold (outcome c n .station) → Reports (n .station) (outcome c n) (result c n .behind)
+-- what ends or is drawn up in a call, as the definitions have it; a sign-off apart
+abbrev pub overOf : Call → Net → Option ℕ
+overOf (admission packed relay now room) n = none
+overOf (reception words snr now lent room numbers) n = none
+overOf (decision now room) n = ncsNext (n .station) now .over
+overOf (sending now) n = none
+overOf (closing count) n = none
+overOf (reading cell lent) n = none
+overOf (freeing cell) n = none
+overOf (charging figures) n = none
+overOf (signing slot) n = none
+
+abbrev pub drewOf : Call → Net → Option ℕ
+drewOf (admission packed relay now room) n = none
+drewOf (reception words snr now lent room numbers) n = none
+drewOf (decision now room) n = ncsNext (n .station) now .drew
+drewOf (sending now) n = none
+drewOf (closing count) n = none
+drewOf (reading cell lent) n = none
+drewOf (freeing cell) n = none
+drewOf (charging figures) n = none
+drewOf (signing slot) n = none
+
+abbrev pub behindOf : Call → Net → Option ℕ
+behindOf (admission packed relay now room) n = none
+behindOf (reception words snr now lent room numbers) n = ofBurst (parse words) none (λ b. ncsRx (n .station) b snr now (lentTo lent (n .store)) .over)
+behindOf (decision now room) n = none
+behindOf (sending now) n = none
+behindOf (closing count) n = none
+behindOf (reading cell lent) n = none
+behindOf (freeing cell) n = none
+behindOf (charging figures) n = none
+behindOf (signing slot) n = none
+
+pub events-are : (c : Call) (n : Net) → ((slot : ℕ) → c ≡ signing slot → ⊥)
+    → (result c n .before ≡ overIf (overOf c n) ++ drewIf (drewOf c n)) × (result c n .behind ≡ overIf (behindOf c n))
+unfolding result
+events-are (admission packed relay now room) n f = (refl, refl)
+events-are (reception words snr now lent room numbers) n f = (refl, refl)
+events-are (decision now room) n f = (refl, refl)
+events-are (sending now) n f = (refl, refl)
+events-are (closing count) n f = (refl, refl)
+events-are (reading cell lent) n f = (refl, refl)
+events-are (freeing cell) n f = (refl, refl)
+events-are (charging figures) n f = (refl, refl)
+events-are (signing slot) n f = absurd (f slot refl)
+
+pub reports : (c : Call) (n : Net) → ((slot : ℕ) → c ≡ signing slot → ⊥) → Sendable (n .station .settings) → LinksHold (outcome c n .station) → Reports (n .station) (outcome c n) (behindOf c n)
 unfolding result admitOf receiveOf nextOf sentOf closeOf freeOf onTxDone
-reports (admission packed relay now room) n o =
+reports (admission packed relay now room) n f o =
     let s = n .station in
     let c = admit-calm (seatOf s (unpackCall packed)) s (unpackCall packed) (viaFor s (seatOf s (unpackCall packed)) relay) now in
     reports-unless (admitRefusal room now (s .used) relay (isFull (seatOf s (unpackCall packed)))) s [] _ none (λ l. reports-mute s _ [] _ (c .quiet) (c .settings))
-reports (reception words snr now lent room numbers) n o =
+reports (reception words snr now lent room numbers) n f o =
     reports-receive (parse words) (receiveRefusal room (length (lentTo lent (n .store))) (n .station .count) now snr (parse words)) (n .station) snr now (lentTo lent (n .store))
-reports (decision now room) n o =
+reports (decision now room) n f o =
     let s = n .station in
     reports-unless (nextRefusal now room) s [] (done (ncsNext s now .station) [] (ncsNext s now .words)) none
-    (λ l. let f = told-next s now o l in record { spoken = f .spoken; settings = f .settings })
-reports (sending now) n o = reports-unless (check1 now 0) (n .station) [] (done (onTxDone (n .station) now) [] []) none (λ l. reports-mute (n .station) (onTxDone (n .station) now) [] [] mute-none refl)
-reports (closing count) n o = reports-unless (closeRefusal count) (n .station) [] _ none (λ l. reports-mute (n .station) _ [] [] mute-none refl)
-reports (reading cell lent) n o =
+    (λ l. let t = told-next s now o l in record { spoken = t .spoken; settings = t .settings })
+reports (sending now) n f o = reports-unless (check1 now 0) (n .station) [] (done (onTxDone (n .station) now) [] []) none (λ l. reports-mute (n .station) (onTxDone (n .station) now) [] [] mute-none refl)
+reports (closing count) n f o = reports-unless (closeRefusal count) (n .station) [] _ none (λ l. reports-mute (n .station) _ [] [] mute-none refl)
+reports (reading cell lent) n f o =
     reports-unless (readRefusal (length (lentTo lent (n .store))) (n .station .count) (n .station .landed) cell) (n .station) (n .store) _ none
     (λ l. reports-mute (n .station) (n .station) (n .store) [] mute-none refl)
-reports (freeing cell) n o =
+reports (freeing cell) n f o =
     reports-unless (cellRefusal (n .station .count) (n .station .landed) cell) (n .station) [] _ none (λ l. reports-mute (n .station) _ [] [] mute-none refl)
-reports (charging figures) n o = reports-unless (duesRefusal figures) (n .station) (n .store) _ none (λ l. reports-mute (n .station) (n .station) (n .store) [] mute-none refl)
+reports (charging figures) n f o = reports-unless (duesRefusal figures) (n .station) (n .store) _ none (λ l. reports-mute (n .station) (n .station) (n .store) [] mute-none refl)
+reports (signing slot) n f o = absurd (f slot refl)

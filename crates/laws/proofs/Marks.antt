@@ -20,7 +20,7 @@ use Rattle.stream.proofs.Windows.{handed-low, next-not-handed, bitmap-at}
 use Rattle.net.specs.declared.Station.{Station}
 use Rattle.net.specs.State.{memberAt}
 use Rattle.net.specs.Net.{isMember}
-use Rattle.promise.specs.Promise.{Net, Call, step, after, started, Sent, Book, emptyBook, bookCall, inside, CallsOk}
+use Rattle.promise.specs.Promise.{Net, Call, step, after, started, Stays, sentNow, Book, emptyBook, bookCall, inside, CallsOk}
 use Rattle.laws.specs.Marks.{alsoMarked, rebuilt, Follows, MarksHold, inWindow, landedIn, bookAfter, MarksFollow}
 use Rattle.promise.proofs.Ledgers.{inside-of}
 use Rattle.promise.proofs.Quiet.{windowAt}
@@ -144,12 +144,12 @@ windows-hold f s says i here =
 
 -- ---- the book after the calls
 
-module _ (M : Sent) (small : (s k : ℕ) → length (M s k) ≤ 2046) where
-  pub calls-tied : (cs : List Call) (n : Net) (b : Book) → Tied M n b → CallsOk M cs n b → Tied M (after cs n) (bookAfter M cs n b)
+module _ (M : Stays) (small : (s t k : ℕ) → length (M s t k) ≤ 2046) where
+  pub calls-tied : (cs : List Call) (n : Net) (b : Book) → Tied (sentNow M b) n b → CallsOk M cs n b → Tied (sentNow M (bookAfter M cs n b)) (after cs n) (bookAfter M cs n b)
   unfolding CallsOk after bookAfter
   calls-tied [] n b t ok = t
   calls-tied (c ∷ cs) n b t ok =
-      calls-tied cs (step c n) (bookCall M c n b .left) (call-good M small c n b t (ok .0) .tied) (ok .1)
+      calls-tied cs (step c n) (bookCall (sentNow M b) c n b .left) (call-good M small c n b t (ok .0) .tied) (ok .1)
 
 -- ---- the theorem
 
@@ -163,5 +163,5 @@ marks-follow s g store e cs =
           (calls-told cs n (λ x k. false) (record { view = record { tidy = t .tie .tidy; sound = t .tie .sound }; long = t .long }) (t .tie .numbers));
       book = λ M small ok.
           windows-hold (bookAfter M cs n emptyBook .ledger .handed) (after cs n .station)
-          (calls-tied M small cs n emptyBook (started-tied M s g store e) ok .tie .numbers);
+          (calls-tied M small cs n emptyBook (started-tied (sentNow M emptyBook) s g store e) ok .tie .numbers);
     }

@@ -10,7 +10,8 @@ use lib.ListN.{length, getD, set, replicate, length-replicate, length-set}
 use lib.Seq.{getD-set-same, getD-set-other}
 use lib.Dec.{leb}
 use borrow.Author.Tests.{lt-leb}
-use Rattle.bits.specs.Mask.{hasBit, withBit}
+use Rattle.bits.specs.Mask.{hasBit, withBit, withoutBit}
+use Rattle.bits.proofs.Laws.{without-other}
 use Rattle.bits.proofs.Lists.{eq-or-not}
 use Rattle.bits.proofs.Stops.{stop-is}
 use Rattle.roster.specs.declared.Member.{Member}
@@ -146,9 +147,9 @@ kept-tally n limit used ms i m h here k =
         (sym (getD-set-other ms i (indexOf j) m noMember (λ e. d (sym (index-is j l) ∙ e))))
 
 -- a newcomer at a free slot has missed no poll
-new-at : (n limit used : ℕ) (ms : List Member) (c : ℕ) (m : Member) → c < 62 → hasBit used c ≡ false → m .missed ≡ 0 → Kept n limit used ms
+pub kept-new : (n limit used : ℕ) (ms : List Member) (c : ℕ) (m : Member) → c < 62 → hasBit used c ≡ false → m .missed ≡ 0 → Kept n limit used ms
     → Kept n limit (withBit used c) (set ms c m)
-new-at n limit used ms c m h free none k =
+kept-new n limit used ms c m h free none k =
     record {
       counted = k .counted ∙ count-same p q 62 (λ j l. ⊎-elim (λ e. subst (λ (x : ℕ). p x ≡ q x) (sym e) (old ∙ sym new)) (other j l) (eq-or-not j c));
       least = k .least;
@@ -180,7 +181,30 @@ new-at n limit used ms c m h free none k =
         (sym (member-other used c j d))
         (sym (getD-set-other ms c (indexOf j) m noMember (λ e. d (sym (index-is j l) ∙ e))))
 
-pub kept-new : (n limit used : ℕ) (ms : List Member) (slot : ℕ) (m : Member) → slot < 62 → hasBit used slot ≡ false → m .missed ≡ 0 → Kept n limit used ms
-    → Kept n limit (withBit used (indexOf slot)) (set ms (indexOf slot) m)
-kept-new n limit used ms slot m h free none k =
-    subst (λ (c : ℕ). Kept n limit (withBit used c) (set ms c m)) (sym (index-is slot h)) (new-at n limit used ms slot m h free none k)
+-- a boat that has missed no poll goes
+pub kept-drop : (n limit used : ℕ) (ms : List Member) (c : ℕ) → c < 62 → getD ms c noMember .missed ≡ 0 → Kept n limit used ms → Kept n limit (withoutBit used c) ms
+kept-drop n limit used ms c h none k =
+    record {
+      counted = k .counted ∙ count-same p q 62 (λ j l. ⊎-elim (λ e. subst (λ (x : ℕ). p x ≡ q x) (sym e) (quiet used ∙ sym (quiet (withoutBit used c)))) (other j l) (eq-or-not j c));
+      least = k .least;
+      size = k .size;
+    }
+  where
+    p : ℕ → Bool
+    p = silentIn limit used ms
+
+    q : ℕ → Bool
+    q = silentIn limit (withoutBit used c) ms
+
+    quiet : (u : ℕ) → silentIn limit u ms c ≡ false
+    quiet u =
+        let o : 1 ≤ limit = k .least in
+        ap (λ (j : ℕ). isMember u c && silentAt limit (getD ms j noMember)) (index-is c h)
+        ∙ ap (λ (x : ℕ). isMember u c && leb limit x) none
+        ∙ ap (λ (b : Bool). isMember u c && b) (lt-leb limit 0 (omega arith))
+        ∙ and-false (isMember u c)
+
+    other : (j : ℕ) → j < 62 → (j ≡ c → ⊥) → p j ≡ q j
+    other j l d =
+        ap (λ (b : Bool). b && silentAt limit (getD ms (indexOf j) noMember))
+        (member-is used j l ∙ sym (without-other used c j (λ e. d (sym e))) ∙ sym (member-is (withoutBit used c) j l))

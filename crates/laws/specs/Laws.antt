@@ -34,7 +34,8 @@ use Rattle.frames.specs.Pieces.{pieceFrame}
 use Rattle.rx.specs.Reception.{firstReading}
 use Rattle.config.specs.declared.Given.{Given}
 use Rattle.station.specs.Entries.{startRefusal}
-use Rattle.promise.specs.Promise.{Lent, Net, Call, reception, after, started, Sent, emptyBook, CallsOk}
+use Rattle.promise.specs.Promise.{Lent, Net, Call, reception, after, started, Stays, Sent, sentNow, emptyBook, CallsOk}
+use Rattle.laws.specs.Marks.{bookAfter}
 
 -- ---- a smoothed level
 
@@ -170,10 +171,11 @@ Commutes n =
 
 -- ---- the laws
 
--- after the calls cs from n on. The levels handed in are f32; the law of parts asks item 3's premises on messages, so that all pieces of a number are of one message
+-- after the calls cs from n on. The levels handed in are f32; the law of parts asks item 3's premises on messages, so that all pieces of a number are of one message,
+-- that of the stay that runs
 pub record Lawful (n : Net) (cs : List Call) : Type 0 where
   pub smooths : LevelsOk cs → Smooths (after cs n .station)
-  pub splits : (M : Sent) → ((s k : ℕ) → length (M s k) ≤ 2046) → CallsOk M cs n emptyBook → AllSplit M (after cs n)
+  pub splits : (M : Stays) → ((s t k : ℕ) → length (M s t k) ≤ 2046) → CallsOk M cs n emptyBook → AllSplit (sentNow M (bookAfter M cs n emptyBook)) (after cs n)
   pub commutes : Commutes (after cs n)
 
 -- from a start that is not refused, of any calls

@@ -3,3 +3,5 @@ pub mod Balance
 pub mod Silent
 pub mod Laws
 pub mod Logs
+pub mod Room
+pub mod RoundTrip

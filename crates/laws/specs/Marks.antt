@@ -5,6 +5,7 @@ use mathlib.Core.Path.{_≡_}
 use mathlib.Core.Bool.{Bool, true, false, cond}
 use mathlib.Core.List.{List, [], _∷_}
 use lib.ListN.{length, getD}
+use lib.Dec.{eqb}
 use Rattle.bits.specs.Loop.{fold}
 use Rattle.bits.specs.Mask.{eitherOf}
 use Rattle.stream.specs.declared.window.Window.{Window}
@@ -14,7 +15,7 @@ use Rattle.net.specs.State.{memberAt}
 use Rattle.net.specs.Net.{isMember}
 use Rattle.config.specs.declared.Given.{Given}
 use Rattle.station.specs.Entries.{startRefusal}
-use Rattle.promise.specs.Promise.{Net, InBook, brings, reads, frees, changesNothing, Call, inBook, step, after, started, Sent, Book, emptyBook, alsoHanded, Event2, answersOf, bookCall, CallsOk}
+use Rattle.promise.specs.Promise.{Net, InBook, brings, reads, frees, ends, changesNothing, Call, inBook, step, after, started, Stays, sentNow, Book, emptyBook, alsoHanded, Event2, answersOf, bookCall, CallsOk}
 
 -- ---- rebuilding
 
@@ -47,22 +48,23 @@ abbrev pub alsoLanded : List Event2 → List ℕ → (ℕ → ℕ → Bool) → 
 alsoLanded [] owners f = f
 alsoLanded (e ∷ es) owners f = alsoLanded es owners (alsoHanded (e .slot) (getD owners (e .cell) 0 % 4294967296) f)
 
--- in a call: only receptions land messages
-abbrev pub landedBy : InBook → List Event2 → List ℕ → (ℕ → ℕ → Bool) → ℕ → ℕ → Bool
-landedBy (brings words numbers lent) es owners f = alsoLanded es owners f
-landedBy (reads cell lent) es owners f = f
-landedBy (frees cell) es owners f = f
-landedBy changesNothing es owners f = f
+-- in a call: only receptions land messages; with a sign-off that is not refused the slot's stay ends, and nothing has landed in the next (U3 of document 02)
+abbrev pub landedBy : InBook → Bool → List Event2 → List ℕ → (ℕ → ℕ → Bool) → ℕ → ℕ → Bool
+landedBy (brings words numbers lent) refused es owners f = alsoLanded es owners f
+landedBy (reads cell lent) refused es owners f = f
+landedBy (frees cell) refused es owners f = f
+landedBy (ends slot) refused es owners f = cond refused f (λ s k. cond (eqb slot s) false (f s k))
+landedBy changesNothing refused es owners f = f
 
--- in all the calls, told by their events 2
+-- in all the calls, told by their events 2: in the stays that run
 unfoldable pub landedIn : List Call → Net → (ℕ → ℕ → Bool) → ℕ → ℕ → Bool
 landedIn [] n f = f
-landedIn (c ∷ cs) n f = landedIn cs (step c n) (landedBy (inBook c) (answersOf c n .events) (step c n .station .owners) f)
+landedIn (c ∷ cs) n f = landedIn cs (step c n) (landedBy (inBook c) (answersOf c n .refused) (answersOf c n .events) (step c n .station .owners) f)
 
 -- the book after the calls
-unfoldable pub bookAfter : Sent → List Call → Net → Book → Book
+unfoldable pub bookAfter : Stays → List Call → Net → Book → Book
 bookAfter M [] n b = b
-bookAfter M (c ∷ cs) n b = bookAfter M cs (step c n) (bookCall M c n b .left)
+bookAfter M (c ∷ cs) n b = bookAfter M cs (step c n) (bookCall (sentNow M b) c n b .left)
 
 -- ---- the promise
 
@@ -71,7 +73,7 @@ bookAfter M (c ∷ cs) n b = bookAfter M cs (step c n) (bookCall M c n b .left)
 pub record Marks (n : Net) (cs : List Call) : Type 0 where
   pub window : MarksHold (inWindow (after cs n .station)) (after cs n .station)
   pub landed : MarksHold (landedIn cs n (λ s k. false)) (after cs n .station)
-  pub book : (M : Sent) → ((s k : ℕ) → length (M s k) ≤ 2046) → CallsOk M cs n emptyBook
+  pub book : (M : Stays) → ((s t k : ℕ) → length (M s t k) ≤ 2046) → CallsOk M cs n emptyBook
       → MarksHold (bookAfter M cs n emptyBook .ledger .handed) (after cs n .station)
 
 -- from a start that is not refused, of any calls

@@ -240,8 +240,9 @@ pub fn polled_slot(w: Wait) -> u8
 pub fn member_at(s: Station, slot: u8) -> Member
     ensures { λ r. ⌜ r ≡ memberAt s slot ⌝ }
 {
+    let ms = s.members;
     let i = index(slot);
-    s.members[i]
+    ms[i]
 }
 
 // ---- on_tx_done

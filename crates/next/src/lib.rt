@@ -334,12 +334,13 @@ fn seldom(s: Station, a: Act, time: f64, o: &mut [u32], at: &mut usize) -> Stati
 fn draw(s: Station) -> u64
     ensures { λ r. ⌜ r ≡ listFor s (s .round .number) ⌝ }
 {
+    let ms = s.members;
     let limit = s.settings.misslimit;
     let fourth = s.round.number % 4 == 0;
     let mut list: u64 = 0;
     let mut i: usize = 0;
     while i < 62 {
-        let m = s.members[i];
+        let m = ms[i];
         let listed = bits::has(s.used, i) & (m.via == 63) & (fourth | (m.missed < limit));
         list = with_if(list, listed, i);
         i += 1;

@@ -31,7 +31,7 @@ use Rattle.frames.specs.Frames.{readFrame, frameStep, readFrames}
 use Rattle.rx.specs.Ending.{replyEnd}
 use Rattle.rx.specs.Reception.{ncsRx}
 use Rattle.station.specs.Entries.{admitRefusal, admitOf, receiveRefusal, receiveOf, cellRefusal, freeOf}
-use Rattle.promise.specs.Promise.{handed, Net, net, Call, freeing, result, inBook, step, after, Book, cover, alsoHanded, allBelow, bookFrame, bookFrames, eventsIn, answersOf, bookCall, CallOk}
+use Rattle.promise.specs.Promise.{handed, Net, net, Call, freeing, result, inBook, step, after, sentNow, Book, cover, alsoHanded, allBelow, bookFrame, bookFrames, eventsIn, answersOf, bookCall, CallOk}
 use Rattle.promise.proofs.Ledgers.{of-all}
 use Rattle.promise.proofs.Runs.{nought, joins, hears, all-empty, whole, apart, near}
 
@@ -110,6 +110,7 @@ late-book =
       ledger =
           record { covered = λ s k i. eqb s 0 && leb 1 k && ltb k 128 && ltb i 2; handed = λ s k. eqb s 0 && leb 1 k && ltb k 128 };
       entry = λ c. none;
+      stay = λ s. 0;
     }
 
 abbrev pub alike : Call
@@ -119,7 +120,7 @@ alike = hears (whole 0 ∷ whole 128 ∷ whole 256 ∷ []) (0 ∷ 128 ∷ 256 �
 pub record AlikeRun (g : Settings) : Type 0 where
   pub events : answersOf alike (having g 127) .events
       ≡ record { slot = 0; cell = 0; number = 0 } ∷ record { slot = 0; cell = 1; number = 128 } ∷ record { slot = 0; cell = 2; number = 0 } ∷ []
-  pub book : bookCall all-empty alike (having g 127) late-book .out
+  pub book : bookCall (sentNow all-empty late-book) alike (having g 127) late-book .out
       ≡ record { slot = 0; number = 0 } ∷ record { slot = 0; number = 128 } ∷ record { slot = 0; number = 256 } ∷ []
 
 pub alike-run : (g : Settings) → AlikeRun g
@@ -141,7 +142,7 @@ below f m n a b = ⊎-elim (λ l. l) (λ l. absurd (apart (sym b ∙ of-all m f 
 reach : (k n : ℕ) → (k < n → ⊥) → k ≤ n + 127 → (n ≤ k + 128) × (k ≤ n + 127)
 reach k n z a = (⊎-elim (λ b. omega arith) (λ b. absurd (z b)) (le-or-lt n k), a)
 
-pub alike-ok : (g : Settings) → CallOk all-empty (inBook alike) (answersOf alike (having g 127)) late-book
+pub alike-ok : (g : Settings) → CallOk (sentNow all-empty late-book) (inBook alike) (answersOf alike (having g 127)) late-book
 unfolding having result newStation first lowestFree hasBit withBit receiveOf receiveRefusal parse headOk framesOf itemAt frameOf payload unpack payloadOk wordOk pack framesWords ncsRx readFrames frameStep readFrame pieceFrame replyEnd isMember accept widened widenedAt ownCell putOf cells.accept settle grow seek next slideOf markOf stop eventsIn bookFrames bookFrame cover alsoHanded allBelow
 alike-ok g = (
   tt,

@@ -6,7 +6,7 @@ use Prim.Native.Nat.{ℕ, _+_, _*_, _/_, _%_, _<_}
 use native.Mathlib.Omega.{arith}
 use lib.Dec.{eqb}
 use borrow.Author.Tests.{eq-eqb, ne-eqb}
-use Rattle.out.specs.Encode.{eventWord, messageWord, missedWord, headWord, waveWord}
+use Rattle.out.specs.Encode.{eventWord, messageWord, missedWord}
 use Rattle.promise.specs.Promise.{Event2, eventOf, eventsIn}
 
 pub events-none : eventsIn [] ≡ []
@@ -35,20 +35,11 @@ pub append-quiet : (a b : List ℕ) (es : List Event2) → eventsIn a ≡ es →
 append-quiet a b es p q = events-append a b ∙ ap (λ (l : List Event2). l ++ eventsIn b) p ∙ ap (λ (l : List Event2). es ++ l) q
 
 -- the words that are none
-pub checkin-word : (slot via : ℕ) (ws : List ℕ) → eventsIn (eventWord 1 slot via ∷ ws) ≡ eventsIn ws
-checkin-word slot via ws = event-other (eventWord 1 slot via) ws (λ e. omega arith)
-
 pub relayed-word : (slot via : ℕ) (ws : List ℕ) → eventsIn (eventWord 4 slot via ∷ ws) ≡ eventsIn ws
 relayed-word slot via ws = event-other (eventWord 4 slot via) ws (λ e. omega arith)
 
 pub missed-word : (slot : ℕ) (ws : List ℕ) → eventsIn (missedWord slot ∷ ws) ≡ eventsIn ws
 missed-word slot ws = event-other (missedWord slot) ws (λ e. omega arith)
-
-pub head-word : (code hi extra : ℕ) (ws : List ℕ) → eventsIn (headWord code hi extra ∷ ws) ≡ eventsIn ws
-head-word code hi extra ws = event-other (headWord code hi extra) ws (λ e. omega arith)
-
-pub wave-word : (level : ℕ) (ws : List ℕ) → eventsIn (waveWord level ∷ ws) ≡ eventsIn ws
-wave-word level ws = event-other (waveWord level) ws (λ e. omega arith)
 
 -- the parts of the one that is
 parts : (w n c s : ℕ) → w ≡ 536870912 + n * 8192 + c * 64 + s → n < 256 → c < 64 → s < 64

@@ -4,7 +4,7 @@ use mathlib.Core.Bool.{Bool, true, false, cond, _&&_, _||_}
 use mathlib.Core.Option.{Option, none}
 use mathlib.Core.List.{List, [], _∷_, _++_, append-nil}
 use mathlib.Core.Logic.{⊎-elim}
-use Prim.Native.Nat.{ℕ, _+_, _*_, _/_, _≤_, _<_}
+use Prim.Native.Nat.{ℕ, suc, _*_, _/_, _≤_, _<_}
 use native.Mathlib.Omega.{arith}
 use lib.ListN.{length, getD, replicate, length-replicate}
 use lib.Dec.{eqb, ltb, leb}
@@ -29,7 +29,9 @@ use Rattle.net.specs.declared.Station.{Station}
 use Rattle.net.specs.declared.Settings.{Settings}
 use Rattle.net.specs.State.{tableOf, withTable, withWait}
 use Rattle.net.specs.Net.{isMember, newStation, blankCall, onTxDone}
+use Rattle.net.proofs.Laws.{member-lt}
 use Rattle.admit.specs.Admission.{seatOf, isFull, viaFor}
+use Rattle.next.specs.Next.{ncsNext}
 use Rattle.frames.specs.Reading.{Reading}
 use Rattle.frames.specs.Frames.{readFrames}
 use Rattle.frames.specs.declared.Air.{Air}
@@ -37,16 +39,22 @@ use Rattle.rx.specs.Ending.{busyWait, idleEnd, replyEnd, nothingMore, Ended}
 use Rattle.rx.specs.Reception.{Received, airOf, firstReading, receivedOf, ncsRx}
 use Rattle.config.specs.declared.Given.{Given}
 use Rattle.config.specs.Checks.{settingsOk, settingsOf}
-use Rattle.station.specs.Entries.{Outcome, refused, done, receivedAs, receiveBy, receiveRefusal, receiveOf, admitRefusal, admitOf, nextRefusal, nextOf, sentOf, check1, closeRefusal, closeOf, startRefusal, startOf, cellRefusal, check22, readRefusal, readingOf, freeOf}
+use Rattle.station.specs.Entries.{Outcome, refused, done, unless, admitted, receivedAs, receiveBy, receiveRefusal, receiveOf, admitRefusal, admitOf, nextRefusal, nextOf, sentOf, check1, closeRefusal, closeOf, startRefusal, startOf, cellRefusal, check22, readRefusal, readingOf, freeOf}
+use Rattle.station.specs.SignOff.{signOff, signOffRefusal, signOffOf}
 use Rattle.dues.specs.Dues.{duesRefusal}
-use Rattle.promise.specs.Promise.{Lent, handed, another, lentTo, Net, net, ofBurst, Call, admission, reception, decision, sending, closing, reading, freeing, charging, result, inBook, outcome, isRefused, step, started, Sent, Message, Ledger, Book, emptyBook, Entered, unchanged, bookFrames, framesBy, Event2, eventsIn, enter, enterAll, answersOf, bookDone, bookCall, FramesOk, LentOk, CallOk, CallsOk, Once, Paired, ReadsAs, AtCall, Holds, handedIn, Messages}
-use Rattle.promise.proofs.Ledgers.{none-below}
+use Rattle.promise.specs.Promise.{Lent, handed, another, lentTo, Net, net, ofBurst, InBook, Call, admission, reception, decision, sending, closing, reading, freeing, charging, signing, result, inBook, outcome, isRefused, step, started, Stays, Sent, sentNow, Message, Ledger, Book, emptyBook, same, alsoHanded, Entered, unchanged, bookFrames, framesBy, Event2, eventsIn, enter, enterAll, answersOf, bookEnds, bookDone, bookCall, FramesOk, LentOk, CallOk, CallsOk, Once, Paired, ReadsAs, AtCall, Holds, Stayed, stayed, handedIn, alsoStayed, OnceInStay, Messages}
+use Rattle.promise.proofs.Ledgers.{none-below, same-true}
 use Rattle.promise.proofs.Ties.{View, Use, Vacant, Comes, useOf, useAt, heldAt, FineAt, entryOf, Tie, not-vacant, not-whole, use-vacant}
 use Rattle.promise.proofs.Quiet.{windowIn, Keeps, kept-self, viewOf, kept-view}
-use Rattle.promise.proofs.QuietNext.{next-keeps}
+use Rattle.promise.proofs.QuietWalk.{uncelled, keeps}
+use Rattle.promise.proofs.WalkCalls.{all, admission-walk, decision-walk, sending-walk, closing-walk, step-walk}
+use Rattle.promise.proofs.Readings.{chain-count}
 use Rattle.promise.proofs.Events.{events-none, append-quiet}
-use Rattle.promise.proofs.QuietRx.{QuietEnd, admit-kept, idle-kept, reply-kept}
-use Rattle.promise.proofs.Receptions.{allHanded, once-append, Ready, frames-read}
+use Rattle.promise.proofs.Short.{short-admit, short-next}
+use Rattle.promise.proofs.QuietRx.{QuietEnd, idle-kept, reply-kept}
+use Rattle.promise.proofs.Signs.{sign-member, signed}
+use Rattle.promise.proofs.SignTies.{ends-here, ends-there, stay-here, stay-there, sign-tie}
+use Rattle.promise.proofs.Receptions.{allHanded, Ready, frames-read}
 use Rattle.promise.proofs.Receptions as receptions
 
 -- what is handed from call to call, tied to the book
@@ -118,9 +126,10 @@ started-tied M s g store e =
 
 pub record CallGood (M : Sent) (c : Call) (n : Net) (b : Book) : Type 0 where
   pub tied : Tied M (step c n) (bookCall M c n b .left)
-  pub at : AtCall M (inBook c) (answersOf c n .events) (bookCall M c n b .out) n b
+  pub at : AtCall M (n .station .count) (inBook c) (answersOf c n .events) (bookCall M c n b .out) n b
   pub once : Once (bookCall M c n b .out) (b .ledger .handed)
   pub after : bookCall M c n b .left .ledger .handed ≡ allHanded (bookCall M c n b .out) (b .ledger .handed)
+  pub stay : bookCall M c n b .left .stay ≡ b .stay
 
 pub same-cond : {A : Type 0} (t : Bool) (x y : A) → x ≡ y → cond t x y ≡ x
 same-cond true x y q = refl
@@ -128,7 +137,7 @@ same-cond false x y q = sym q
 
 module _ (M : Sent) (c : Call) (n : Net) (b : Book) (tied : Tied M n b) (keeps : Keeps (n .station) (outcome c n .station))
     (store : result c n .store ≡ n .store) (book : bookDone M (inBook c) (answersOf c n) b ≡ unchanged b)
-    (at : AtCall M (inBook c) (answersOf c n .events) (bookCall M c n b .out) n b) where
+    (at : AtCall M (n .station .count) (inBook c) (answersOf c n .events) (bookCall M c n b .out) n b) where
   step-view : viewOf (step c n .station) (step c n .store) ≡ viewOf (n .station) (n .store)
   unfolding step
   step-view =
@@ -150,33 +159,55 @@ module _ (M : Sent) (c : Call) (n : Net) (b : Book) (tied : Tied M n b) (keeps :
         at = at;
         once = subst (λ (k : Entered Book). Once (k .out) (b .ledger .handed)) (sym same-book) tt;
         after = subst (λ (k : Entered Book). k .left .ledger .handed ≡ allHanded (k .out) (b .ledger .handed)) (sym same-book) refl;
+        stay = ap (λ (k : Entered Book). k .left .stay) same-book;
       }
+
+-- ---- no call but a reception returns an event 2
+
+abbrev NoEvents : InBook → List Event2 → Type 0
+NoEvents (InBook.brings words numbers lent) es = Unit {0}
+NoEvents (InBook.reads cell lent) es = es ≡ []
+NoEvents (InBook.frees cell) es = es ≡ []
+NoEvents (InBook.ends slot) es = es ≡ []
+NoEvents InBook.changesNothing es = es ≡ []
+
+quiet-unless : (m : ℕ) (s : Station) (store : List ℕ) (o : Outcome) → eventsIn (o .words) ≡ [] → eventsIn (unless m s store o .words) ≡ []
+quiet-unless m s store o h = cond-keeps (λ (x : Outcome). eventsIn (x .words) ≡ []) (eqb m 0) o (refused m s store) (λ _. h) (λ _. events-none)
+
+pub other-events : (c : Call) (n : Net) → NoEvents (inBook c) (answersOf c n .events)
+unfolding result admitOf nextOf sentOf closeOf freeOf signOffOf
+other-events (admission packed relay now room) n =
+    let s = n .station in
+    let call = unpackCall packed in
+    let seat = seatOf s call in
+    quiet-unless (admitRefusal room now (s .used) relay (isFull seat)) s [] (done _ [] (admitted s call relay now .words))
+    (short-admit seat s call (viaFor s seat relay) now .quiet)
+other-events (reception words snr now lent room numbers) n = tt
+other-events (decision now room) n = quiet-unless (nextRefusal now room) (n .station) [] (done _ [] (ncsNext (n .station) now .words)) (short-next (n .station) now .quiet)
+other-events (sending now) n = quiet-unless (check1 now 0) (n .station) [] (done (onTxDone (n .station) now) [] []) events-none
+other-events (closing count) n = quiet-unless (closeRefusal count) (n .station) [] (done _ [] []) events-none
+other-events (reading cell lent) n =
+    quiet-unless (readRefusal (length (lentTo lent (n .store))) (n .station .count) (n .station .landed) cell) (n .station) (n .store) (done (n .station) (n .store) []) events-none
+other-events (freeing cell) n = quiet-unless (cellRefusal (n .station .count) (n .station .landed) cell) (n .station) [] (done _ [] []) events-none
+other-events (charging figures) n = quiet-unless (duesRefusal figures) (n .station) (n .store) (done (n .station) (n .store) []) events-none
+other-events (signing slot) n = quiet-unless (signOffRefusal (n .station .used) slot) (n .station) [] (done (signOff (n .station) slot) [] []) events-none
+
+-- ---- calls that keep them
 
 abbrev pub KeepsOutcome : Station → Outcome → Type 0
 KeepsOutcome s o = Keeps s (o .station)
 
 pub admission-kept : (s : Station) (packed : List ℕ) (relay : ℕ) (now : Float) (room : ℕ) → KeepsOutcome s (admitOf s packed relay now room)
-unfolding admitOf
-admission-kept s packed relay now room =
-    cond-keeps (KeepsOutcome s) (eqb (admitRefusal room now (s .used) relay (isFull (seatOf s (unpackCall packed)))) 0) _ _
-    (λ _. admit-kept s s (unpackCall packed) (viaFor s (seatOf s (unpackCall packed)) relay) now (kept-self s) .0)
-    (λ _. kept-self s)
+admission-kept s packed relay now room = keeps (admission-walk uncelled s packed relay now room)
 
 pub decision-kept : (s : Station) (now : Float) (room : ℕ) → KeepsOutcome s (nextOf s now room)
-unfolding nextOf
-decision-kept s now room = cond-keeps (KeepsOutcome s) (eqb (nextRefusal now room) 0) _ _ (λ _. next-keeps s now) (λ _. kept-self s)
-
-sent-kept : (s : Station) (now : Float) → Keeps s (onTxDone s now)
-unfolding onTxDone
-sent-kept s now = kept-self s
+decision-kept s now room = keeps (decision-walk uncelled tt s now room)
 
 pub sending-kept : (s : Station) (now : Float) → KeepsOutcome s (sentOf s now)
-unfolding sentOf
-sending-kept s now = cond-keeps (KeepsOutcome s) (eqb (check1 now 0) 0) _ _ (λ _. sent-kept s now) (λ _. kept-self s)
+sending-kept s now = keeps (sending-walk uncelled tt s now)
 
 pub closing-kept : (s : Station) (count : ℕ) → KeepsOutcome s (closeOf s count)
-unfolding closeOf
-closing-kept s count = cond-keeps (KeepsOutcome s) (eqb (closeRefusal count) 0) _ _ (λ _. kept-self s) (λ _. kept-self s)
+closing-kept s count = keeps (closing-walk uncelled s count)
 
 -- ---- reading
 
@@ -275,7 +306,7 @@ refusedBy o = cond (eqb (o .refusal) 0) false true
 
 module _ (M : Sent) (n : Net) (b : Book) (tied : Tied M n b) (cell : ℕ) where
   abbrev freedBook : Book
-  freedBook = record { ledger = b .ledger; entry = enter cell none (b .entry) }
+  freedBook = record { ledger = b .ledger; entry = enter cell none (b .entry); stay = b .stay }
 
   abbrev freedBy : Bool → Entered Book
   freedBy t = cond t (unchanged b) (unchanged freedBook)
@@ -307,6 +338,10 @@ module _ (M : Sent) (n : Net) (b : Book) (tied : Tied M n b) (cell : ℕ) where
   freed-after true = refl
   freed-after false = refl
 
+  freed-stay : (t : Bool) → freedBy t .left .stay ≡ b .stay
+  freed-stay true = refl
+  freed-stay false = refl
+
   pub freeing-good : CallGood M (freeing cell) n b
   unfolding step result
   freeing-good =
@@ -314,27 +349,28 @@ module _ (M : Sent) (n : Net) (b : Book) (tied : Tied M n b) (cell : ℕ) where
       record {
         tied = subst (λ (store : List ℕ). Tied M (net (freeOf (n .station) cell .station) store) (freedBy t .left))
             (sym (same-cond t (n .store) (n .store) refl)) free-good;
-        at = tt;
+        at = other-events (freeing cell) n;
         once = freed-once t;
         after = freed-after t;
+        stay = freed-stay t;
       }
 
 -- ---- a reception
 
 -- what one that is not refused comes to: r for the station, h for the book
-record RxDone (M : Sent) (l : Ledger) (e : ℕ → Option Message) (r : Received) (h : Entered Ledger) : Type 0 where
-  pub got : receptions.Received M (eventsIn (r .words)) (h .out) (viewOf (r .station) (r .store)) (h .left) (l .handed) e
+record RxDone (M : Sent) (count : ℕ) (l : Ledger) (e : ℕ → Option Message) (r : Received) (h : Entered Ledger) : Type 0 where
+  pub got : receptions.Received M count (eventsIn (r .words)) (h .out) (viewOf (r .station) (r .store)) (h .left) (l .handed) e
   pub long : length (r .station .members) ≡ 62
 
 -- its end leaves every message alone
-finish : (M : Sent) (l : Ledger) (e : ℕ → Option Message) (y : Reading) (h : Entered Ledger) (es : List Event2)
-    → receptions.Received M es (h .out) (viewOf (y .station) (y .store)) (h .left) (l .handed) e → eventsIn (y .words) ≡ es → length (y .station .members) ≡ 62
-    → (d : Ended) → QuietEnd (y .station) d → RxDone M l e (receivedOf y d) h
-finish M l e y h es g q long d k =
+finish : (M : Sent) (count : ℕ) (l : Ledger) (e : ℕ → Option Message) (y : Reading) (h : Entered Ledger) (es : List Event2)
+    → receptions.Received M count es (h .out) (viewOf (y .station) (y .store)) (h .left) (l .handed) e → eventsIn (y .words) ≡ es → length (y .station .members) ≡ 62
+    → (d : Ended) → QuietEnd (y .station) d → RxDone M count l e (receivedOf y d) h
+finish M count l e y h es g q long d k =
     let w : eventsIn (y .words ++ d .burst) ≡ es = append-quiet (y .words) (d .burst) es q (k .1) ∙ append-nil es in
     record {
-      got = subst (λ (x : List Event2). receptions.Received M x (h .out) (viewOf (d .station) (y .store)) (h .left) (l .handed) e) (sym w)
-          (subst (λ (v : View). receptions.Received M es (h .out) v (h .left) (l .handed) e) (sym (kept-view (y .station) (d .station) (y .store) (k .0))) g);
+      got = subst (λ (x : List Event2). receptions.Received M count x (h .out) (viewOf (d .station) (y .store)) (h .left) (l .handed) e) (sym w)
+          (subst (λ (v : View). receptions.Received M count es (h .out) v (h .left) (l .handed) e) (sym (kept-view (y .station) (d .station) (y .store) (k .0))) g);
       long = k .0 .long ∙ long;
     }
 
@@ -353,28 +389,28 @@ module _ (M : Sent) (small : (s k : ℕ) → length (M s k) ≤ 2046) (n : Net) 
     ready = record { frame = refl; seen = refl; clear = λ j h. has-none j }
 
     full-done : FramesOk M (u .frames) 0 numbers (last .seen) (last .unkept) (b .ledger)
-        → RxDone M (b .ledger) (b .entry) (receivedOf last (replyEnd air (u .head) last)) (bookFrames M (u .frames) 0 numbers (last .seen) (last .unkept) (b .ledger))
+        → RxDone M (n .station .count) (b .ledger) (b .entry) (receivedOf last (replyEnd air (u .head) last)) (bookFrames M (u .frames) 0 numbers (last .seen) (last .unkept) (b .ledger))
     full-done ok =
         let z = frames-read M small air numbers (u .frames) first 0 (b .ledger) (b .entry) ready (omega arith) (tied .tie) (tied .long) ok in
-        finish M (b .ledger) (b .entry) last (bookFrames M (u .frames) 0 numbers (last .seen) (last .unkept) (b .ledger)) (z .events) (z .got)
+        finish M (n .station .count) (b .ledger) (b .entry) last (bookFrames M (u .frames) 0 numbers (last .seen) (last .unkept) (b .ledger)) (z .events) (z .got)
         (z .words ∙ ap (λ (x : List Event2). x ++ z .events) events-none) (z .long)
-        (replyEnd air (u .head) last) (reply-kept (last .station) air (u .head) last (kept-self (last .station)))
+        (replyEnd air (u .head) last) (reply-kept air (u .head) last)
 
     tiny-done : (h : Entered Ledger) → h .left ≡ b .ledger → h .out ≡ []
-        → RxDone M (b .ledger) (b .entry) (receivedOf first (cond (eqb (u .head .hi) kIdle) (idleEnd air (u .head .extra) (first .station)) (nothingMore (first .station)))) h
+        → RxDone M (n .station .count) (b .ledger) (b .entry) (receivedOf first (cond (eqb (u .head .hi) kIdle) (idleEnd air (u .head .extra) (first .station)) (nothingMore (first .station)))) h
     tiny-done h p q =
-        finish M (b .ledger) (b .entry) first h []
-        (subst (λ (ms : List Message). receptions.Received M [] ms (viewOf (first .station) (first .store)) (h .left) (b .ledger .handed) (b .entry)) (sym q)
-        (subst (λ (l : Ledger). receptions.Received M [] [] (viewOf (first .station) (first .store)) l (b .ledger .handed) (b .entry)) (sym p)
+        finish M (n .station .count) (b .ledger) (b .entry) first h []
+        (subst (λ (ms : List Message). receptions.Received M (n .station .count) [] ms (viewOf (first .station) (first .store)) (h .left) (b .ledger .handed) (b .entry)) (sym q)
+        (subst (λ (l : Ledger). receptions.Received M (n .station .count) [] [] (viewOf (first .station) (first .store)) l (b .ledger .handed) (b .entry)) (sym p)
         (record { tie = tied .tie; pairs = tt; rising = tt; once = tt; after = refl })))
         events-none (tied .long)
         (cond (eqb (u .head .hi) kIdle) (idleEnd air (u .head .extra) (first .station)) (nothingMore (first .station)))
         (cond-keeps (QuietEnd (first .station)) (eqb (u .head .hi) kIdle) _ _
-        (λ _. idle-kept (first .station) air (u .head .extra) (first .station) (kept-self (first .station)))
+        (λ _. idle-kept air (u .head .extra) (first .station))
         (λ _. (kept-self (first .station), events-none)))
 
     rx-done : FramesOk M (framesBy (parsed u)) 0 numbers (ncsRx (n .station) u snr now (n .store) .seen) (ncsRx (n .station) u snr now (n .store) .unkept) (b .ledger)
-        → RxDone M (b .ledger) (b .entry) (ncsRx (n .station) u snr now (n .store))
+        → RxDone M (n .station .count) (b .ledger) (b .entry) (ncsRx (n .station) u snr now (n .store))
         (bookFrames M (framesBy (parsed u)) 0 numbers (ncsRx (n .station) u snr now (n .store) .seen) (ncsRx (n .station) u snr now (n .store) .unkept) (b .ledger))
     unfolding ncsRx
     rx-done = at (eqb (u .head .code) tiny)
@@ -388,7 +424,7 @@ module _ (M : Sent) (small : (s k : ℕ) → length (M s k) ≤ 2046) (n : Net) 
         none-read seen mask = unfold bookFrames in refl
 
         at : (t : Bool) → FramesOk M (cond t [] (u .frames)) 0 numbers (r t .seen) (r t .unkept) (b .ledger)
-            → RxDone M (b .ledger) (b .entry) (r t) (bookFrames M (cond t [] (u .frames)) 0 numbers (r t .seen) (r t .unkept) (b .ledger))
+            → RxDone M (n .station .count) (b .ledger) (b .entry) (r t) (bookFrames M (cond t [] (u .frames)) 0 numbers (r t .seen) (r t .unkept) (b .ledger))
         at true ok =
             tiny-done (bookFrames M [] 0 numbers (r true .seen) (r true .unkept) (b .ledger))
             (ap (λ (h : Entered Ledger). h .left) (none-read (r true .seen) (r true .unkept)))
@@ -398,12 +434,12 @@ module _ (M : Sent) (small : (s k : ℕ) → length (M s k) ≤ 2046) (n : Net) 
   -- the same in the store that was lent, which is the one handed on
   lent-done : (u : Burst) → length (u .frames) ≤ 64 → (st : List ℕ) → n .store ≡ st
       → FramesOk M (framesBy (parsed u)) 0 numbers (ncsRx (n .station) u snr now st .seen) (ncsRx (n .station) u snr now st .unkept) (b .ledger)
-      → RxDone M (b .ledger) (b .entry) (ncsRx (n .station) u snr now st)
+      → RxDone M (n .station .count) (b .ledger) (b .entry) (ncsRx (n .station) u snr now st)
       (bookFrames M (framesBy (parsed u)) 0 numbers (ncsRx (n .station) u snr now st .seen) (ncsRx (n .station) u snr now st .unkept) (b .ledger))
   lent-done u few st q =
       subst (λ (y : List ℕ).
       FramesOk M (framesBy (parsed u)) 0 numbers (ncsRx (n .station) u snr now y .seen) (ncsRx (n .station) u snr now y .unkept) (b .ledger)
-      → RxDone M (b .ledger) (b .entry) (ncsRx (n .station) u snr now y)
+      → RxDone M (n .station .count) (b .ledger) (b .entry) (ncsRx (n .station) u snr now y)
       (bookFrames M (framesBy (parsed u)) 0 numbers (ncsRx (n .station) u snr now y .seen) (ncsRx (n .station) u snr now y .unkept) (b .ledger)))
       q (rx-done u few)
 
@@ -418,7 +454,7 @@ module _ (M : Sent) (small : (s k : ℕ) → length (M s k) ≤ 2046) (n : Net) 
     abbrev enteredBy : Parsed Burst → Outcome → Entered Book
     enteredBy w o =
         record {
-          left = record { ledger = handedBy w o .left; entry = enterAll (eventsIn (o .words)) (handedBy w o .out) (b .entry) };
+          left = record { ledger = handedBy w o .left; entry = enterAll (eventsIn (o .words)) (handedBy w o .out) (b .entry); stay = b .stay };
           out = handedBy w o .out;
         }
 
@@ -427,7 +463,7 @@ module _ (M : Sent) (small : (s k : ℕ) → length (M s k) ≤ 2046) (n : Net) 
 
     record RxGood (w : Parsed Burst) (o : Outcome) : Type 0 where
       pub next : Tied M (net (o .station) (cond (refusedBy o) (n .store) (o .store))) (bookBy w o .left)
-      pub paired : Paired (eventsIn (o .words)) (bookBy w o .out) b
+      pub paired : Paired (n .station .count) (eventsIn (o .words)) (bookBy w o .out) b
       pub after : bookBy w o .left .ledger .handed ≡ allHanded (bookBy w o .out) (b .ledger .handed)
 
     abbrev Rx : Parsed Burst → Outcome → Type 0
@@ -435,8 +471,8 @@ module _ (M : Sent) (small : (s k : ℕ) → length (M s k) ≤ 2046) (n : Net) 
         (refusedBy o ≡ false → n .store ≡ st)
         → (refusedBy o ≡ false → FramesOk M (framesBy w) 0 numbers (seenBy w) (o .mask) (b .ledger)) → RxGood w o
 
-    nothing-paired : Paired (eventsIn []) [] b
-    nothing-paired = subst (λ (es : List Event2). Paired es [] b) (sym events-none) (record { pairs = tt; rising = tt; once = tt })
+    nothing-paired : Paired (n .station .count) (eventsIn []) [] b
+    nothing-paired = subst (λ (es : List Event2). Paired (n .station .count) es [] b) (sym events-none) (record { pairs = tt; rising = tt; once = tt })
 
     refused-good : (w : Parsed Burst) (m : ℕ) → eqb m 0 ≡ false → Rx w (refused m (n .station) st)
     refused-good w m q k ok =
@@ -444,7 +480,7 @@ module _ (M : Sent) (small : (s k : ℕ) → length (M s k) ≤ 2046) (n : Net) 
         let d = enteredBy w (refused m (n .station) st) in
         record {
           next = subst (λ (t : Bool). Tied M (net (n .station) (cond t (n .store) st)) (cond t (unchanged b) d .left)) (sym z) tied;
-          paired = subst (λ (t : Bool). Paired (eventsIn []) (cond t (unchanged b) d .out) b) (sym z) nothing-paired;
+          paired = subst (λ (t : Bool). Paired (n .station .count) (eventsIn []) (cond t (unchanged b) d .out) b) (sym z) nothing-paired;
           after = subst (λ (t : Bool). cond t (unchanged b) d .left .ledger .handed ≡ allHanded (cond t (unchanged b) d .out) (b .ledger .handed)) (sym z) refl;
         }
 
@@ -478,43 +514,200 @@ module _ (M : Sent) (small : (s k : ℕ) → length (M s k) ≤ 2046) (n : Net) 
   unfolding step result
   reception-good words lent room ok =
       let g = rx-good (lentTo lent (n .store)) words room (lent-is lent (isRefused (reception words snr now lent room numbers) n) (ok .0)) (ok .1) in
-      record { tied = g .next; at = g .paired; once = g .paired .once; after = g .after }
+      record {
+        tied = g .next;
+        at = g .paired;
+        once = g .paired .once;
+        after = g .after;
+        stay = cond-keeps (λ (k : Entered Book). k .left .stay ≡ b .stay) (isRefused (reception words snr now lent room numbers) n) _ _ (λ _. refl) (λ _. refl);
+      }
+
+-- ---- the cells stay as many as they were
+
+call-count : (c : Call) (n : Net) → outcome c n .station .count ≡ n .station .count
+unfolding step
+call-count c n = chain-count (step-walk all tt tt c n (λ words snr now lent room numbers e. tt))
+
+-- ---- a sign-off
+
+module _ (M : Stays) (n : Net) (b : Book) (tied : Tied (sentNow M b) n b) (slot : ℕ) where
+  abbrev endedBy : Bool → Entered Book
+  endedBy t = cond t (unchanged b) (unchanged (bookEnds slot b))
+
+  abbrev EndGood : Outcome → Type 0
+  EndGood o = Tied (sentNow M (endedBy (refusedBy o) .left)) (net (o .station) (n .store)) (endedBy (refusedBy o) .left)
+
+  -- another slot's stay goes on
+  sent-there : (s k : ℕ) → (s ≡ slot → ⊥) → sentNow M (bookEnds slot b) s k ≡ sentNow M b s k
+  sent-there s k z = ap (λ (t : ℕ). M s t k) (stay-there slot b s z)
+
+  end-good : EndGood (signOffOf (n .station) slot)
+  unfolding signOffOf
+  end-good =
+      cond-keeps EndGood (eqb (signOffRefusal (n .station .used) slot) 0) _ _
+      (λ q.
+      let low = member-lt (n .station .used) slot (sign-member (n .station .used) slot (eqb-true _ 0 q)) in
+      record { tie = sign-tie (sentNow M b) (sentNow M (bookEnds slot b)) slot sent-there (n .station) (n .store) b (tied .tie) low (tied .long); long = signed slot (n .station) low (tied .long) .long })
+      (λ q. subst (λ (t : Bool). Tied (sentNow M (endedBy (cond t false true) .left)) (net (n .station) (n .store)) (endedBy (cond t false true) .left)) (sym q) tied)
 
 -- ---- every list of calls
 
-module _ (M : Sent) (small : (s k : ℕ) → length (M s k) ≤ 2046) where
-  pub call-good : (c : Call) (n : Net) (b : Book) → Tied M n b → CallOk M (inBook c) (answersOf c n) b → CallGood M c n b
+-- f are the messages handed over so far: in the stays that run as the book has it, and in later ones none
+pub record Match (b : Book) (f : ℕ → ℕ → ℕ → Bool) : Type 0 where
+  pub now : (s k : ℕ) → f s (b .stay s) k ≡ b .ledger .handed s k
+  pub later : (s t k : ℕ) → b .stay s < t → f s t k ≡ false
+
+abbrev allStayed : List Stayed → (ℕ → ℕ → ℕ → Bool) → ℕ → ℕ → ℕ → Bool
+allStayed [] f = f
+allStayed (m ∷ ms) f = allStayed ms (alsoStayed m f)
+
+stayed-append : (ms xs : List Stayed) (f : ℕ → ℕ → ℕ → Bool) → OnceInStay ms f → OnceInStay xs (allStayed ms f) → OnceInStay (ms ++ xs) f
+stayed-append [] xs f o p = p
+stayed-append (m ∷ ms) xs f o p = (o .0, stayed-append ms xs (alsoStayed m f) (o .1) p)
+
+-- a message with its stay, and the same in the stays that run
+module _ (stay : ℕ → ℕ) where
+  also-now : (f : ℕ → ℕ → ℕ → Bool) (g : ℕ → ℕ → Bool) (m : Message) → ((s k : ℕ) → f s (stay s) k ≡ g s k)
+      → (s k : ℕ) → alsoStayed (record { slot = m .slot; stay = stay (m .slot); number = m .number }) f s (stay s) k ≡ alsoHanded (m .slot) (m .number) g s k
+  unfolding alsoStayed alsoHanded
+  also-now f g m h s k = at (same (m .slot) (m .number) s k) refl
+    where
+      at : (e : Bool) → same (m .slot) (m .number) s k ≡ e → cond (e && eqb (stay (m .slot)) (stay s)) true (f s (stay s) k) ≡ cond e true (g s k)
+      at true q = ap (λ (e : Bool). cond e true (f s (stay s) k)) (eq-eqb (stay (m .slot)) (stay s) (ap stay (same-true (m .slot) (m .number) s k q .0)))
+      at false q = h s k
+
+  also-later : (f : ℕ → ℕ → ℕ → Bool) (m : Message) → ((s t k : ℕ) → stay s < t → f s t k ≡ false)
+      → (s t k : ℕ) → stay s < t → alsoStayed (record { slot = m .slot; stay = stay (m .slot); number = m .number }) f s t k ≡ false
+  unfolding alsoStayed
+  also-later f m h s t k l = at (same (m .slot) (m .number) s k) refl
+    where
+      at : (e : Bool) → same (m .slot) (m .number) s k ≡ e → cond (e && eqb (stay (m .slot)) t) true (f s t k) ≡ false
+      at true q =
+          ap (λ (e : Bool). cond e true (f s t k)) (ne-eqb (stay (m .slot)) t (λ w. let z : stay (m .slot) ≡ stay s = ap stay (same-true (m .slot) (m .number) s k q .0) in omega arith)) ∙ h s t k l
+      at false q = h s t k l
+
+  stayed-once : (ms : List Message) (f : ℕ → ℕ → ℕ → Bool) (g : ℕ → ℕ → Bool) → ((s k : ℕ) → f s (stay s) k ≡ g s k) → Once ms g → OnceInStay (stayed stay ms) f
+  stayed-once [] f g h o = tt
+  stayed-once (m ∷ ms) f g h o = (h (m .slot) (m .number) ∙ o .0, stayed-once ms (alsoStayed _ f) (alsoHanded (m .slot) (m .number) g) (also-now f g m h) (o .1))
+
+  stayed-now : (ms : List Message) (f : ℕ → ℕ → ℕ → Bool) (g : ℕ → ℕ → Bool) → ((s k : ℕ) → f s (stay s) k ≡ g s k)
+      → (s k : ℕ) → allStayed (stayed stay ms) f s (stay s) k ≡ allHanded ms g s k
+  stayed-now [] f g h = h
+  stayed-now (m ∷ ms) f g h = stayed-now ms (alsoStayed _ f) (alsoHanded (m .slot) (m .number) g) (also-now f g m h)
+
+  stayed-later : (ms : List Message) (f : ℕ → ℕ → ℕ → Bool) → ((s t k : ℕ) → stay s < t → f s t k ≡ false)
+      → (s t k : ℕ) → stay s < t → allStayed (stayed stay ms) f s t k ≡ false
+  stayed-later [] f h = h
+  stayed-later (m ∷ ms) f h = stayed-later ms (alsoStayed _ f) (also-later f m h)
+
+-- a call, the stays that run being those of the book
+pub record StayGood (M : Stays) (c : Call) (n : Net) (b : Book) : Type 0 where
+  pub tied : Tied (sentNow M (bookCall (sentNow M b) c n b .left)) (step c n) (bookCall (sentNow M b) c n b .left)
+  pub at : AtCall (sentNow M b) (n .station .count) (inBook c) (answersOf c n .events) (bookCall (sentNow M b) c n b .out) n b
+  pub once : Once (bookCall (sentNow M b) c n b .out) (b .ledger .handed)
+  pub matches : (f : ℕ → ℕ → ℕ → Bool) → Match b f → Match (bookCall (sentNow M b) c n b .left) (allStayed (stayed (b .stay) (bookCall (sentNow M b) c n b .out)) f)
+
+-- one in which no stay ends
+goes-on : (M : Stays) (c : Call) (n : Net) (b : Book) → CallGood (sentNow M b) c n b → StayGood M c n b
+goes-on M c n b g =
+    let e = bookCall (sentNow M b) c n b in
+    record {
+      tied = subst (λ (stay : ℕ → ℕ). Tied (λ s k. M s (stay s) k) (step c n) (e .left)) (sym (g .stay)) (g .tied);
+      at = g .at;
+      once = g .once;
+      matches = λ f m.
+          record {
+            now = λ s k.
+                ap (λ (stay : ℕ → ℕ). allStayed (stayed (b .stay) (e .out)) f s (stay s) k) (g .stay)
+                ∙ stayed-now (b .stay) (e .out) f (b .ledger .handed) (m .now) s k
+                ∙ ap (λ (h : ℕ → ℕ → Bool). h s k) (sym (g .after));
+            later = λ s t k l. stayed-later (b .stay) (e .out) f (m .later) s t k (subst (λ (stay : ℕ → ℕ). stay s < t) (g .stay) l);
+          };
+    }
+
+ends-match : (slot : ℕ) (b : Book) (f : ℕ → ℕ → ℕ → Bool) → Match b f → Match (bookEnds slot b) f
+ends-match slot b f m =
+    record {
+      now = λ s k.
+          ⊎-elim (λ e. subst (λ (y : ℕ). f y (bookEnds slot b .stay y) k ≡ bookEnds slot b .ledger .handed y k) (sym e)
+          (ap (λ (t : ℕ). f slot t k) (stay-here slot b) ∙ m .later slot (suc (b .stay slot)) k (omega arith) ∙ sym (ends-here slot b k)))
+          (λ z. ap (λ (t : ℕ). f s t k) (stay-there slot b s z) ∙ m .now s k ∙ sym (ends-there slot b s k z)) (eq-or-not s slot);
+      later = λ s t k l.
+          ⊎-elim (λ e. let w = stay-here slot b in let v : bookEnds slot b .stay s ≡ bookEnds slot b .stay slot = ap (bookEnds slot b .stay) e in
+          let u : b .stay s ≡ b .stay slot = ap (b .stay) e in m .later s t k (omega arith))
+          (λ z. let w = stay-there slot b s z in m .later s t k (omega arith)) (eq-or-not s slot);
+    }
+
+signing-good : (M : Stays) (slot : ℕ) (n : Net) (b : Book) → Tied (sentNow M b) n b → StayGood M (signing slot) n b
+unfolding step result
+signing-good M slot n b tied =
+    let t = isRefused (signing slot) n in
+    record {
+      tied = subst (λ (store : List ℕ). Tied (sentNow M (endedBy M n b tied slot t .left)) (net (signOffOf (n .station) slot .station) store) (endedBy M n b tied slot t .left))
+          (sym (same-cond t (n .store) (n .store) refl)) (end-good M n b tied slot);
+      at = other-events (signing slot) n;
+      once = none-out t;
+      matches = λ f m. matched t f m;
+    }
+  where
+    none-out : (t : Bool) → Once (cond t (unchanged b) (unchanged (bookEnds slot b)) .out) (b .ledger .handed)
+    none-out true = tt
+    none-out false = tt
+
+    matched : (t : Bool) (f : ℕ → ℕ → ℕ → Bool) → Match b f
+        → Match (cond t (unchanged b) (unchanged (bookEnds slot b)) .left) (allStayed (stayed (b .stay) (cond t (unchanged b) (unchanged (bookEnds slot b)) .out)) f)
+    matched true f m = m
+    matched false f m = ends-match slot b f m
+
+module _ (M : Stays) (small : (s t k : ℕ) → length (M s t k) ≤ 2046) where
+  small-now : (b : Book) (s k : ℕ) → length (sentNow M b s k) ≤ 2046
+  small-now b s k = small s (b .stay s) k
+
+  pub call-good : (c : Call) (n : Net) (b : Book) → Tied (sentNow M b) n b → CallOk (sentNow M b) (inBook c) (answersOf c n) b → StayGood M c n b
   unfolding result
   call-good (admission packed relay now room) n b t ok =
-      quiet-call M (admission packed relay now room) n b t (admission-kept (n .station) packed relay now room) refl refl tt
-  call-good (reception words snr now lent room numbers) n b t ok = reception-good M small n b t numbers snr now words lent room ok
-  call-good (decision now room) n b t ok = quiet-call M (decision now room) n b t (decision-kept (n .station) now room) refl refl tt
-  call-good (sending now) n b t ok = quiet-call M (sending now) n b t (sending-kept (n .station) now) refl refl tt
-  call-good (closing count) n b t ok = quiet-call M (closing count) n b t (closing-kept (n .station) count) refl refl tt
-  call-good (reading cell lent) n b t ok = quiet-call M (reading cell lent) n b t (reading-kept cell lent n) refl refl (reads M n b t cell)
-  call-good (freeing cell) n b t ok = freeing-good M n b t cell
-  call-good (charging figures) n b t ok = quiet-call M (charging figures) n b t (charging-kept figures n) refl refl tt
+      goes-on M (admission packed relay now room) n b
+      (quiet-call (sentNow M b) (admission packed relay now room) n b t (admission-kept (n .station) packed relay now room) refl refl (other-events (admission packed relay now room) n))
+  call-good (reception words snr now lent room numbers) n b t ok =
+      goes-on M (reception words snr now lent room numbers) n b (reception-good (sentNow M b) (small-now b) n b t numbers snr now words lent room ok)
+  call-good (decision now room) n b t ok =
+      goes-on M (decision now room) n b (quiet-call (sentNow M b) (decision now room) n b t (decision-kept (n .station) now room) refl refl (other-events (decision now room) n))
+  call-good (sending now) n b t ok =
+      goes-on M (sending now) n b (quiet-call (sentNow M b) (sending now) n b t (sending-kept (n .station) now) refl refl (other-events (sending now) n))
+  call-good (closing count) n b t ok =
+      goes-on M (closing count) n b (quiet-call (sentNow M b) (closing count) n b t (closing-kept (n .station) count) refl refl (other-events (closing count) n))
+  call-good (reading cell lent) n b t ok =
+      goes-on M (reading cell lent) n b
+      (quiet-call (sentNow M b) (reading cell lent) n b t (reading-kept cell lent n) refl refl (other-events (reading cell lent) n, reads (sentNow M b) n b t cell))
+  call-good (freeing cell) n b t ok = goes-on M (freeing cell) n b (freeing-good (sentNow M b) n b t cell)
+  call-good (charging figures) n b t ok =
+      goes-on M (charging figures) n b (quiet-call (sentNow M b) (charging figures) n b t (charging-kept figures n) refl refl (other-events (charging figures) n))
+  call-good (signing slot) n b t ok = signing-good M slot n b t
 
-  calls-hold : (cs : List Call) (n : Net) (b : Book) → Tied M n b → CallsOk M cs n b → Holds M cs n b
-  unfolding CallsOk Holds
-  calls-hold [] n b t ok = tt
-  calls-hold (c ∷ cs) n b t ok =
-      let g = call-good c n b t (ok .0) in (g .at, calls-hold cs (step c n) (bookCall M c n b .left) (g .tied) (ok .1))
+  calls-hold : (count : ℕ) (cs : List Call) (n : Net) (b : Book) → n .station .count ≡ count → Tied (sentNow M b) n b → CallsOk M cs n b → Holds M count cs n b
+  unfolding CallsOk Holds step
+  calls-hold count [] n b e t ok = tt
+  calls-hold count (c ∷ cs) n b e t ok =
+      let g = call-good c n b t (ok .0) in (
+        subst (λ (k : ℕ). AtCall (sentNow M b) k (inBook c) (answersOf c n .events) (bookCall (sentNow M b) c n b .out) n b) e (g .at),
+        calls-hold count cs (step c n) (bookCall (sentNow M b) c n b .left) (call-count c n ∙ e) (g .tied) (ok .1),
+      )
 
-  calls-once : (cs : List Call) (n : Net) (b : Book) → Tied M n b → CallsOk M cs n b → Once (handedIn M cs n b) (b .ledger .handed)
+  calls-once : (cs : List Call) (n : Net) (b : Book) (f : ℕ → ℕ → ℕ → Bool) → Match b f → Tied (sentNow M b) n b → CallsOk M cs n b → OnceInStay (handedIn M cs n b) f
   unfolding CallsOk handedIn
-  calls-once [] n b t ok = tt
-  calls-once (c ∷ cs) n b t ok =
+  calls-once [] n b f m t ok = tt
+  calls-once (c ∷ cs) n b f m t ok =
       let g = call-good c n b t (ok .0) in
-      once-append (bookCall M c n b .out) (handedIn M cs (step c n) (bookCall M c n b .left)) (b .ledger .handed) (g .once)
-      (subst (Once (handedIn M cs (step c n) (bookCall M c n b .left))) (g .after)
-      (calls-once cs (step c n) (bookCall M c n b .left) (g .tied) (ok .1)))
+      let e = bookCall (sentNow M b) c n b in
+      stayed-append (stayed (b .stay) (e .out)) (handedIn M cs (step c n) (e .left)) f
+      (stayed-once (b .stay) (e .out) f (b .ledger .handed) (m .now) (g .once))
+      (calls-once cs (step c n) (e .left) (allStayed (stayed (b .stay) (e .out)) f) (g .matches f m) (g .tied) (ok .1))
 
-pub messages-kept : (M : Sent) → ((s k : ℕ) → length (M s k) ≤ 2046) → (s : Station) (g : Given) (store : List ℕ) → startRefusal g (length store) ≡ 0
+pub messages-kept : (M : Stays) → ((s t k : ℕ) → length (M s t k) ≤ 2046) → (s : Station) (g : Given) (store : List ℕ) → startRefusal g (length store) ≡ 0
     → (cs : List Call) → CallsOk M cs (started s g store) emptyBook → Messages M (started s g store) cs
 messages-kept M small s g store e cs ok =
-    let t = started-tied M s g store e in
+    let t = started-tied (sentNow M emptyBook) s g store e in
     record {
-      calls = calls-hold M small cs (started s g store) emptyBook t ok;
-      once = calls-once M small cs (started s g store) emptyBook t ok;
+      calls = calls-hold M small (started s g store .station .count) cs (started s g store) emptyBook refl t ok;
+      once = calls-once M small cs (started s g store) emptyBook (λ s t k. false) (record { now = λ s k. refl; later = λ s t k l. refl }) t ok;
     }

@@ -9,7 +9,7 @@ use mathlib.Core.Bool.{Bool, true, false, cond, _&&_}
 use mathlib.Core.List.{List, [], _∷_, _++_}
 use lib.Dec.{T, eqb, eqb-refl}
 use borrow.Author.Tests.{eqb-true}
-use Rattle.promise.specs.Promise.{TurnEvent, drew, over, poll, ack, has, View, emptyView, begins, view, begun, Spread, pollsTill, acksTill, OneTurn, AtEvent, TurnsHold}
+use Rattle.promise.specs.Promise.{TurnEvent, drew, over, poll, ack, struck, has, without, View, emptyView, begins, view, Spread, pollsTill, acksTill, OneTurn, AtEvent, TurnsHold}
 
 abbrev pub In : ℕ → List ℕ → Type 0
 In x [] = ⊥
@@ -24,6 +24,11 @@ pub data Run : Type 0 where
   rest : Run
   turn : (slot polls acks : ℕ) → Run
 
+-- the turn of a slot that signs off ends
+abbrev pub runWithout : ℕ → Run → Run
+runWithout x rest = rest
+runWithout x (turn s p a) = cond (eqb x s) rest (turn s p a)
+
 abbrev pub Acc : List ℕ → Run → List TurnEvent → Type 0
 Acc left r [] = Unit {0}
 Acc [] rest (drew l ∷ es) = NoDup l × Acc l rest es
@@ -36,6 +41,7 @@ Acc (y ∷ left) rest (poll x ∷ es) = (x ≡ y) × Acc left (turn x 1 0) es
 Acc left (turn s p a) (poll x ∷ es) = (x ≡ s) × (suc p ≤ 5) × Acc left (turn s (suc p) a) es
 Acc left rest (ack x ∷ es) = ⊥
 Acc left (turn s p a) (ack x ∷ es) = (x ≡ s) × (suc a ≤ 4) × Acc left (turn s p (suc a)) es
+Acc left r (struck x ∷ es) = Acc (without x left) (runWithout x r) es
 
 T-eq : (b : Bool) → T b → b ≡ true
 T-eq true t = refl
@@ -52,6 +58,12 @@ few left s p a (drew l ∷ es) hp ha c = absurd c
 few left s p a (over x ∷ es) hp ha c = rw (eqb-eq x s (c .0)) (omega arith)
 few left s p a (poll x ∷ es) hp ha c = rw (eqb-eq x s (c .0)) (let h = few left s (suc p) a es (c .1) ha (c .2) in omega arith)
 few left s p a (ack x ∷ es) hp ha c = rw (eqb-eq x s (c .0)) (let h = few left s p (suc a) es hp (c .1) (c .2) in omega arith)
+few left s p a (struck x ∷ es) hp ha c = go (eqb x s) c (λ d. few (without x left) s p a es hp ha d)
+  where
+    go : (b : Bool) → Acc (without x left) (cond b rest (turn s p a)) es
+        → (Acc (without x left) (turn s p a) es → (p + pollsTill s es ≤ 5) × (a + acksTill s es ≤ 4)) → (p + cond b 0 (pollsTill s es) ≤ 5) × (a + cond b 0 (acksTill s es) ≤ 4)
+    go true c ih = omega arith
+    go false c ih = ih c
 
 -- ---- the view that goes with the monitor
 
@@ -93,6 +105,47 @@ fewer l left y h = record { on = λ x m. h .on x (inr m); once = h .once .1 }
 head-on : (l left : List ℕ) (x y : ℕ) → Left l (y ∷ left) → x ≡ y → has x l ≡ true
 head-on l left x y h e = T-eq (has x l) (h .on x (inl e))
 
+-- ---- a slot struck from a list
+
+pub in-without : (y x : ℕ) (l : List ℕ) → In y l → (y ≡ x → ⊥) → In y (without x l)
+in-without y x [] h n = h
+in-without y x (z ∷ l) h n = step (eqb x z) refl h (λ (m : In y l). in-without y x l m n)
+  where
+    step : (b : Bool) → eqb x z ≡ b → (y ≡ z) ⊎ In y l → (In y l → In y (without x l)) → In y (cond b (without x l) (z ∷ without x l))
+    step true e (inl p) ih = absurd (n (p ∙ sym (eqb-true x z e)))
+    step true e (inr m) ih = ih m
+    step false e (inl p) ih = inl p
+    step false e (inr m) ih = inr (ih m)
+
+pub without-in : (y x : ℕ) (l : List ℕ) → In y (without x l) → In y l × (y ≡ x → ⊥)
+without-in y x [] h = absurd h
+without-in y x (z ∷ l) h = step (eqb x z) refl h (λ (m : In y (without x l)). without-in y x l m)
+  where
+    step : (b : Bool) → eqb x z ≡ b → In y (cond b (without x l) (z ∷ without x l)) → (In y (without x l) → In y l × (y ≡ x → ⊥)) → In y (z ∷ l) × (y ≡ x → ⊥)
+    step true e m ih = let w = ih m in (inr (w .0), w .1)
+    step false e (inl p) ih = (inl p, λ q. let w : _≡_ {A = Bool} true false = sym (eqb-eq x z (sym q ∙ p)) ∙ e in let v : _≡_ {A = ℕ} 0 1 = cc in omega arith)
+    step false e (inr m) ih = let w = ih m in (inr (w .0), w .1)
+
+once-without : (x : ℕ) (l : List ℕ) → NoDup l → NoDup (without x l)
+once-without x [] n = tt
+once-without x (z ∷ l) n = step (eqb x z) (once-without x l (n .1))
+  where
+    step : (b : Bool) → NoDup (without x l) → NoDup (cond b (without x l) (z ∷ without x l))
+    step true d = d
+    step false d = (λ m. n .0 (without-in z x l m .0), d)
+
+struck-left : (l left : List ℕ) (x : ℕ) → Left l left → Left (without x l) (without x left)
+struck-left l left x h =
+    record { on = λ y m. let w = without-in y x left m in has-in y (without x l) (in-without y x l (in-has y l (h .on y (w .0))) (w .1)); once = once-without x left (h .once) }
+
+slots-struck : (x : ℕ) (r : Run) → slots (runWithout x r) ≡ without x (slots r)
+slots-struck x rest = refl
+slots-struck x (turn s p a) = go (eqb x s)
+  where
+    go : (b : Bool) → slots (cond b rest (turn s p a)) ≡ cond b [] (s ∷ [])
+    go true = refl
+    go false = refl
+
 -- ---- no second turn before all have had one
 
 abbrev Phase : List ℕ → List ℕ → List ℕ → Type 0
@@ -121,6 +174,14 @@ phase-poll l had left x y e n (inr (c, a)) = (λ h t m d. absurd (a x h (inl e))
     apart z (inl p) m = n .0 (subst (λ (k : ℕ). In k left) (p ∙ e) m)
     apart z (inr h) m = a z h (inr m)
 
+phase-struck : (l had left : List ℕ) (x : ℕ) → Phase l had left → Phase (without x l) (without x had) (without x left)
+phase-struck l had left x (inl f) = inl (λ t m. let w = without-in t x l m in in-without t x had (f t (w .0)) (w .1))
+phase-struck l had left x (inr (c, a)) = inr (λ t m. let w = without-in t x l m in cover t (w .1) (c t (w .0)), λ z p q. a z (without-in z x had p .0) (without-in z x left q .0))
+  where
+    cover : (t : ℕ) → (t ≡ x → ⊥) → In t had ⊎ In t left → In t (without x had) ⊎ In t (without x left)
+    cover t n (inl h) = inl (in-without t x had h n)
+    cover t n (inr h) = inr (in-without t x left h n)
+
 and-false : (b : Bool) → (b && false) ≡ false
 and-false true = refl
 and-false false = refl
@@ -129,7 +190,7 @@ and-false false = refl
 again : (list : List ℕ) (s n a x : ℕ) → x ≡ s → begins (seen list (turn s n a)) x ≡ false
 again list s n a x e = rw (eqb-eq x s e) (and-false (has x list))
 
-spread : (l had : List ℕ) (list left : List ℕ) (r : Run) (es : List TurnEvent) → Left list left → Acc left r es → Phase l had left → Spread l had (begun (seen list r) es)
+spread : (l had : List ℕ) (list left : List ℕ) (r : Run) (es : List TurnEvent) → Left list left → Acc left r es → Phase l had left → Spread l had (seen list r) es
 spread l had list left r [] v c p = tt
 spread l had list [] rest (drew m ∷ es) v c p = spread l had m m rest es (whole m (c .0)) (c .1) (inl (ended l had p))
 spread l had list (x ∷ left) rest (drew m ∷ es) v c p = absurd c
@@ -140,17 +201,29 @@ spread l had list [] rest (poll x ∷ es) v c p = absurd c
 spread l had list (y ∷ left) rest (poll x ∷ es) v c p =
     rw (head-on list left x y v (c .0))
     (let h = phase-poll l had left x y (c .0) (v .once) p in
-    (λ p t q d. has-in t had (h .0 (in-has x had p) t (in-has t l q) d), spread l (x ∷ had) list left (turn x 1 0) es (fewer list left y v) (c .1) (h .1)))
+    (λ b p t q d. has-in t had (h .0 (in-has x had p) t (in-has t l q) d), spread l (x ∷ had) list left (turn x 1 0) es (fewer list left y v) (c .1) (h .1)))
 spread l had list left (turn s n a) (poll x ∷ es) v c p =
-    rw (again list s n a x (c .0)) (spread l had list left (turn s (suc n) a) es v (c .2) p)
+    rw (again list s n a x (c .0)) (λ b p t q d. absurd b, spread l had list left (turn s (suc n) a) es v (c .2) p)
 spread l had list left rest (ack x ∷ es) v c p = absurd c
 spread l had list left (turn s n a) (ack x ∷ es) v c p = spread l had list left (turn s n (suc a)) es v (c .2) p
+spread l had list left r (struck x ∷ es) v c p =
+    subst (λ (run : List ℕ). Spread (without x l) (without x had) (record { list = without x list; run = run }) es) (slots-struck x r)
+    (spread (without x l) (without x had) (without x list) (without x left) (runWithout x r) es (struck-left list left x v) c (phase-struck l had left x p))
 
 -- ---- an accepted trace keeps the promise
 
 abbrev On : Run → List ℕ → Type 0
 On rest l = Unit {0}
 On (turn s p a) l = T (has s l)
+
+on-struck : (x : ℕ) (r : Run) (l : List ℕ) → On r l → On (runWithout x r) (without x l)
+on-struck x rest l o = tt
+on-struck x (turn s p a) l o = go (eqb x s) refl
+  where
+    go : (b : Bool) → eqb x s ≡ b → On (cond b rest (turn s p a)) (without x l)
+    go true e = tt
+    go false e =
+        has-in s (without x l) (in-without s x l (in-has s l o) (λ q. let w : _≡_ {A = Bool} true false = sym (eqb-eq x s (sym q)) ∙ e in let v : _≡_ {A = ℕ} 0 1 = cc in omega arith))
 
 has-one : (x s : ℕ) → x ≡ s → T (has x (s ∷ []))
 has-one x s e = rw (eqb-eq x s e) tt
@@ -181,6 +254,11 @@ hold list left (turn s n a) (poll x ∷ es) v o c =
     )
 hold list left rest (ack x ∷ es) v o c = absurd c
 hold list left (turn s n a) (ack x ∷ es) v o c = (has-one x s (c .0), hold list left (turn s n (suc a)) es v o (c .2))
+hold list left r (struck x ∷ es) v o c = (
+  tt,
+  subst (λ (run : List ℕ). TurnsHold (record { list = without x list; run = run }) es) (slots-struck x r)
+      (hold (without x list) (without x left) (runWithout x r) es (struck-left list left x v) (on-struck x r list o) c),
+)
 
 pub accepted : (es : List TurnEvent) → Acc [] rest es → TurnsHold emptyView es
 accepted es c = hold [] [] rest es (record { on = λ x h. absurd h; once = tt }) tt c

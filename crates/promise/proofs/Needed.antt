@@ -32,7 +32,7 @@ use Rattle.frames.specs.Frames.{readFrame, frameStep, readFrames}
 use Rattle.rx.specs.Ending.{replyEnd}
 use Rattle.rx.specs.Reception.{ncsRx}
 use Rattle.station.specs.Entries.{admitRefusal, admitOf, receiveRefusal, receiveOf, cellRefusal, readRefusal, readingOf}
-use Rattle.promise.specs.Promise.{handed, another, Net, net, Call, reception, reading, result, step, Sent, Ledger, Book, emptyBook, cover, alsoHanded, allBelow, bookFrame, bookFrames, eventsIn, Lowest, Pairs, Holds}
+use Rattle.promise.specs.Promise.{handed, another, Net, net, Call, reception, reading, result, step, Stays, Sent, sentNow, Ledger, Book, emptyBook, cover, alsoHanded, allBelow, bookFrame, bookFrames, eventsIn, Lowest, Pairs, Holds}
 use Rattle.promise.proofs.Ledgers.{of-all}
 use Rattle.promise.proofs.Pieces.{enterBy}
 use Rattle.promise.proofs.Runs.{nought, one-cell, all-hi, all-empty, joins, hears, whole, apart}
@@ -70,8 +70,8 @@ unfolding too-long
 too-long-is = length-replicate {A = ℕ} 65536 0
 
 -- every message is that long
-abbrev pub all-too-long : Sent
-all-too-long s k = too-long
+abbrev pub all-too-long : Stays
+all-too-long s t k = too-long
 
 -- the two length bytes alone: the station lands an empty message; an event, and no message of the book
 abbrev pub overlong : List Call
@@ -89,11 +89,11 @@ not-all =
     (cases (allBelow (2 + length too-long) (cover 0 0 0 2 (emptyBook .ledger .covered) 0 0)))
 
 pub record Broken (g : Settings) : Type 0 where
-  pub far : Holds all-hi far (one-cell g) emptyBook → ⊥
-  pub misnumbered : Holds all-hi misnumbered (one-cell g) emptyBook → ⊥
-  pub miscut : Holds all-hi miscut (one-cell g) emptyBook → ⊥
-  pub swapped : Holds all-hi swapped (one-cell g) emptyBook → ⊥
-  pub overlong : Holds all-too-long overlong (one-cell g) emptyBook → ⊥
+  pub far : Holds all-hi 1 far (one-cell g) emptyBook → ⊥
+  pub misnumbered : Holds all-hi 1 misnumbered (one-cell g) emptyBook → ⊥
+  pub miscut : Holds all-hi 1 miscut (one-cell g) emptyBook → ⊥
+  pub swapped : Holds all-hi 1 swapped (one-cell g) emptyBook → ⊥
+  pub overlong : Holds all-too-long 1 overlong (one-cell g) emptyBook → ⊥
 
 pub broken : (g : Settings) → Broken g
 unfolding Holds step result admitOf admitRefusal newStation seatOf findCall first lowestFree hasBit withBit leadsTo unpacked digit char trimStart trimEnd receiveOf receiveRefusal parse headOk framesOf itemAt frameOf payload unpack payloadOk wordOk pack framesWords ncsRx readFrames frameStep readFrame pieceFrame replyEnd isMember accept widened widenedAt ownCell putOf cells.accept settle grow seek next slideOf stop eventsIn bookFrames bookFrame cover alsoHanded allBelow readRefusal cellRefusal readingOf
@@ -101,10 +101,10 @@ broken g =
     record {
       far = λ h. h .1 .0 .pairs;
       misnumbered = λ h. let z : _≡_ {A = ℕ} 0 1 = h .1 .0 .pairs .1 in omega arith;
-      miscut = λ h. let z : _≡_ {A = ℕ} 104 105 = ap (λ (l : List ℕ). getD l 1 0) (h .1 .1 .0 (omega arith) .1) in omega arith;
-      swapped = λ h. let z : _≡_ {A = ℕ} 120 104 = ap (λ (l : List ℕ). getD l 0 0) (h .1 .1 .1 .0 (omega arith) .1) in omega arith;
+      miscut = λ h. let z : _≡_ {A = ℕ} 104 105 = ap (λ (l : List ℕ). getD l 1 0) (h .1 .1 .0 .1 (omega arith) .1) in omega arith;
+      swapped = λ h. let z : _≡_ {A = ℕ} 120 104 = ap (λ (l : List ℕ). getD l 0 0) (h .1 .1 .1 .0 .1 (omega arith) .1) in omega arith;
       overlong = λ h.
-          subst (λ (t : Bool). Pairs (record { slot = 0; cell = 0; number = 0 } ∷ []) (enterBy t 0 0 (emptyBook .ledger) (cover 0 0 0 2 (emptyBook .ledger .covered)) .out ++ []) (λ c. none))
+          subst (λ (t : Bool). Pairs 1 (record { slot = 0; cell = 0; number = 0 } ∷ []) (enterBy t 0 0 (emptyBook .ledger) (cover 0 0 0 2 (emptyBook .ledger .covered)) .out ++ []) (λ c. none))
           not-all (h .1 .0 .pairs);
     }
 
@@ -121,10 +121,11 @@ old-book =
     record {
       ledger = record { covered = λ s k i. eqb s 0 && ltb k 129 && ltb i 2; handed = λ s k. eqb s 0 && ltb k 129 };
       entry = λ c. none;
+      stay = λ s. 0;
     }
 
 -- number 0 is read as 256, which lands: an event, and no message
-pub too-old : (g : Settings) → Holds all-empty (hears (whole 0 ∷ []) (0 ∷ []) ∷ []) (old g) old-book → ⊥
+pub too-old : (g : Settings) → Holds all-empty 1 (hears (whole 0 ∷ []) (0 ∷ []) ∷ []) (old g) old-book → ⊥
 unfolding Holds result newStation first lowestFree hasBit withBit receiveOf receiveRefusal parse headOk framesOf itemAt frameOf payload unpack payloadOk wordOk pack framesWords ncsRx readFrames frameStep readFrame pieceFrame replyEnd isMember accept widened widenedAt ownCell putOf cells.accept settle grow seek next slideOf markOf stop eventsIn bookFrames bookFrame cover alsoHanded allBelow
 too-old g h = h .0 .pairs
 
@@ -139,12 +140,12 @@ pub record Within (under over : ℕ) (M : Sent) (l : Ledger) (s k field : ℕ) (
 
 -- as the premises have it: 128 below and 127 above. One more is too much, on either side
 pub record Otherwise : Type 0 where
-  pub far : Within 128 128 all-hi (emptyBook .ledger) 0 128 (128 * 65536) (framed (104 ∷ 105 ∷ []))
-  pub old : Within 129 127 all-empty (old-book .ledger) 0 0 0 (framed [])
-  pub misnumbered : Within 128 127 all-hi (emptyBook .ledger) 0 1 65536 (framed (104 ∷ 105 ∷ []))
+  pub far : Within 128 128 (sentNow all-hi emptyBook) (emptyBook .ledger) 0 128 (128 * 65536) (framed (104 ∷ 105 ∷ []))
+  pub old : Within 129 127 (sentNow all-empty old-book) (old-book .ledger) 0 0 0 (framed [])
+  pub misnumbered : Within 128 127 (sentNow all-hi emptyBook) (emptyBook .ledger) 0 1 65536 (framed (104 ∷ 105 ∷ []))
   pub miscut : Within 128 127 (λ s k. 104 ∷ 104 ∷ []) (emptyBook .ledger) 0 0 0 (framed (104 ∷ 104 ∷ []))
-  pub swapped : Within 128 127 all-hi (emptyBook .ledger) 0 0 0 (2 ∷ 0 ∷ 104 ∷ []) × Within 128 127 all-hi (emptyBook .ledger) 0 0 3 (105 ∷ [])
-  pub overlong : Within 128 127 all-too-long (emptyBook .ledger) 0 0 0 (0 ∷ 0 ∷ [])
+  pub swapped : Within 128 127 (sentNow all-hi emptyBook) (emptyBook .ledger) 0 0 0 (2 ∷ 0 ∷ 104 ∷ []) × Within 128 127 (sentNow all-hi emptyBook) (emptyBook .ledger) 0 0 3 (105 ∷ [])
+  pub overlong : Within 128 127 (sentNow all-too-long emptyBook) (emptyBook .ledger) 0 0 0 (0 ∷ 0 ∷ [])
 
 -- nothing is handed over, so 0 is the lowest
 none-yet : (k over : ℕ) → k ≤ over → (n : ℕ) → Lowest (emptyBook .ledger) 0 n → (n ≤ k + 128) × (k ≤ n + over)

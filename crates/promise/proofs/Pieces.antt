@@ -53,6 +53,7 @@ pub record Lands (M : Sent) (l : Ledger) (v : View) (l′ : Ledger) (x : Event2)
   pub handed : l′ .handed ≡ alsoHanded (m .slot) (m .number) (l .handed)
   pub slot : x .slot ≡ m .slot
   pub number : x .number ≡ m .number % 256
+  pub below : x .cell < v .table .count
   pub bare : e (x .cell) ≡ none
   pub new : l .handed (m .slot) (m .number) ≡ false
   pub near : (y : ℕ) → l .handed (m .slot) y ≡ false → m .number ≤ y + 127
@@ -383,6 +384,7 @@ module _ (M : Sent) (small : (s k : ℕ) → length (M s k) ≤ 2046) (v : View)
               handed = refl;
               slot = refl;
               number = refl;
+              below = m .below;
               bare = tie .entries c ∙ m .unlanded;
               new = hand;
               near = near-all;

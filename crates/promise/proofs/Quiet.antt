@@ -40,6 +40,10 @@ Keeps s r = Kept s (tableOf r) (r .used) (r .members)
 pub kept-self : (s : Station) → Keeps s s
 kept-self s = record { table = refl; long = refl; windows = λ i. refl }
 
+-- and as many cells
+pub kept-count : {s : Station} {t : Table} {used : ℕ} {ms : List Member} → Kept s t used ms → t .count ≡ s .count
+kept-count k = ap (λ (t : Table). t .count) (k .table)
+
 pub set-up : (ms : List Member) (j : ℕ) (m : Member) (n : ℕ) → m .up ≡ getD ms j noMember .up → getD (set ms j m) n noMember .up ≡ getD ms n noMember .up
 set-up [] j m n q = refl
 set-up (x ∷ ms) zero m zero q = q

@@ -4,7 +4,7 @@ use mathlib.Core.Bool.{Bool, true, false, not, cond, _&&_}
 use mathlib.Core.Option.{Option, none, some}
 use mathlib.Core.List.{List, [], _∷_, _++_}
 use mathlib.Core.Logic.{⊎-elim}
-use Prim.Native.Nat.{ℕ, _+_, _/_, _%_, _≤_, _<_}
+use Prim.Native.Nat.{ℕ, _/_, _%_, _≤_, _<_}
 use native.Mathlib.Omega.{arith}
 use lib.ListN.{length, getD, set, length-set}
 use lib.Seq.{getD-set-same, getD-set-other}
@@ -18,7 +18,8 @@ use Rattle.words.specs.Words.{Heard, lost, heard}
 use Rattle.out.specs.Encode.{eventWord, messageWord}
 use Rattle.stream.specs.declared.window.Window.{Window}
 use Rattle.stream.specs.Window.{landOf, freshOf}
-use Rattle.stream.specs.Table.{Accepted, accept, hasLanded}
+use Rattle.stream.specs.Table.{Table, Accepted, accept, hasLanded}
+use Rattle.stream.proofs.Accepts.{accept-cases}
 use Rattle.roster.specs.declared.Member.{Member}
 use Rattle.roster.specs.Members.{noMember, landedOne}
 use Rattle.net.specs.declared.Station.{Station}
@@ -34,6 +35,9 @@ use Rattle.promise.proofs.Ties.{View, Tie}
 use Rattle.promise.proofs.Pieces.{alsoOne, Joint, windowsAfter, viewAfter, eventFor, Good, piece-good}
 use Rattle.promise.proofs.Quiet.{windowIn, windowAt, Keeps, kept-self, viewOf, view-is, kept-view}
 use Rattle.promise.proofs.Events.{events-none, events-append, relayed-word, message-word}
+use Rattle.promise.proofs.Signs.{sign-beside, cleared}
+use Rattle.promise.proofs.Walk.{Change, others, turned, over, hears, written, counted, promoted, moved, entered, piece, landed, freed, signsOff, Chain, chain-keeps}
+use Rattle.promise.proofs.WalkCalls.{all}
 use Rattle.promise.proofs.QuietRx.{Untouched, untouched, control-untouched}
 
 -- ---- the station after a kept piece
@@ -99,26 +103,24 @@ relay-kept : (b : Bool) (s₀ s : Station) → Keeps s₀ s → Keeps s₀ (rela
 relay-kept true s₀ s k = k
 relay-kept false s₀ s k = k
 
-module _ (a : Air) (slot : ℕ) (r : Accepted) (x : Reading) (here : isMember (x .station .used) slot ≡ true) (long : length (x .station .members) ≡ 62) where
-  base : Station
+module _ (a : Air) (slot : ℕ) (r : Accepted) (x : Reading) where
+  abbrev base : Station
   base = withMember (withTable (x .station) (r .table)) slot (pieceMember a (memberAt (x .station) slot) slot r)
 
   base-kept : Keeps base (keptPiece a slot r x .station)
-  unfolding base
   base-kept = relay-kept (isRelayed a (x .station) slot r) base _ (traffic-kept (hasLanded (r .landed)) base _ (kept-self base))
 
-  pub piece-view : viewOf (keptPiece a slot r x .station) (r .store) ≡ viewAfter (viewOf (x .station) (x .store)) slot r
-  unfolding base
-  piece-view =
-      kept-view base (keptPiece a slot r x .station) (r .store) base-kept
-      ∙ view-is (tableOf base) (r .table) (r .store) (r .store) (windowAt base) (windowsAfter (windowAt (x .station)) slot (hasLanded (r .landed)) (r .number))
-      refl refl
-      (windows-after (x .station .used) (x .station .members) slot (pieceMember a (memberAt (x .station) slot) slot r) (hasLanded (r .landed)) (r .number) here long
-      (piece-up a (memberAt (x .station) slot) slot r))
+  module _ (here : isMember (x .station .used) slot ≡ true) (long : length (x .station .members) ≡ 62) where
+    pub piece-view : viewOf (keptPiece a slot r x .station) (r .store) ≡ viewAfter (viewOf (x .station) (x .store)) slot r
+    piece-view =
+        kept-view base (keptPiece a slot r x .station) (r .store) base-kept
+        ∙ view-is (tableOf base) (r .table) (r .store) (r .store) (windowAt base) (windowsAfter (windowAt (x .station)) slot (hasLanded (r .landed)) (r .number))
+        refl refl
+        (windows-after (x .station .used) (x .station .members) slot (pieceMember a (memberAt (x .station) slot) slot r) (hasLanded (r .landed)) (r .number) here long
+        (piece-up a (memberAt (x .station) slot) slot r))
 
-  pub piece-long : length (keptPiece a slot r x .station .members) ≡ 62
-  unfolding base
-  piece-long = base-kept .long ∙ length-set (x .station .members) (indexOf slot) _ ∙ long
+    pub piece-long : length (keptPiece a slot r x .station .members) ≡ 62
+    piece-long = base-kept .long ∙ length-set (x .station .members) (indexOf slot) _ ∙ long
 
 -- its events
 pub piece-events : (a : Air) (s : Station) (slot : ℕ) (r : Accepted) → slot < 64 → (hasLanded (r .landed) ≡ true → r .cell < 64)
@@ -256,7 +258,7 @@ module _ (M : Sent) (small : (s k : ℕ) → length (M s k) ≤ 2046) (a : Air) 
         at true h = up-read flags field p (λ m. ok (ap (λ (t : Bool). t && member) h ∙ m))
         at false h = quiet-read _ (cond-keeps (Untouched x) (eqb (flags / 64) tCtrl) _ x (λ _. control-read (flags % 64) p) (λ _. untouched x))
 
--- ---- the running values: frame, members seen, and the marks of the other frames
+-- ---- the running values: frame, members seen, and the marks of the other frames; and how many cells there are
 
 pub record Runs (x y : Reading) : Type 0 where
   pub frame : y .frame ≡ x .frame
@@ -280,3 +282,27 @@ frame-runs a (heard flags field p) x =
     (λ _. untouched-runs x _
     (cond-keeps (Untouched x) (eqb (length p) 0) x _ (λ _. untouched x) (λ _. control-untouched a (flags % 64) (getD p 0 0) (length p) p x)))
     (λ _. untouched-runs x x (untouched x)))
+
+-- ---- the cells stay as many as they were
+
+accept-count : (t : Table) (w : Window) (store : List ℕ) (slot field : ℕ) (p : List ℕ) → accept t w store slot field p .table .count ≡ t .count
+accept-count t w store slot field p =
+    accept-cases t w store slot field p (λ (y : Accepted). y .table .count ≡ t .count) (λ e. refl) (λ k e h. refl) (λ k o b q c. refl) (λ k o q. refl)
+
+count-kept : (n : ℕ) (s t : Station) → Change all s t → s .count ≡ n → t .count ≡ n
+count-kept n s t (others r m e k q) h = h
+count-kept n s t (turned a w r m y k q) h = h
+count-kept n s t (over a r e here) h = h
+count-kept n s t (hears r c q l e) h = h
+count-kept n s t (written i m l here f) h = h
+count-kept n s t (counted i m k l here f) h = h
+count-kept n s t (promoted i snr l here d) h = h
+count-kept n s t (moved c r l here there able z) h = h
+count-kept n s t (entered i call v now l free r) h = h
+count-kept n s t (piece a store slot field p m here f l d) h = accept-count (tableOf s) (memberAt s slot .up) store slot field p ∙ h
+count-kept n s t (landed a store slot field p m here f l d) h = accept-count (tableOf s) (memberAt s slot .up) store slot field p ∙ h
+count-kept n s t (freed a cell) h = h
+count-kept n s t (signsOff a b slot here) h = ap (λ (x : Table). x .count) (sign-beside s slot .table) ∙ cleared slot (tableOf s) .count ∙ h
+
+pub chain-count : {s t : Station} → Chain all s t → t .count ≡ s .count
+chain-count {s} c = chain-keeps (λ (t : Station). t .count ≡ s .count) (count-kept (s .count)) c refl

@@ -19,7 +19,10 @@ use Rattle.promise.proofs.Ties.{View, Tie}
 use Rattle.promise.proofs.Pieces.{alsoOne, Joint}
 use Rattle.promise.proofs.Quiet.{viewOf}
 use Rattle.promise.proofs.QuietRx.{untouched}
-use Rattle.promise.proofs.Readings.{Read, frame-runs, frame-read}
+use Rattle.promise.proofs.Readings.{Read, frame-runs, frame-read, chain-count}
+use Rattle.promise.proofs.Walk.{start}
+use Rattle.promise.proofs.WalkRx.{frames-walk}
+use Rattle.promise.proofs.WalkCalls.{all}
 
 -- ---- the messages handed over, in order
 
@@ -31,9 +34,9 @@ pub once-append : (ms xs : List Message) (f : ℕ → ℕ → Bool) → Once ms 
 once-append [] xs f o p = p
 once-append (m ∷ ms) xs f o p = (o .0, once-append ms xs (alsoHanded (m .slot) (m .number) f) (o .1) p)
 
-pub record Received (M : Sent) (es : List Event2) (ms : List Message) (v : View) (l : Ledger) (f : ℕ → ℕ → Bool) (e : ℕ → Option Message) : Type 0 where
+pub record Received (M : Sent) (count : ℕ) (es : List Event2) (ms : List Message) (v : View) (l : Ledger) (f : ℕ → ℕ → Bool) (e : ℕ → Option Message) : Type 0 where
   pub tie : Tie M v l (enterAll es ms e)
-  pub pairs : Pairs es ms e
+  pub pairs : Pairs count es ms e
   pub rising : Rising ms
   pub once : Once ms f
   pub after : l .handed ≡ allHanded ms f
@@ -73,10 +76,10 @@ joint-tie M l e (some x) (m ∷ n ∷ ms) v l′ j = absurd j
 
 combine : (M : Sent) (l : Ledger) (e : ℕ → Option Message) (x : Option Event2) (n : List Message) (v₁ : View) (l₁ : Ledger)
     → Joint M l v₁ l₁ x n e → (es : List Event2) (ms : List Message) (v₂ : View) (l₂ : Ledger)
-    → Received M es ms v₂ l₂ (l₁ .handed) (entryAfter x n e)
-    → Received M (alsoOne x es) (n ++ ms) v₂ l₂ (l .handed) e
+    → Received M (v₁ .table .count) es ms v₂ l₂ (l₁ .handed) (entryAfter x n e)
+    → Received M (v₁ .table .count) (alsoOne x es) (n ++ ms) v₂ l₂ (l .handed) e
 combine M l e none [] v₁ l₁ j es ms v₂ l₂ r =
-    subst (λ (f : ℕ → ℕ → Bool). Received M es ms v₂ l₂ f e) (j .handed) r
+    subst (λ (f : ℕ → ℕ → Bool). Received M (v₁ .table .count) es ms v₂ l₂ f e) (j .handed) r
 combine M l e none (m ∷ n) v₁ l₁ j es ms v₂ l₂ r = absurd j
 combine M l e (some v) [] v₁ l₁ j es ms v₂ l₂ r = absurd j
 combine M l e (some v) (m ∷ n ∷ ns) v₁ l₁ j es ms v₂ l₂ r = absurd j
@@ -84,7 +87,7 @@ combine M l e (some v) (m ∷ []) v₁ l₁ j es ms v₂ l₂ x =
     let o : Once ms (alsoHanded (m .slot) (m .number) (l .handed)) = subst (Once ms) (j .handed) (x .once) in
     record {
       tie = x .tie;
-      pairs = (j .slot, j .number, j .bare, x .pairs);
+      pairs = (j .slot, j .number, omega (arith, j .below), j .bare, x .pairs);
       rising = (later-of m ms (alsoHanded (m .slot) (m .number) (l .handed)) o lower, x .rising);
       once = (j .new, o);
       after = x .after ∙ ap (allHanded ms) (j .handed);
@@ -131,6 +134,10 @@ module _ (a : Air) where
   unfolding frameStep
   step-frame f x = ap (λ (n : ℕ). n + 1) (frame-runs a f x .frame)
 
+  step-count : (f : Heard) (x : Reading) → frameStep a f x .station .count ≡ x .station .count
+  unfolding readFrames
+  step-count f x = chain-count (frames-walk all a tt tt (x .station) (f ∷ []) x start)
+
   step-other : (f : Heard) (x : Reading) (j : ℕ) → (j ≡ x .frame → ⊥) → hasBit (frameStep a f x .unkept) j ≡ hasBit (x .unkept) j
   unfolding frameStep
   step-other f x j z = frame-runs a f x .other j z
@@ -167,7 +174,7 @@ module _ (a : Air) where
 pub record Reads (M : Sent) (l : Ledger) (e : ℕ → Option Message) (x y : Reading) (h : Entered Ledger) : Type 0 where
   pub events : List Event2
   pub words : eventsIn (y .words) ≡ eventsIn (x .words) ++ events
-  pub got : Received M events (h .out) (viewOf (y .station) (y .store)) (h .left) (l .handed) e
+  pub got : Received M (x .station .count) events (h .out) (viewOf (y .station) (y .store)) (h .left) (l .handed) e
   pub long : length (y .station .members) ≡ 62
 
 join-one : (x : Option Event2) (es : List Event2) → alsoOne x [] ++ es ≡ alsoOne x es
@@ -223,7 +230,7 @@ module _ (M : Sent) (small : (s k : ℕ) → length (M s k) ≤ 2046) (a : Air) 
       record {
         events = alsoOne (g .event) (z .events);
         words = words-join (eventsIn (x .words)) (g .event) (z .events) (eventsIn (x′ .words)) (eventsIn (y .words)) (z .words) (g .events);
-        got = combine M l e (g .event) (n .out) (viewOf (x′ .station) (x′ .store)) (n .left) (g .joint) (z .events) (h .out)
-            (viewOf (y .station) (y .store)) (h .left) (z .got);
+        got = subst (λ (count : ℕ). Received M count (alsoOne (g .event) (z .events)) (n .out ++ h .out) (viewOf (y .station) (y .store)) (h .left) (l .handed) e) (step-count a f x)
+            (combine M l e (g .event) (n .out) (viewOf (x′ .station) (x′ .store)) (n .left) (g .joint) (z .events) (h .out) (viewOf (y .station) (y .store)) (h .left) (z .got));
         long = z .long;
       }

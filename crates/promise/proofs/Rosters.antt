@@ -1,7 +1,7 @@
 -- The links of a roster through each change that the station makes to it: a member changed but for its relay, one that loses its relay,
 -- one that is moved to a member without a relay, and a newcomer. Assumes nothing.
 use mathlib.Core.Path.{_≡_, refl, sym, ap, _∙_, subst}
-use mathlib.Core.Logic.{_⊎_, inl, inr, ⊎-elim}
+use mathlib.Core.Logic.{_⊎_, inl, inr}
 use Prim.Native.Nat.{ℕ, zero, suc, _<_}
 use native.Mathlib.Omega.{arith}
 use mathlib.Core.Bool.{Bool, true, false, cond, _&&_, _||_}
@@ -11,15 +11,15 @@ use lib.Seq.{getD-set-same, getD-set-other}
 use lib.Dec.{T, eqb, ltb}
 use borrow.Author.Tests.{ne-eqb}
 use Rattle.bits.specs.Mask.{hasBit, withBit}
-use Rattle.bits.proofs.Lists.{eq-or-not}
 use Rattle.bits.proofs.Laws.{has-none, with-same, with-other}
 use Rattle.roster.specs.declared.Member.{Member}
 use Rattle.roster.specs.Members.{noMember}
 use Rattle.net.specs.declared.Station.{Station}
 use Rattle.net.specs.State.{indexOf, memberAt}
 use Rattle.net.specs.Net.{isMember}
-use Rattle.net.proofs.Laws.{index-is, member-lt, member-is, member-has}
+use Rattle.net.proofs.Laws.{index-is, member-lt, member-is}
 use Rattle.promise.specs.Promise.{leads, LinksHold}
+use Rattle.promise.proofs.Walk.{RelayOk}
 use Rattle.promise.proofs.Trees.{Link, absent, root, via, onLink, leadsBy, Real, Tree, NewLink, tree-leads, tree-cut, tree-same, tree-hang, tree-new, tree-none}
 
 -- ---- the invariant
@@ -157,22 +157,6 @@ kept-hang used ms c r m e n h v k =
 
 -- ---- a newcomer
 
--- none, or a member
-abbrev pub RelayOk : ℕ → ℕ → Type 0
-RelayOk used v = (v ≡ 63) ⊎ (isMember used v ≡ true)
-
-pub member-with : (used c i : ℕ) → isMember used i ≡ true → isMember (withBit used c) i ≡ true
-member-with used c i h =
-    let l = member-lt used i h in
-    member-is (withBit used c) i l
-    ∙ ⊎-elim
-    (λ e. rw e (with-same used i (omega arith)))
-    (λ n. with-other used c i n ∙ member-has used i h)
-    (eq-or-not c i)
-
-pub relay-with : (used c v : ℕ) → RelayOk used v → RelayOk (withBit used c) v
-relay-with used c v r = ⊎-elim (λ e. inl e) (λ h. inr (member-with used c v h)) r
-
 pub member-other : (used c i : ℕ) → (i ≡ c → ⊥) → isMember (withBit used c) i ≡ isMember used i
 unfolding isMember
 member-other used c i n = rw (with-other used c i (λ e. n (sym e)))
@@ -181,10 +165,9 @@ new-link : (used : ℕ) (ms : List Member) (v : ℕ) → RelayOk used v → NewL
 new-link used ms v (inl e) = rw e tt
 new-link used ms v (inr h) = rw (via-is v (member-lt used v h)) (member-lt used v h, real-member used ms v h)
 
--- the newcomer at index c
-new-at : (used : ℕ) (ms : List Member) (c : ℕ) (m : Member) → c < 62 → hasBit used c ≡ false → RelayOk used (m .via) → Kept used ms
+pub kept-new : (used : ℕ) (ms : List Member) (c : ℕ) (m : Member) → c < 62 → hasBit used c ≡ false → RelayOk used (m .via) → Kept used ms
     → Kept (withBit used c) (set ms c m)
-new-at used ms c m l f r k =
+kept-new used ms c m l f r k =
     record {
       tree =
           tree-new (linkIn used ms) (linkIn (withBit used c) (set ms c m)) c l
@@ -211,8 +194,3 @@ new-at used ms c m l f r k =
     other i n =
         ap (λ (b : Bool). cond b (linkVia (getD (set ms c m) (indexOf i) noMember .via)) absent) (member-other used c i n)
         ∙ by i n (isMember used i) refl
-
-pub kept-new : (used : ℕ) (ms : List Member) (slot : ℕ) (m : Member) → slot < 62 → hasBit used slot ≡ false → RelayOk used (m .via) → Kept used ms
-    → Kept (withBit used (indexOf slot)) (set ms (indexOf slot) m)
-kept-new used ms slot m l f r k =
-    subst (λ (c : ℕ). Kept (withBit used c) (set ms c m)) (sym (index-is slot l)) (new-at used ms slot m l f r k)

@@ -32,7 +32,7 @@ use Rattle.rx.specs.Reception.{ncsRx}
 use Rattle.config.specs.declared.Given.{Given}
 use Rattle.config.specs.Checks.{settingsOk, settingsOf, thresholdsOk}
 use Rattle.station.specs.Entries.{unless, done, startRefusal, startOf, admitRefusal, admitOf, receiveRefusal, receiveOf, nextRefusal, nextOf, cellRefusal, readRefusal, readingOf, freeOf}
-use Rattle.promise.specs.Promise.{handed, Net, net, Call, admission, reception, decision, reading, freeing, result, outcome, step, after, started, Sent, emptyBook, cover, alsoHanded, allBelow, bookFrame, bookFrames, eventsIn, answersOf, CallsOk, handedIn, Messages}
+use Rattle.promise.specs.Promise.{handed, Net, net, Call, admission, reception, decision, reading, freeing, result, outcome, step, after, started, Stays, emptyBook, cover, alsoHanded, allBelow, bookFrame, bookFrames, eventsIn, answersOf, CallsOk, handedIn, Messages}
 use Rattle.promise.proofs.Item3.{item-3}
 
 -- ---- a start
@@ -72,8 +72,8 @@ starts s g store e =
 -- ---- a message handed over, and read back
 
 -- every message is "hi"
-abbrev pub all-hi : Sent
-all-hi s k = 104 ∷ 105 ∷ []
+abbrev pub all-hi : Stays
+all-hi s t k = 104 ∷ 105 ∷ []
 
 -- boat A is admitted
 abbrev pub joins : Call
@@ -105,7 +105,7 @@ pub record HiRun (g : Settings) : Type 0 where
   pub unbooked : handedIn all-hi (hi ∷ []) (one-cell g) emptyBook ≡ []
   pub member : step joins (one-cell g) .station .used ≡ 1
   pub answers : answersOf hi (step joins (one-cell g)) ≡ record { refused = false; seen = 1 ∷ []; mask = 0; events = record { slot = 0; cell = 0; number = 0 } ∷ [] }
-  pub book : handedIn all-hi hi-calls (one-cell g) emptyBook ≡ record { slot = 0; number = 0 } ∷ []
+  pub book : handedIn all-hi hi-calls (one-cell g) emptyBook ≡ record { slot = 0; stay = 0; number = 0 } ∷ []
   pub read : readingOf (after (joins ∷ hi ∷ refused ∷ []) (one-cell g) .station) (after (joins ∷ hi ∷ refused ∷ []) (one-cell g) .store) 0 ≡ 104 ∷ 105 ∷ []
   pub freed : outcome (reading 0 handed) (after (joins ∷ hi ∷ freeing 0 ∷ []) (one-cell g)) .refusal ≡ 22
 
@@ -140,7 +140,7 @@ hi-ok g = (
 -- and so does what item 3 promises, from any start that is not refused
 pub hi-promised : (s : Station) (g : Given) → startRefusal g 6400 ≡ 0 → Messages all-hi (started s g bytes) hi-calls
 hi-promised s g e =
-    item-3 s g bytes e hi-calls .messages all-hi (λ t k. omega arith) (subst (λ (n : Net). CallsOk all-hi hi-calls n emptyBook) (starts s g bytes e) (hi-ok (settingsOf g)))
+    item-3 s g bytes e hi-calls .messages all-hi (λ s t k. omega arith) (subst (λ (n : Net). CallsOk all-hi hi-calls n emptyBook) (starts s g bytes e) (hi-ok (settingsOf g)))
 
 -- ---- the same in pieces
 
@@ -169,7 +169,7 @@ pub record PieceRun (g : Settings) : Type 0 where
       ≡ record { refused = false; seen = 1 ∷ 1 ∷ 1 ∷ 1 ∷ 1 ∷ []; mask = 16; events = record { slot = 0; cell = 0; number = 0 } ∷ [] }
   pub freed : answersOf again (after (joins ∷ pieces ∷ freeing 0 ∷ []) (one-cell g))
       ≡ record { refused = false; seen = 1 ∷ []; mask = 0; events = record { slot = 0; cell = 0; number = 1 } ∷ [] }
-  pub book : handedIn all-hi piece-calls (one-cell g) emptyBook ≡ record { slot = 0; number = 0 } ∷ record { slot = 0; number = 1 } ∷ []
+  pub book : handedIn all-hi piece-calls (one-cell g) emptyBook ≡ record { slot = 0; stay = 0; number = 0 } ∷ record { slot = 0; stay = 0; number = 1 } ∷ []
   pub read : readingOf (after piece-calls (one-cell g) .station) (after piece-calls (one-cell g) .store) 0 ≡ 104 ∷ 105 ∷ []
 
 pub piece-run : (g : Settings) → PieceRun g
@@ -221,13 +221,13 @@ piece-ok g = (
 
 pub piece-promised : (s : Station) (g : Given) → startRefusal g 6400 ≡ 0 → Messages all-hi (started s g bytes) piece-calls
 piece-promised s g e =
-    item-3 s g bytes e piece-calls .messages all-hi (λ t k. omega arith) (subst (λ (n : Net). CallsOk all-hi piece-calls n emptyBook) (starts s g bytes e) (piece-ok (settingsOf g)))
+    item-3 s g bytes e piece-calls .messages all-hi (λ s t k. omega arith) (subst (λ (n : Net). CallsOk all-hi piece-calls n emptyBook) (starts s g bytes e) (piece-ok (settingsOf g)))
 
 -- ---- short messages, for longer runs
 
 -- every message is empty
-abbrev pub all-empty : Sent
-all-empty s k = []
+abbrev pub all-empty : Stays
+all-empty s t k = []
 
 -- number k of slot 0, whole, in one frame
 abbrev pub whole : ℕ → Heard

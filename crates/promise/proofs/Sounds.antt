@@ -3,7 +3,7 @@ use mathlib.Core.Path.{_≡_, refl, sym, ap, _∙_, subst}
 use mathlib.Core.Bool.{Bool, true, false, cond, _&&_}
 use mathlib.Core.List.{List, [], _∷_}
 use mathlib.Core.Logic.{⊎-elim}
-use Prim.Native.Nat.{ℕ, _*_, _/_, _%_, _≤_}
+use Prim.Native.Nat.{ℕ, _*_, _/_, _%_, _≤_, _<_}
 use native.Mathlib.Omega.{arith}
 use lib.ListN.{length}
 use lib.Dec.{eqb, ltb}
@@ -19,7 +19,7 @@ use Rattle.stream.specs.declared.window.Window.{Window}
 use Rattle.stream.specs.Window.{landOf, freshOf}
 use Rattle.stream.specs.Table.{Table, Accepted, accept, hasLanded}
 use Rattle.stream.proofs.Tables.{Tidy, freed-tidy}
-use Rattle.stream.proofs.Windows.{Sound}
+use Rattle.stream.proofs.Windows.{Sound, sound-fresh}
 use Rattle.stream.proofs.Accepts.{accept-cases, accept-tidy, accept-window}
 use Rattle.net.specs.declared.Station.{Station}
 use Rattle.net.specs.State.{memberAt, tableOf, withWait}
@@ -32,7 +32,11 @@ use Rattle.rx.specs.Ending.{busyWait, idleEnd, replyEnd, nothingMore, Ended}
 use Rattle.rx.specs.Reception.{Received, airOf, firstReading, receivedOf, ncsRx}
 use Rattle.config.specs.declared.Given.{Given}
 use Rattle.station.specs.Entries.{Outcome, receiveBy, receiveRefusal, check1, check2, check3, receiveOf, startRefusal, cellRefusal, freeOf}
-use Rattle.promise.specs.Promise.{Lent, lentTo, Net, net, Call, admission, reception, decision, sending, closing, reading, freeing, charging, result, outcome, isRefused, step, after, started}
+use Rattle.promise.specs.Promise.{Lent, lentTo, Net, net, Call, admission, reception, decision, sending, closing, reading, freeing, charging, signing, result, outcome, isRefused, step, after, started}
+use Rattle.station.specs.SignOff.{signOff, signOffRefusal, signOffOf}
+use Rattle.net.proofs.Laws.{member-lt}
+use Rattle.promise.proofs.Signs.{sign-member, signed, cleared-tidy}
+use Rattle.promise.proofs.SignTies.{window-gone, window-still}
 use Rattle.promise.proofs.Ties.{View}
 use Rattle.promise.proofs.Pieces.{windowsAfter}
 use Rattle.promise.proofs.Quiet.{windowAt, Keeps, kept-self, viewOf, kept-view}
@@ -178,9 +182,9 @@ rx-fit s u snr now store k f =
     cond-keeps FitReceived (eqb (u .head .code) tiny) _ _
     (λ _. end-fit x (cond (eqb (u .head .hi) kIdle) (idleEnd a (u .head .extra) (x .station)) (nothingMore (x .station))) g
     (cond-keeps (QuietEnd (x .station)) (eqb (u .head .hi) kIdle) _ _
-    (λ _. idle-kept (x .station) a (u .head .extra) (x .station) (kept-self (x .station)))
+    (λ _. idle-kept a (u .head .extra) (x .station))
     (λ _. (kept-self (x .station), events-none))))
-    (λ _. end-fit y (replyEnd a (u .head) y) (frames-fit a (u .frames) x k g) (reply-kept (y .station) a (u .head) y (kept-self (y .station))))
+    (λ _. end-fit y (replyEnd a (u .head) y) (frames-fit a (u .frames) x k g) (reply-kept a (u .head) y))
 
 module _ (n : Net) (words : List ℕ) (snr now : Float) (st : List ℕ) (room : ℕ) (f : Fit n) where
   abbrev FitOutcome : Outcome → Type 0
@@ -237,6 +241,29 @@ freeing-fit cell n f =
     subst (λ (store : List ℕ). Fit (net (freeOf (n .station) cell .station) store)) (sym (same-cond (isRefused (freeing cell) n) (n .store) (n .store) refl))
     (free-fit (n .station) (n .store) cell (record { view = f .view; long = f .long }))
 
+sign-fit : (s : Station) (store : List ℕ) (slot : ℕ) → Fit (net s store) → Fit (net (signOffOf s slot .station) store)
+unfolding signOffOf
+sign-fit s store slot f =
+    cond-keeps (λ (o : Outcome). Fit (net (o .station) store)) (eqb (signOffRefusal (s .used) slot) 0) _ _ (λ q. by (member-lt (s .used) slot (sign-member (s .used) slot (eqb-true _ 0 q)))) (λ _. f)
+  where
+    by : slot < 62 → Fit (net (signOff s slot) store)
+    by low =
+        let d = signed slot s low (f .long) in
+        record {
+          view = record {
+            tidy = subst (λ (t : Table). Tidy t store) (sym (d .table)) (cleared-tidy slot (tableOf s) store (f .view .tidy));
+            sound = λ i. ⊎-elim (λ e. subst (λ (y : ℕ). Sound (windowAt (signOff s slot) y)) (sym e) (subst Sound (sym (window-gone slot s low (f .long))) sound-fresh))
+                (λ z. subst Sound (sym (window-still slot s low (f .long) i z)) (f .view .sound i)) (eq-or-not i slot);
+          };
+          long = d .long;
+        }
+
+signing-fit : (slot : ℕ) (n : Net) → Fit n → Fit (step (signing slot) n)
+unfolding step result
+signing-fit slot n f =
+    subst (λ (store : List ℕ). Fit (net (signOffOf (n .station) slot .station) store)) (sym (same-cond (isRefused (signing slot) n) (n .store) (n .store) refl))
+    (sign-fit (n .station) (n .store) slot (record { view = f .view; long = f .long }))
+
 reception-fit : (words : List ℕ) (snr now : Float) (lent : Lent) (room : ℕ) (numbers : List ℕ) (n : Net) → Fit n → Fit (step (reception words snr now lent room numbers) n)
 unfolding step result
 reception-fit words snr now lent room numbers n f = receive-fit n words snr now (lentTo lent (n .store)) room f
@@ -252,6 +279,7 @@ step-fit (closing count) n f = quiet-fit (closing count) n f (closing-kept (n .s
 step-fit (reading cell lent) n f = quiet-fit (reading cell lent) n f (reading-kept cell lent n) refl
 step-fit (freeing cell) n f = freeing-fit cell n f
 step-fit (charging figures) n f = quiet-fit (charging figures) n f (charging-kept figures n) refl
+step-fit (signing slot) n f = signing-fit slot n f
 
 pub after-fit : (cs : List Call) (n : Net) → Fit n → Fit (after cs n)
 unfolding after

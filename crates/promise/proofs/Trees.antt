@@ -274,6 +274,33 @@ tree-new f f′ c b e n h t =
     rel : (x q : ℕ) → f′ x ≡ via q → Real (f′ q)
     rel x q p = same? q c (λ z. absurd (subst Real (ap f z ∙ e) (old x q p))) (λ z. rw (h q z) (old x q p))
 
+-- a member goes: those that it relayed for have no relay any more
+pub tree-gone : (f f′ : ℕ → Link) (c : ℕ) → f′ c ≡ absent → ((i : ℕ) → (i ≡ c → ⊥) → ((f′ i ≡ f i) × (f i ≡ via c → ⊥)) ⊎ (f′ i ≡ root)) → Tree f → Tree f′
+tree-gone f f′ c e h t =
+    record { order = t .order; short = t .short; all = t .all; good = good-gone (t .order) (t .good); members = λ x q p. rel x q p }
+  where
+    good-gone : (l : List ℕ) → Good f l → Good f′ l
+    good-gone [] g = tt
+    good-gone (x ∷ l) g = (same? x c (λ z. rw z (rw e tt)) (λ z. step (h x z)), good-gone l (g .1))
+      where
+        step : ((f′ x ≡ f x) × (f x ≡ via c → ⊥)) ⊎ (f′ x ≡ root) → Ok (f′ x) l
+        step (inl p) = rw (p .0) (g .0)
+        step (inr p) = rw p tt
+
+    back : (q : ℕ) → ((f′ q ≡ f q) × (f q ≡ via c → ⊥)) ⊎ (f′ q ≡ root) → Real (f q) → Real (f′ q)
+    back q (inl p) r = real-at (p .0) r
+    back q (inr p) r = real-at p tt
+
+    from : (x q : ℕ) → f′ x ≡ via q → ((f′ x ≡ f x) × (f x ≡ via c → ⊥)) ⊎ (f′ x ≡ root) → Real (f′ q)
+    from x q p (inl u) =
+        let w : f x ≡ via q = sym (u .0) ∙ p in
+        back q (h q (λ z. u .1 (w ∙ ap via z))) (t .members x q w)
+    from x q p (inr u) = let z : _≡_ {A = ℕ} 0 1 = cc in absurd (omega arith)
+
+    rel : (x q : ℕ) → f′ x ≡ via q → Real (f′ q)
+    rel x q p =
+        same? x c (λ z. let u : absent ≡ via q = sym e ∙ ap f′ (sym z) ∙ p in let w : _≡_ {A = ℕ} 0 1 = cc in absurd (omega arith)) (λ z. from x q p (h x z))
+
 -- ---- no members
 
 below : ℕ → List ℕ

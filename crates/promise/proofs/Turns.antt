@@ -7,6 +7,8 @@ use mathlib.Core.Option.{none}
 use lib.Dec.{eqb}
 use lib.Ieee.{Float}
 use lib.ListN.{length}
+use Rattle.bits.specs.Mask.{withoutBit}
+use Rattle.bits.proofs.Lists.{same-test, cond-keeps}
 use Rattle.wire.specs.Call.{unpackCall}
 use Rattle.words.specs.Words.{Burst, Parsed, malformed, parsed, parse}
 use Rattle.config.specs.declared.Given.{Given}
@@ -17,18 +19,21 @@ use Rattle.net.specs.declared.Settings.{Settings}
 use Rattle.net.specs.declared.Turn.{Turn}
 use Rattle.net.specs.declared.Turn.the-variants.{Idle, Sending, Waiting}
 use Rattle.net.specs.declared.Wait.{Wait}
+use Rattle.net.specs.declared.Round.{Round}
 use Rattle.net.specs.State.{withRound, withClosing, withTable, tableOf}
-use Rattle.net.specs.Net.{newStation, doneBy, onTxDone}
+use Rattle.net.specs.Net.{newStation, idleWait, waitOf, doneBy, onTxDone}
 use Rattle.roster.specs.declared.Member.{Member}
 use Rattle.admit.specs.Admission.{seatOf, isFull, viaFor}
 use Rattle.next.specs.Next.{ncsNext}
 use Rattle.rx.specs.Reception.{ncsRx}
 use Rattle.station.specs.Entries.{Outcome, refused, done, unless, startRefusal, startOf, admitted, admitOf, receiveBy, receiveRefusal, receiveOf, nextOf, sentOf, closeOf, freeOf, readRefusal, check1, admitRefusal, nextRefusal, closeRefusal, cellRefusal}
+use Rattle.station.specs.SignOff.{noSource, strikeBy, signOff, signOffRefusal, signOffOf}
 use Rattle.dues.specs.Dues.{duesRefusal}
-use Rattle.promise.specs.Promise.{lentTo, Net, ofBurst, Call, admission, reception, decision, sending, closing, reading, freeing, charging, result, outcome, step, started, TurnEvent, overIf, drewIf, burstsIn, turnEvents, trace, emptyView, TurnsHold}
-use Rattle.promise.proofs.Monitor.{Run, rest, turn, Acc, accepted}
+use Rattle.promise.specs.Promise.{lentTo, Net, ofBurst, Call, admission, reception, decision, sending, closing, reading, freeing, charging, signing, result, outcome, step, started, TurnEvent, struck, overIf, drewIf, burstsIn, turnEvents, trace, emptyView, TurnsHold}
+use Rattle.promise.proofs.Monitor.{Run, rest, turn, runWithout, Acc, accepted}
 use Rattle.promise.proofs.TurnsWords.{Quiet, quiet-none}
-use Rattle.promise.proofs.TurnsLists.{slotsIn, Low, low-none, list-none}
+use Rattle.promise.proofs.TurnsLists.{slotsIn, Low, low-none, low-without, list-none, list-struck}
+use Rattle.promise.proofs.Signs.{sign-beside}
 use Rattle.promise.proofs.TurnsKeeps.{admit-calm}
 use Rattle.promise.proofs.TurnsNext.{Rel, Fine, fine-none, fine-next}
 use Rattle.promise.proofs.TurnsRx as rx
@@ -60,6 +65,19 @@ done-turn Idle v g here m t r q e = subst (Rel r) (sym q) e
 done-turn Sending v g here m t rest q e = tt
 done-turn Sending v g here m t (turn x p a) q e = absurd e
 done-turn (Waiting p) v g here m t r q e = e
+
+-- a sign-off ends the slot's turn, and any other goes on
+strike-turn : (y : Turn) (v : Wait) (slot : ℕ) (r : Run) → v .turn ≡ y → Rel r y → Rel (runWithout slot r) (strikeBy y slot v .turn)
+strike-turn Idle v slot rest q e = subst (Rel rest) (sym q) e
+strike-turn Idle v slot (turn x p a) q e = absurd e
+strike-turn Sending v slot rest q e = subst (Rel rest) (sym q) e
+strike-turn Sending v slot (turn x p a) q e = absurd e
+strike-turn (Waiting p) v slot rest q e = absurd e
+strike-turn (Waiting p) v slot (turn x n a) q e = rw (same-test slot x (p .slot) slot (λ d. e .0 ∙ sym d) (λ d. sym d ∙ e .0)) (go (eqb (p .slot) slot))
+  where
+    go : (b : Bool) → Rel (cond b rest (turn x n a)) (cond b idleWait (cond (eqb (p .relayfor) slot) (waitOf (Waiting (noSource p)) (v .deadline)) v) .turn)
+    go true = tt
+    go false = cond-keeps (λ (w : Wait). Rel (turn x n a) (w .turn)) (eqb (p .relayfor) slot) (waitOf (Waiting (noSource p)) (v .deadline)) v (λ _. e) (λ _. subst (Rel (turn x n a)) (sym q) e)
 
 regroup : (xs ys zs : List TurnEvent) → xs ++ (ys ++ zs) ≡ (xs ++ ys) ++ (zs ++ [])
 regroup xs ys zs = simp (append-assoc, append-nil)
@@ -126,6 +144,20 @@ module _ (r : Run) (n : Net) (e : Rel r (n .station .wait .turn)) (l : Low (n .s
       let t = withTable s (freedTable (tableOf s) cell) in
       fine-quiet left r (cellRefusal (s .count) (s .landed) cell) s t [] [] [] quiet-none (fine-none r t e l) same
 
+  fine-sign : (slot : ℕ) → Fine left r (signOffOf s slot .station) (said (signOffOf s slot) (struck slot ∷ []) [])
+  unfolding signOffOf burstsIn
+  fine-sign slot =
+      let t = signOff s slot in
+      let b = sign-beside s slot in
+      let i : t .round .list ≡ withoutBit (s .round .list) slot = ap (λ (y : Round). y .list) (b .round) in
+      fine-unless left r (signOffRefusal (s .used) slot) s [] (done t [] []) (struck slot ∷ []) []
+      (record {
+        run = runWithout slot r;
+        rel = subst (λ (y : Wait). Rel (runWithout slot r) (y .turn)) (sym (b .wait)) (strike-turn (s .wait .turn) (s .wait) slot r refl e);
+        low = subst Low (sym i) (low-without (s .round .list) l slot);
+        keeps = λ k h. subst (λ (m : List ℕ). Acc m (runWithout slot r) k) (ap slotsIn i ∙ list-struck (s .round .list) slot) h;
+      }) same
+
   fine-call : (c : Call) → Fine left r (outcome c n .station) (turnEvents c n)
   unfolding result turnEvents
   fine-call (admission packed relay now room) = fine-admit packed relay now room
@@ -136,6 +168,7 @@ module _ (r : Run) (n : Net) (e : Rel r (n .station .wait .turn)) (l : Low (n .s
   fine-call (reading cell lent) = fine-reading (readRefusal (length (lentTo lent (n .store))) (s .count) (s .landed) cell) (n .store)
   fine-call (freeing cell) = fine-freeing cell
   fine-call (charging figures) = fine-reading (duesRefusal figures) (n .store)
+  fine-call (signing slot) = fine-sign slot
 
 -- ### Every list of calls
 

@@ -11,6 +11,9 @@ use Rattle.bits.specs.declared.Found.the-variants as found
 use Rattle.bits.proofs.Lists.{never-both, eq-or-not, lt-or-le}
 use Rattle.bits.proofs.Laws.{has-none, without-same, without-other}
 use Rattle.bits.proofs.Loops.{first-at, first-found, first-before}
+use lib.Dec.{eqb}
+use borrow.Author.Tests.{eqb-true, eq-eqb}
+use Rattle.promise.specs.Promise.{without}
 use Rattle.promise.proofs.Monitor.{In, NoDup}
 
 -- the slots of a list
@@ -96,3 +99,34 @@ list-none m e = rw e (slots-none 0 62 0 (λ j h l. has-none j))
 
 pub low-none : Low 0
 low-none i h = has-none i
+
+-- a slot struck from the list
+slots-struck : (m s n i : ℕ) → slotsOf (withoutBit m s) n i ≡ without s (slotsOf m n i)
+unfolding slotsOf
+slots-struck m s zero i = refl
+slots-struck m s (suc n) i = go (eqb s i) refl (hasBit m i) refl (slots-struck m s n (suc i))
+  where
+    l : List ℕ
+    l = slotsOf m n (suc i)
+
+    u : List ℕ
+    u = slotsOf (withoutBit m s) n (suc i)
+
+    go : (b : Bool) → eqb s i ≡ b → (c : Bool) → hasBit m i ≡ c → u ≡ without s l → cond (hasBit (withoutBit m s) i) (i ∷ u) u ≡ without s (cond c (i ∷ l) l)
+    go true e c f ih =
+        let g : hasBit (withoutBit m s) i ≡ false = subst (λ (k : ℕ). hasBit (withoutBit m k) i ≡ false) (sym (eqb-true s i e)) (without-same m i) in
+        rw (g, ih) (both c)
+      where
+        both : (c : Bool) → without s l ≡ without s (cond c (i ∷ l) l)
+        both true = rw e
+        both false = refl
+    go false e c f ih =
+        let g : hasBit (withoutBit m s) i ≡ c = without-other m s i (λ k. never-both (eqb s i) (eq-eqb s i k) e) ∙ f in
+        rw (g, ih) (both c)
+      where
+        both : (c : Bool) → cond c (i ∷ without s l) (without s l) ≡ without s (cond c (i ∷ l) l)
+        both true = rw e
+        both false = refl
+
+pub list-struck : (m s : ℕ) → slotsIn (withoutBit m s) ≡ without s (slotsIn m)
+list-struck m s = slots-struck m s 62 0

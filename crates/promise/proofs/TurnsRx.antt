@@ -14,24 +14,23 @@ use Rattle.wire.specs.Kinds.{tiny, kIdle}
 use Rattle.words.specs.Words.{Burst}
 use Rattle.words.specs.declared.Head.{Head}
 use Rattle.net.specs.declared.Station.{Station}
-use Rattle.net.specs.declared.Settings.{Settings}
 use Rattle.net.specs.declared.Reply.{Reply}
 use Rattle.net.specs.declared.Turn.{Turn}
 use Rattle.net.specs.declared.Turn.the-variants.{Idle, Sending, Waiting}
-use Rattle.net.specs.declared.Wait.{Wait}
 use Rattle.net.specs.State.{withWait, oneReply}
-use Rattle.net.specs.Net.{isMember, idleWait, waitOf, plus, leafWait}
+use Rattle.net.specs.Net.{isMember, idleWait, waitOf}
 use Rattle.level.specs.declared.Clock.the-variants.{Never}
 use Rattle.frames.specs.declared.Air.{Air}
 use Rattle.frames.specs.Reading.{Reading}
 use Rattle.frames.specs.Frames.{readFrames}
-use Rattle.rx.specs.Ending.{isBusy, putOff, busyWait, Ended, nothingMore, turnOverIn, idleHeard, idleBy, idleEnd, replyHeard, answerBy, goesOn, isReply, replyBy, replyEnd}
+use Rattle.rx.specs.Ending.{busyWait, Ended, nothingMore, turnOverIn, idleHeard, idleBy, idleEnd, replyHeard, answerBy, goesOn, isReply, replyBy, replyEnd}
 use Rattle.rx.specs.Reception.{Received, airOf, firstReading, receivedOf, ncsRxFrom, ncsRx}
 use Rattle.promise.specs.Promise.{TurnEvent, over, overIf, burstsIn}
 use Rattle.promise.proofs.Monitor.{Run, rest, turn, Acc}
 use Rattle.promise.proofs.TurnsWords.{quiet-first, pollack-burst, ack-burst}
 use Rattle.promise.proofs.TurnsLists.{slotsIn, Low}
 use Rattle.promise.proofs.TurnsKeeps.{CalmIn, calm-start, frames-calm}
+use Rattle.promise.proofs.WalkRx.{busy-turn}
 use Rattle.promise.proofs.TurnsNext.{Rel, Fine, fine-none}
 
 -- the station and the list are as good as those of s
@@ -158,16 +157,6 @@ fined s x r e c f =
 fined-if : {left : List ℕ} {r : Run} {x y : Received} (b : Bool) → (b ≡ true → Fined left r x) → (b ≡ false → Fined left r y) → Fined left r (cond b x y)
 fined-if true f g = f refl
 fined-if false f g = g refl
-
--- the deadline moves, and nothing else
-put-off : (y : Turn) (v : Wait) (at : Float) → v .turn ≡ y → putOff y v at .turn ≡ v .turn
-put-off Idle v at e = refl
-put-off Sending v at e = refl
-put-off (Waiting p) v at e = sym e
-
-busy-turn : (v : Wait) (h : Head) (g : Settings) (now : Float) → busyWait v h g now .turn ≡ v .turn
-busy-turn v h g now =
-    cond-keeps (λ y. y .turn ≡ v .turn) (isBusy h) (putOff (v .turn) v (plus now (leafWait g))) v (λ e. put-off (v .turn) v (plus now (leafWait g)) refl) (λ e. refl)
 
 rx-from : (s : Station) (a : Air) (b : Burst) (store : List ℕ) (r : Run) → Rel r (s .wait .turn) → Low (s .round .list)
     → Fined (slotsIn (s .round .list)) r (ncsRxFrom a b (firstReading s store))

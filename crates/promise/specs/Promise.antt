@@ -1,5 +1,6 @@
 -- Item 3 of document 01, 'Item 3 in full', whole: `Item3`, the last definition, is one statement over every list of calls from a start that is not refused.
--- In order: the calls, relay links, lists and turns, the book, the premises, what is promised of messages, and the promise.
+-- In order: turn events, the calls, relay links, lists and turns, the book, the premises, what is promised of messages, and the promise. With U3 of document 02
+-- a boat may sign off: 'what is promised about messages and turns is per stay'.
 -- A later request adds its call to `Call`, and a line for it to `result` and `inBook`, which stand next to it.
 use Prim.Native.Nat.{ℕ, zero, suc, _+_, _/_, _%_, _≤_, _<_}
 use mathlib.Core.Path.{_≡_}
@@ -21,11 +22,32 @@ use Rattle.next.specs.Next.{ncsNext}
 use Rattle.rx.specs.Reception.{Received, ncsRx}
 use Rattle.config.specs.declared.Given.{Given}
 use Rattle.station.specs.Entries.{Outcome, done, unless, startRefusal, startOf, admitOf, receiveOf, nextOf, sentOf, closeOf, freeOf, readRefusal, readingOf}
+use Rattle.station.specs.SignOff.{signOffOf}
 use Rattle.dues.specs.Dues.{duesRefusal}
+
+-- ---- what happens to lists and turns (document 01: 'those of item 2's definitions run over the same calls, never the station's record')
+
+-- a next decision draws up a list of slots; the waiting for a slot's reply ends; a burst K_POLL or K_RELAY; a burst K_ACK or K_POLLACK; a slot signs off
+pub data TurnEvent : Type 0 where
+  drew : List ℕ → TurnEvent
+  over : ℕ → TurnEvent
+  poll : ℕ → TurnEvent
+  ack : ℕ → TurnEvent
+  struck : ℕ → TurnEvent
+
+-- the waiting that a decision or a reception says has ended, if one has
+abbrev pub overIf : Option ℕ → List TurnEvent
+overIf none = []
+overIf (some s) = over s ∷ []
+
+-- the list that a decision says is drawn up, a mask of slots, if one is
+abbrev pub drewIf : Option ℕ → List TurnEvent
+drewIf none = []
+drewIf (some list) = drew (slotsOf list 62 0) ∷ []
 
 -- ---- the calls, and the definitions of the entry points run over a list of them
 
--- the store that a call is lent: the one handed on, or any other
+-- the store that a call is lent: the one handed on, or any other ('a refused one may have been lent any other store, which is not handed on')
 pub data Lent : Type 0 where
   handed : Lent
   another : List ℕ → Lent
@@ -35,7 +57,7 @@ abbrev pub lentTo : Lent → List ℕ → List ℕ
 lentTo handed store = store
 lentTo (another other) store = other
 
--- what is handed on: the station that the last call returned, and the store that the last one not refused left
+-- what is handed on: 'Each gets the station the last one returned and the store that the last one not refused left'
 pub record Net : Type 0 where
   pub station : Station
   pub store : List ℕ
@@ -44,30 +66,31 @@ pub record Net : Type 0 where
 abbrev pub net : Station → List ℕ → Net
 net s store = record { station = s; store = store }
 
--- what the definitions answer to a call: its outcome; the store that it leaves; the members as each frame is read; the list that it draws up, a mask of
--- slots; and the slot, if there is one, the waiting for whose reply ends before the burst returned, or behind it, as a turn has its K_ACK included
+-- what the definitions answer to a call: its outcome; the store that it leaves; the members as each frame is read; and what happens to lists and turns before
+-- the burst returned ('that call's burst included') and behind it, as a turn has 'its K_ACK included'
 pub record Result : Type 0 where
   pub outcome : Outcome
   pub store : List ℕ
   pub seen : List ℕ
-  pub before : Option ℕ
-  pub drew : Option ℕ
-  pub behind : Option ℕ
+  pub before : List TurnEvent
+  pub behind : List TurnEvent
 
--- of a call that leaves the store alone, reads no frame, draws up no list and ends no waiting
+-- of a call that leaves the store alone, reads no frame and leaves lists and turns alone
 abbrev pub plain : Net → Outcome → Result
-plain n o = record { outcome = o; store = n .store; seen = []; before = none; drew = none; behind = none }
+plain n o = record { outcome = o; store = n .store; seen = []; before = []; behind = [] }
 
 -- what f says of a burst, and x of malformed words
 abbrev pub ofBurst : {A : Type 0} → Parsed Burst → A → (Burst → A) → A
 ofBurst malformed x f = x
 ofBurst (parsed b) x f = f b
 
--- what a call is in the book: a reception brings pieces, a reading reads a cell, a freeing empties a cell's entry, and the other calls change nothing
+-- what a call is in the book: a reception brings pieces, a reading reads a cell, a freeing empties a cell's entry, a sign-off ends a slot's stay, and the other
+-- calls change nothing
 pub data InBook : Type 0 where
   brings : (words numbers : List ℕ) (lent : Lent) → InBook
   reads : (cell : ℕ) (lent : Lent) → InBook
   frees : (cell : ℕ) → InBook
+  ends : (slot : ℕ) → InBook
   changesNothing : InBook
 
 -- A call with its arguments, as the entry points take them. `room` is the length of the output lent.
@@ -81,6 +104,7 @@ pub data Call : Type 0 where
   reading : (cell : ℕ) (lent : Lent) → Call
   freeing : (cell : ℕ) → Call
   charging : (figures : List ℕ) → Call
+  signing : (slot : ℕ) → Call
 
 -- the definitions that the entry points' contracts name
 unfoldable pub result : Call → Net → Result
@@ -88,10 +112,10 @@ result (admission packed relay now room) n = plain n (admitOf (n .station) packe
 result (reception words snr now lent room numbers) n =
     let o = receiveOf (n .station) words snr now (lentTo lent (n .store)) room in
     let r : Burst → Received = λ b. ncsRx (n .station) b snr now (lentTo lent (n .store)) in
-    record { outcome = o; store = o .store; seen = ofBurst (parse words) [] (λ b. r b .seen); before = none; drew = none; behind = ofBurst (parse words) none (λ b. r b .over) }
+    record { outcome = o; store = o .store; seen = ofBurst (parse words) [] (λ b. r b .seen); before = []; behind = overIf (ofBurst (parse words) none (λ b. r b .over)) }
 result (decision now room) n =
     let d = ncsNext (n .station) now in
-    record { outcome = nextOf (n .station) now room; store = n .store; seen = []; before = d .over; drew = d .drew; behind = none }
+    record { outcome = nextOf (n .station) now room; store = n .store; seen = []; before = overIf (d .over) ++ drewIf (d .drew); behind = [] }
 result (sending now) n = plain n (sentOf (n .station) now)
 result (closing count) n = plain n (closeOf (n .station) count)
 result (reading cell lent) n =
@@ -101,6 +125,8 @@ result (reading cell lent) n =
 result (freeing cell) n = plain n (freeOf (n .station) cell)
 result (charging figures) n =
     plain n (unless (duesRefusal figures) (n .station) (n .store) (done (n .station) (n .store) []))
+result (signing slot) n =
+    record { outcome = signOffOf (n .station) slot; store = n .store; seen = []; before = struck slot ∷ []; behind = [] }
 
 -- and the calls as they are in the book
 abbrev pub inBook : Call → InBook
@@ -112,6 +138,7 @@ inBook (closing count) = changesNothing
 inBook (reading cell lent) = reads cell lent
 inBook (freeing cell) = frees cell
 inBook (charging figures) = changesNothing
+inBook (signing slot) = ends slot
 
 -- refusal, station, words and mask
 abbrev pub outcome : Call → Net → Outcome
@@ -125,12 +152,12 @@ isRefused c n = cond (eqb (outcome c n .refusal) 0) false true
 unfoldable pub step : Call → Net → Net
 step c n = net (outcome c n .station) (cond (isRefused c n) (n .store) (result c n .store))
 
--- any number of calls, in any order
+-- 'any number, in any order, of direct admission, reception, .. refused ones included, clocks in any order'
 unfoldable pub after : List Call → Net → Net
 after [] n = n
 after (c ∷ cs) n = after cs (step c n)
 
--- after a start, with any bytes in the store
+-- 'First a start that is not refused, any bytes in the store.'
 abbrev pub started : Station → Given → List ℕ → Net
 started s g store = net (startOf s g store .station) store
 
@@ -141,28 +168,11 @@ unfoldable pub leads : Station → ℕ → ℕ → Bool
 leads s zero i = isMember (s .used) i && eqb (memberAt s i .via) 63
 leads s (suc k) i = isMember (s .used) i && (eqb (memberAt s i .via) 63 || leads s k (memberAt s i .via))
 
--- from any member, in at most 61 steps
+-- 'In the roster last returned, relay slots lead from any member to one without a relay in at most 61 steps.'
 abbrev pub LinksHold : Station → Type 0
 LinksHold s = (i : ℕ) → isMember (s .used) i ≡ true → leads s 61 i ≡ true
 
 -- ---- lists and turns, read off what the calls return, never the station's record
-
--- a next decision draws up a list of slots; the waiting for a slot's reply ends; a burst K_POLL or K_RELAY; a burst K_ACK or K_POLLACK
-pub data TurnEvent : Type 0 where
-  drew : List ℕ → TurnEvent
-  over : ℕ → TurnEvent
-  poll : ℕ → TurnEvent
-  ack : ℕ → TurnEvent
-
--- the waiting that a result says has ended, if one has
-abbrev pub overIf : Option ℕ → List TurnEvent
-overIf none = []
-overIf (some s) = over s ∷ []
-
--- the list that it says is drawn up, if one is
-abbrev pub drewIf : Option ℕ → List TurnEvent
-drewIf none = []
-drewIf (some list) = drew (slotsOf list 62 0) ∷ []
 
 -- a burst by its head
 abbrev pub burstBy : Head → List TurnEvent
@@ -175,11 +185,11 @@ unfoldable pub burstsIn : List ℕ → List TurnEvent
 burstsIn [] = []
 burstsIn (w ∷ ws) = cond (eqb (w / 268435456) 8) (burstBy (headOf w) ++ burstsIn ws) (burstsIn ws)
 
--- of one call, in order; a refused one has none
+-- of one call, in order; a refused one has none. 'Polls and acknowledgements are counted in the bursts returned'
 unfoldable pub turnEvents : Call → Net → List TurnEvent
 turnEvents c n =
     let r = result c n in
-    cond (isRefused c n) [] ((overIf (r .before) ++ drewIf (r .drew)) ++ (burstsIn (r .outcome .words) ++ overIf (r .behind)))
+    cond (isRefused c n) [] (r .before ++ (burstsIn (r .outcome .words) ++ r .behind))
 
 -- of all the calls
 unfoldable pub trace : List Call → Net → List TurnEvent
@@ -205,37 +215,38 @@ pub record View : Type 0 where
 abbrev pub emptyView : View
 emptyView = record { list = []; run = [] }
 
--- a turn runs from any poll of a listed slot that has no turn running
+-- 'A turn runs from any poll of a listed slot that has no turn running,
 abbrev pub begins : View → ℕ → Bool
 begins v s = has s (v .list) && not (has s (v .run))
 
--- until the waiting for its reply ends; a list stands from the decision that draws it up
+-- until the waiting for its reply ends, its K_ACK included'; 'A list stands from the next-decision call that draws it up'; signing off 'strikes it from .. the
+-- round .. and ends its turn if one runs' (U3)
 abbrev pub view : View → TurnEvent → View
 view v (drew l) = record { list = l; run = v .run }
 view v (over s) = record { list = v .list; run = without s (v .run) }
 view v (poll s) = record { list = v .list; run = cond (begins v s) (s ∷ v .run) (v .run) }
 view v (ack s) = v
+view v (struck s) = record { list = without s (v .list); run = without s (v .run) }
 
--- the slots whose turns begin, in order
-abbrev pub begun : View → List TurnEvent → List ℕ
-begun v [] = []
-begun v (drew l ∷ es) = begun (view v (drew l)) es
-begun v (over s ∷ es) = begun (view v (over s)) es
-begun v (poll s ∷ es) = cond (begins v s) (s ∷ begun (view v (poll s)) es) (begun (view v (poll s)) es)
-begun v (ack s ∷ es) = begun v es
+-- 'From then on no slot begins a second turn until each other slot on it has had one': l is the list, `had` the slots that have begun turns since, in a stay that
+-- goes on, and v the view; 'a list counts without the slots struck from it' (U3)
+abbrev pub Spread : List ℕ → List ℕ → View → List TurnEvent → Type 0
+Spread l had v [] = Unit {0}
+Spread l had v (drew m ∷ es) = Spread l had (view v (drew m)) es
+Spread l had v (over s ∷ es) = Spread l had (view v (over s)) es
+Spread l had v (poll s ∷ es) =
+    (T (begins v s) → T (has s had) → (t : ℕ) → T (has t l) → (t ≡ s → ⊥) → T (has t had)) × Spread l (cond (begins v s) (s ∷ had) had) (view v (poll s)) es
+Spread l had v (ack s ∷ es) = Spread l had v es
+Spread l had v (struck s ∷ es) = Spread (without s l) (without s had) (view v (struck s)) es
 
--- of the slots that begin turns, the last first in `had`: none begins a second until each other slot on l has had one
-abbrev pub Spread : List ℕ → List ℕ → List ℕ → Type 0
-Spread l had [] = Unit {0}
-Spread l had (s ∷ bs) = (T (has s had) → (t : ℕ) → T (has t l) → (t ≡ s → ⊥) → T (has t had)) × Spread l (s ∷ had) bs
-
--- the polls of s until the waiting for its reply ends, or to the last call
+-- the polls of s until the waiting for its reply ends, or s signs off, or to the last call
 abbrev pub pollsTill : ℕ → List TurnEvent → ℕ
 pollsTill s [] = 0
 pollsTill s (drew l ∷ es) = pollsTill s es
 pollsTill s (over x ∷ es) = cond (eqb x s) 0 (pollsTill s es)
 pollsTill s (poll x ∷ es) = cond (eqb x s) (suc (pollsTill s es)) (pollsTill s es)
 pollsTill s (ack x ∷ es) = pollsTill s es
+pollsTill s (struck x ∷ es) = cond (eqb x s) 0 (pollsTill s es)
 
 -- and its acknowledgements
 abbrev pub acksTill : ℕ → List TurnEvent → ℕ
@@ -244,8 +255,9 @@ acksTill s (drew l ∷ es) = acksTill s es
 acksTill s (over x ∷ es) = cond (eqb x s) 0 (acksTill s es)
 acksTill s (poll x ∷ es) = acksTill s es
 acksTill s (ack x ∷ es) = cond (eqb x s) (suc (acksTill s es)) (acksTill s es)
+acksTill s (struck x ∷ es) = cond (eqb x s) 0 (acksTill s es)
 
--- where a turn begins no other runs, and with the poll that begins it it has at most five polls and four acknowledgements
+-- where a turn begins no other runs, and with the poll that begins it 'at most five and four in each turn, a running one too'
 pub record OneTurn (v : View) (s : ℕ) (es : List TurnEvent) : Type 0 where
   pub alone : v .run ≡ []
   pub polls : suc (pollsTill s es) ≤ 5
@@ -254,10 +266,11 @@ pub record OneTurn (v : View) (s : ℕ) (es : List TurnEvent) : Type 0 where
 -- at an event, where v is the view before it and es is what follows it: what a list drawn up promises, what the poll that begins a turn promises, and that
 -- no poll is of a slot not listed, and no acknowledgement or end of a waiting falls outside the turns
 abbrev pub AtEvent : View → TurnEvent → List TurnEvent → Type 0
-AtEvent v (drew l) es = Spread l [] (begun (view v (drew l)) es)
+AtEvent v (drew l) es = Spread l [] (view v (drew l)) es
 AtEvent v (over s) es = T (has s (v .run))
 AtEvent v (poll s) es = T (has s (v .list)) × (T (begins v s) → OneTurn v s es)
 AtEvent v (ack s) es = T (has s (v .run))
+AtEvent v (struck s) es = Unit {0}
 
 -- at every event
 abbrev pub TurnsHold : View → List TurnEvent → Type 0
@@ -266,29 +279,39 @@ TurnsHold v (e ∷ es) = AtEvent v e es × TurnsHold (view v e) es
 
 -- ---- the book
 
--- the messages that the boats send: of a slot and a number, the n bytes after the two of the length
+-- the messages that the boats send: of a slot, its stay and a number, the n bytes after the two of the length. A stay is the time from an admission to the
+-- sign-off; a slot's stays are counted from 0 on ('A slot's next holder begins at number 0', U3)
+abbrev pub Stays : Type 0
+Stays = ℕ → ℕ → ℕ → List ℕ
+
+-- in the stays that run: of a slot and a number
 abbrev pub Sent : Type 0
 Sent = ℕ → ℕ → List ℕ
 
--- one of them
+-- one of these
 pub record Message : Type 0 where
   pub slot : ℕ
   pub number : ℕ
 
--- per boat and number the bytes covered, and whether the message is handed over
+-- 'per boat and number the bytes covered and whether the message is handed over;
 pub record Ledger : Type 0 where
   pub covered : ℕ → ℕ → ℕ → Bool
   pub handed : ℕ → ℕ → Bool
 
--- and per cell a message or none
+-- per cell a message or none'; all is of the stays that run, and per slot it has how many ended before
 pub record Book : Type 0 where
   pub ledger : Ledger
   pub entry : ℕ → Option Message
+  pub stay : ℕ → ℕ
 
--- all is empty at the start
+-- what is sent in them
+abbrev pub sentNow : Stays → Book → Sent
+sentNow M b s k = M s (b .stay s) k
+
+-- 'All is empty at the start.'
 abbrev pub emptyBook : Book
 emptyBook =
-    record { ledger = record { covered = λ s k i. false; handed = λ s k. false }; entry = λ c. none }
+    record { ledger = record { covered = λ s k i. false; handed = λ s k. false }; entry = λ c. none; stay = λ s. 0 }
 
 -- what a piece or a call comes to: the ledger or the book that is left, and the messages handed over with it, in order
 pub record Entered (A : Type 0) : Type 0 where
@@ -320,7 +343,7 @@ unfoldable pub allBelow : ℕ → (ℕ → Bool) → Bool
 allBelow zero p = true
 allBelow (suc n) p = p n && allBelow n p
 
--- the last of the 2 + n bytes of message k of slot s is first covered
+-- 'When the last of the 2 + n is first covered, the message is handed over': of message k of slot s
 abbrev pub completes : Sent → ℕ → ℕ → Ledger → (ℕ → ℕ → ℕ → Bool) → Bool
 completes M s k l f = not (l .handed s k) && allBelow (2 + length (M s k)) (f s k)
 
@@ -332,17 +355,17 @@ bookPiece M s k o n l =
     (record { left = record { covered = f; handed = alsoHanded s k (l .handed) }; out = record { slot = s; number = k } ∷ [] })
     (unchanged (record { covered = f; handed = l .handed }))
 
--- a boat's piece: an up frame whose slot has a member as the frame is read
+-- a boat's piece: an up frame whose slot has a member as the frame is read ('A boat is a slot with a member')
 abbrev pub isBoats : ℕ → ℕ → Bool
 isBoats flags seen = eqb (flags / 64) tUp && isMember seen (flags % 64)
 
--- one that the mask leaves unmarked covers its bytes in the message of its number k
+-- 'One that the mask leaves unmarked covers its bytes in the message of its number.'
 unfoldable pub bookFrame : Sent → Heard → ℕ → ℕ → Bool → Ledger → Entered Ledger
 bookFrame M lost k seen marked l = unchanged l
 bookFrame M (heard flags field p) k seen marked l =
     cond (isBoats flags seen && not marked) (bookPiece M (flags % 64) k (field % 65536) (length p) l) (unchanged l)
 
--- frames in the order the source reads them, from frame i on, with their numbers, the members as each is read and the mask
+-- 'in the order the source reads them', from frame i on, with their numbers, the members as each is read and the mask
 unfoldable pub bookFrames : Sent → List Heard → ℕ → List ℕ → List ℕ → ℕ → Ledger → Entered Ledger
 bookFrames M [] i numbers seen mask l = unchanged l
 bookFrames M (f ∷ fs) i numbers seen mask l =
@@ -380,7 +403,7 @@ enterAll [] (m ∷ ms) f = f
 enterAll (e ∷ es) [] f = f
 enterAll (e ∷ es) (m ∷ ms) f = enterAll es ms (enter (e .cell) (some m) f)
 
--- the four answers that the book is fed beside the arguments: refused or not; the members as each piece is read; the mask; the events 2
+-- the 'four answers of the definitions run over the same calls: the members as each piece is read, the calls refused, the masks, the cells in events 2'
 pub record Answers : Type 0 where
   pub refused : Bool
   pub seen : List ℕ
@@ -392,16 +415,30 @@ abbrev pub answersOf : Call → Net → Answers
 answersOf c n =
     record { refused = isRefused c n; seen = result c n .seen; mask = outcome c n .mask; events = eventsIn (outcome c n .words) }
 
+-- 'signing off empties what item 3's book holds for the slot and for the cells freed' (U3): the entries of the slot's messages, and what is noted of them
+abbrev pub strikeEntry : ℕ → Option Message → Option Message
+strikeEntry slot none = none
+strikeEntry slot (some m) = cond (eqb slot (m .slot)) none (some m)
+
+unfoldable pub bookEnds : ℕ → Book → Book
+bookEnds slot b =
+    record {
+      ledger = record { covered = λ s k i. cond (eqb slot s) false (b .ledger .covered s k i); handed = λ s k. cond (eqb slot s) false (b .ledger .handed s k) };
+      entry = λ c. strikeEntry slot (b .entry c);
+      stay = λ s. cond (eqb slot s) (suc (b .stay s)) (b .stay s);
+    }
+
 -- a call that is not refused, as it is in the book
 abbrev pub bookDone : Sent → InBook → Answers → Book → Entered Book
 bookDone M (brings words numbers lent) a b =
     let r = bookFrames M (framesBy (parse words)) 0 numbers (a .seen) (a .mask) (b .ledger) in
-    record { left = record { ledger = r .left; entry = enterAll (a .events) (r .out) (b .entry) }; out = r .out }
+    record { left = record { ledger = r .left; entry = enterAll (a .events) (r .out) (b .entry); stay = b .stay }; out = r .out }
 bookDone M (reads cell lent) a b = unchanged b
-bookDone M (frees cell) a b = unchanged (record { ledger = b .ledger; entry = enter cell none (b .entry) })
+bookDone M (frees cell) a b = unchanged (record { ledger = b .ledger; entry = enter cell none (b .entry); stay = b .stay })
+bookDone M (ends slot) a b = unchanged (bookEnds slot b)
 bookDone M changesNothing a b = unchanged b
 
--- a refused call changes nothing
+-- 'The other calls, and refused ones, change nothing.'
 abbrev pub bookCall : Sent → Call → Net → Book → Entered Book
 bookCall M c n b = cond (answersOf c n .refused) (unchanged b) (bookDone M (inBook c) (answersOf c n) b)
 
@@ -430,7 +467,7 @@ FramesOk M (f ∷ fs) i numbers seen mask l =
     FrameOk M l f (getD numbers i 0) (getD seen i 0)
     × FramesOk M fs (i + 1) numbers seen mask (bookFrame M f (getD numbers i 0) (getD seen i 0) (hasBit mask i) l .left)
 
--- only a refused call may be lent another store
+-- only a refused call may be lent another store: nobody else writes it
 abbrev pub LentOk : Lent → Bool → Type 0
 LentOk handed refused = Unit {0}
 LentOk (another store) refused = refused ≡ true
@@ -441,24 +478,30 @@ CallOk M (brings words numbers lent) a b =
     LentOk lent (a .refused) × (a .refused ≡ false → FramesOk M (framesBy (parse words)) 0 numbers (a .seen) (a .mask) (b .ledger))
 CallOk M (reads cell lent) a b = LentOk lent (a .refused)
 CallOk M (frees cell) a b = Unit {0}
+CallOk M (ends slot) a b = Unit {0}
 CallOk M changesNothing a b = Unit {0}
 
--- of all the calls
-unfoldable pub CallsOk : Sent → List Call → Net → Book → Type 0
+-- of all the calls, each with what is sent in the stays that run then: 'provided no piece of a former stay arrives' (U3)
+unfoldable pub CallsOk : Stays → List Call → Net → Book → Type 0
 CallsOk M [] n b = Unit {0}
-CallsOk M (c ∷ cs) n b = CallOk M (inBook c) (answersOf c n) b × CallsOk M cs (step c n) (bookCall M c n b .left)
+CallsOk M (c ∷ cs) n b = CallOk (sentNow M b) (inBook c) (answersOf c n) b × CallsOk M cs (step c n) (bookCall (sentNow M b) c n b .left)
 
 -- ---- what is promised of messages
 
--- events 2 and messages pair off one to one, in order: same slot, same number mod 256; each enters the cell that its event names, empty in the book till then
-abbrev pub Pairs : List Event2 → List Message → (ℕ → Option Message) → Type 0
-Pairs [] [] f = Unit {0}
-Pairs [] (m ∷ ms) f = ⊥
-Pairs (e ∷ es) [] f = ⊥
-Pairs (e ∷ es) (m ∷ ms) f =
-    (e .slot ≡ m .slot) × (e .number ≡ m .number % 256) × (f (e .cell) ≡ none) × Pairs es ms (enter (e .cell) (some m) f)
+-- events 2 and messages pair off one to one, in order: same slot, same number mod 256; each enters the cell that its event names, one of `count`,
+-- empty in the book till then
+abbrev pub Pairs : ℕ → List Event2 → List Message → (ℕ → Option Message) → Type 0
+Pairs count [] [] f = Unit {0}
+Pairs count [] (m ∷ ms) f = ⊥
+Pairs count (e ∷ es) [] f = ⊥
+Pairs count (e ∷ es) (m ∷ ms) f =
+    (e .slot ≡ m .slot)
+    × (e .number ≡ m .number % 256)
+    × (e .cell < count)
+    × (f (e .cell) ≡ none)
+    × Pairs count es ms (enter (e .cell) (some m) f)
 
--- of two alike, of one slot and equal mod 256, the lower number comes first: so its event is the earlier one
+-- 'of two alike the lower number with the earlier event': of one slot and equal mod 256, it comes first
 abbrev pub Later : Message → List Message → Type 0
 Later m [] = Unit {0}
 Later m (x ∷ xs) = (m .slot ≡ x .slot → m .number % 256 ≡ x .number % 256 → m .number < x .number) × Later m xs
@@ -474,40 +517,63 @@ Once [] f = Unit {0}
 Once (m ∷ ms) f = (f (m .slot) (m .number) ≡ false) × Once ms (alsoHanded (m .slot) (m .number) f)
 
 -- a reception's events 2 and the messages that the book hands over in it
-pub record Paired (es : List Event2) (ms : List Message) (b : Book) : Type 0 where
-  pub pairs : Pairs es ms (b .entry)
+pub record Paired (count : ℕ) (es : List Event2) (ms : List Message) (b : Book) : Type 0 where
+  pub pairs : Pairs count es ms (b .entry)
   pub rising : Rising ms
   pub once : Once ms (b .ledger .handed)
 
--- a reading of the store handed on gives exactly the n bytes of the message entered, or 22 if none is
+-- 'A reading of the store handed on .. gives exactly the n bytes of the message entered there, or 22 if none is.'
 abbrev pub ReadsAs : Sent → Option Message → Net → ℕ → Type 0
 ReadsAs M none n cell = readRefusal (length (n .store)) (n .station .count) (n .station .landed) cell ≡ 22
 ReadsAs M (some m) n cell =
     (readRefusal (length (n .store)) (n .station .count) (n .station .landed) cell ≡ 0)
     × (readingOf (n .station) (n .store) cell ≡ M (m .slot) (m .number))
 
--- at a call: what is promised of a reception, refused or not, and of a reading that no earlier check refuses, its cell below the count
-abbrev pub AtCall : Sent → InBook → List Event2 → List Message → Net → Book → Type 0
-AtCall M (brings words numbers lent) es out n b = Paired es out b
-AtCall M (reads cell lent) es out n b = cell < n .station .count → ReadsAs M (b .entry cell) n cell
-AtCall M (frees cell) es out n b = Unit {0}
-AtCall M changesNothing es out n b = Unit {0}
+-- at a call, of a station with `count` cells: what is promised of a reception, refused or not, and of a reading that no earlier check refuses, its cell below
+-- the count; and no call but a reception returns an event 2
+abbrev pub AtCall : Sent → ℕ → InBook → List Event2 → List Message → Net → Book → Type 0
+AtCall M count (brings words numbers lent) es out n b = Paired count es out b
+AtCall M count (reads cell lent) es out n b = (es ≡ []) × (cell < count → ReadsAs M (b .entry cell) n cell)
+AtCall M count (frees cell) es out n b = es ≡ []
+AtCall M count (ends slot) es out n b = es ≡ []
+AtCall M count changesNothing es out n b = es ≡ []
 
 -- at every call, with the net and the book as they are then
-unfoldable pub Holds : Sent → List Call → Net → Book → Type 0
-Holds M [] n b = Unit {0}
-Holds M (c ∷ cs) n b =
-    AtCall M (inBook c) (answersOf c n .events) (bookCall M c n b .out) n b × Holds M cs (step c n) (bookCall M c n b .left)
+unfoldable pub Holds : Stays → ℕ → List Call → Net → Book → Type 0
+Holds M count [] n b = Unit {0}
+Holds M count (c ∷ cs) n b =
+    let N = sentNow M b in
+    AtCall N count (inBook c) (answersOf c n .events) (bookCall N c n b .out) n b × Holds M count cs (step c n) (bookCall N c n b .left)
+
+-- a message with its stay
+pub record Stayed : Type 0 where
+  pub slot : ℕ
+  pub stay : ℕ
+  pub number : ℕ
+
+-- messages with the stays that run
+abbrev pub stayed : (ℕ → ℕ) → List Message → List Stayed
+stayed stay [] = []
+stayed stay (m ∷ ms) = record { slot = m .slot; stay = stay (m .slot); number = m .number } ∷ stayed stay ms
 
 -- the messages handed over in all the calls, in order
-unfoldable pub handedIn : Sent → List Call → Net → Book → List Message
+unfoldable pub handedIn : Stays → List Call → Net → Book → List Stayed
 handedIn M [] n b = []
-handedIn M (c ∷ cs) n b = bookCall M c n b .out ++ handedIn M cs (step c n) (bookCall M c n b .left)
+handedIn M (c ∷ cs) n b = stayed (b .stay) (bookCall (sentNow M b) c n b .out) ++ handedIn M cs (step c n) (bookCall (sentNow M b) c n b .left)
 
--- at every call what is promised of it, and in all of them no message handed over twice
-pub record Messages (M : Sent) (n : Net) (cs : List Call) : Type 0 where
-  pub calls : Holds M cs n emptyBook
-  pub once : Once (handedIn M cs n emptyBook) (λ s k. false)
+-- a message handed over too
+unfoldable pub alsoStayed : Stayed → (ℕ → ℕ → ℕ → Bool) → ℕ → ℕ → ℕ → Bool
+alsoStayed m f s t k = cond (same (m .slot) (m .number) s k && eqb (m .stay) t) true (f s t k)
+
+-- none of them was handed over before in its stay, f, nor is it twice among them
+abbrev pub OnceInStay : List Stayed → (ℕ → ℕ → ℕ → Bool) → Type 0
+OnceInStay [] f = Unit {0}
+OnceInStay (m ∷ ms) f = (f (m .slot) (m .stay) (m .number) ≡ false) × OnceInStay ms (alsoStayed m f)
+
+-- at every call what is promised of it, with the cells that the start fixed, and in all of them no message of a stay handed over twice
+pub record Messages (M : Stays) (n : Net) (cs : List Call) : Type 0 where
+  pub calls : Holds M (n .station .count) cs n emptyBook
+  pub once : OnceInStay (handedIn M cs n emptyBook) (λ s t k. false)
 
 -- ---- the promise
 
@@ -516,7 +582,7 @@ pub record Messages (M : Sent) (n : Net) (cs : List Call) : Type 0 where
 pub record Promise (n : Net) (cs : List Call) : Type 0 where
   pub links : LinksHold (after cs n .station)
   pub turns : TurnsHold emptyView (trace cs n)
-  pub messages : (M : Sent) → ((s k : ℕ) → length (M s k) ≤ 2046) → CallsOk M cs n emptyBook → Messages M n cs
+  pub messages : (M : Stays) → ((s t k : ℕ) → length (M s t k) ≤ 2046) → CallsOk M cs n emptyBook → Messages M n cs
 
 -- item 3: from a start that is not refused, of any calls
 abbrev pub Item3 : Type 0

@@ -14,8 +14,7 @@ use Rattle.admit.specs.declared.Seat.{Seat}
 use Rattle.admit.specs.declared.Seat.the-variants.{Known, Free, Full}
 use Rattle.admit.specs.Admission.{admitBy, seatOf, slotOf}
 use Rattle.frames.specs.declared.Air.{Air}
-use Rattle.frames.specs.declared.Kind.{Kind}
-use Rattle.frames.specs.declared.Kind.the-variants.{Nothing, Piece, Checkin, Report, Overheard, Kids}
+use Rattle.frames.specs.Kinds.{Kind, Nothing, Piece, Checkin, Report, Overheard, Kids}
 use Rattle.frames.specs.Control.{eachEntry, checkinFrame, checkinMember, seatedIn, callAt, withActive, overheardBy, overheardEntry, overheardFrame, relayOf, heardBy, hearing, newcomer, kidBy, kidEntry, kidsFrame, isKid, kidMember, kidEvents, controlSays}
 
 -- what each entry keeps, all of them keep

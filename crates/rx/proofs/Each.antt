@@ -24,47 +24,19 @@ use Rattle.net.specs.Net.{isMember, Did}
 use Rattle.frames.specs.declared.Air.{Air}
 use Rattle.frames.specs.declared.Rx.{Rx}
 use Rattle.frames.specs.declared.Frame.{Frame}
-use Rattle.frames.specs.declared.Kind.{Kind}
-use Rattle.frames.specs.declared.Kind.the-variants.{Nothing, Piece, Checkin, Report, Overheard, Kids}
+use Rattle.frames.specs.Kinds.{Kind, Nothing, Piece, Checkin, Report, Overheard, Kids}
 use Rattle.frames.specs.declared.pieces.Piece as piece
 use Rattle.frames.specs.Reading.{Reading, alsoSaid, nextRx, reportRx}
 use Rattle.frames.specs.Pieces.{pieceOf, pieceFrame, takenOf, ownerAfter, withIf, memberAfter, relayedBy, roundAfter, totalsAfter, landedEvents, storedPiece, RoomIn}
 use Rattle.frames.specs.Control.{payloadIn, forwardedBy, isForwarded, reportMember, reportStation, reportFrame, hearPairs, isPending, controlSays}
 use Rattle.frames.specs.Frames.{readFrame, readBy, frameOf, kindOf}
 use Rattle.frames.proofs.Laws.{bytes-payload, peek-bytes}
+use Rattle.frames.proofs.Entries.{did-none}
 use Rattle.frames.proofs.ByKind.{read-kind, report-whole}
 use Rattle.frames.proofs.Stored.{piece-whole, piece-room, piece-place}
 use Rattle.words.proofs.Walk.{left-peek}
-use Rattle.rx.specs.Reception.{isPiece, isReport}
 use Rattle.rx.proofs.Counts.{control-count}
 use Rattle.rx.proofs.Turns.{Going, readingAt, peek-is, goes, rest}
-
--- ### Kinds
-
-is-piece : (k : Kind) → isPiece k ≡ true → k ≡ Piece
-is-piece Nothing e = let z : _≡_ {A = ℕ} 0 1 = cc in absurd (omega arith)
-is-piece Piece e = refl
-is-piece Checkin e = let z : _≡_ {A = ℕ} 0 1 = cc in absurd (omega arith)
-is-piece Report e = let z : _≡_ {A = ℕ} 0 1 = cc in absurd (omega arith)
-is-piece Overheard e = let z : _≡_ {A = ℕ} 0 1 = cc in absurd (omega arith)
-is-piece Kids e = let z : _≡_ {A = ℕ} 0 1 = cc in absurd (omega arith)
-
-is-report : (k : Kind) → isReport k ≡ true → k ≡ Report
-is-report Nothing e = let z : _≡_ {A = ℕ} 0 1 = cc in absurd (omega arith)
-is-report Piece e = let z : _≡_ {A = ℕ} 0 1 = cc in absurd (omega arith)
-is-report Checkin e = let z : _≡_ {A = ℕ} 0 1 = cc in absurd (omega arith)
-is-report Report e = refl
-is-report Overheard e = let z : _≡_ {A = ℕ} 0 1 = cc in absurd (omega arith)
-is-report Kids e = let z : _≡_ {A = ℕ} 0 1 = cc in absurd (omega arith)
-
-is-other : (k : Kind) → isPiece k ≡ false → isReport k ≡ false → (a : Air) (f : Frame) (p : List ℕ) (x : Reading)
-    → readBy k a f p x ≡ alsoSaid x (controlSays k a (f .slot) (f .len) p (x .station))
-is-other Nothing e r a f p x = rw append-nil
-is-other Piece e r a f p x = let z : _≡_ {A = ℕ} 0 1 = cc in absurd (omega arith)
-is-other Checkin e r a f p x = refl
-is-other Report e r a f p x = let z : _≡_ {A = ℕ} 0 1 = cc in absurd (omega arith)
-is-other Overheard e r a f p x = refl
-is-other Kids e r a f p x = refl
 
 -- the bytes that `take` reads are the frame's payload
 bytes-by : (l : List ℕ) (i : Item) → itemAt l ≡ i → peekAt l ≡ itemAt l → bytesAt l (frameOf i .len) ≡ payload (drop 2 l) (frameOf i .len)
@@ -80,7 +52,7 @@ pub cell-lt : (w : Window) (here : Bool) (slot field : ℕ) (owners : List ℕ) 
 cell-lt w here slot field owners busy landed count e ec = rw (ec, e) (piece-place w here slot field owners busy landed count)
 
 -- a report moves on nothing
-pub report-word : (x : Rx) (forwarded : Bool) (slot : ℕ) (pending : Bool) {k : Rx} → k ≡ reportRx x forwarded slot pending → (k .word ≡ x .word) × (k .frame ≡ x .frame) × (k .at ≡ x .at)
+report-word : (x : Rx) (forwarded : Bool) (slot : ℕ) (pending : Bool) {k : Rx} → k ≡ reportRx x forwarded slot pending → (k .word ≡ x .word) × (k .frame ≡ x .frame) × (k .at ≡ x .at)
 report-word x forwarded slot pending {k} e = at forwarded e
   where
     at : (t : Bool) → k ≡ reportRx x t slot pending → (k .word ≡ x .word) × (k .frame ≡ x .frame) × (k .at ≡ x .at)
@@ -115,17 +87,17 @@ module _ {a : Air} {ws : List ℕ} {n : ℕ} {s₀ : Station} {store₀ o₀ sto
 
   -- ### A turn of each
 
-  pub turn-other : isPiece kind ≡ false → isReport kind ≡ false
+  pub turn-other : readBy kind a f bytes now ≡ alsoSaid now (controlSays kind a (f .slot) (f .len) bytes s)
       → {s′ : Station} {o′ : List ℕ} {end : ℕ} {x′ : Rx}
       → Did (controlSays kind a (f .slot) (f .len) bytes s) s′ o (x .at) o′ end
       → x′ ≡ nextRx (record { word = x .word; frame = x .frame; at = end; sender = x .sender; more = x .more; heard = x .heard; unkept = x .unkept }) f
       → Going a ws n s₀ store₀ o₀ store o′ s′ x′
-  turn-other np nr {s′} d p =
+  turn-other e {s′} d p =
       goes g h f (controlSays kind a (f .slot) (f .len) bytes s .words) ef
-      (rw (d .station) (sym (reads ∙ is-other kind np nr a f bytes now)))
+      (rw (d .station) (sym (reads ∙ e)))
       refl refl (d .wrote) (ap (λ (t : Station). t .count) (d .station) ∙ control-count kind a (f .slot) (f .len) bytes s) refl p
 
-  pub turn-report : isReport kind ≡ true
+  pub turn-report : kind ≡ Report
       → {slot i q : ℕ} {here forwarded pending : Bool} {k : Member} {hears : List ℕ} {x₁ x′ : Rx}
       → slot ≡ getD bytes 1 0 → here ≡ isMember (s .used) slot → i ≡ indexOf slot
       → forwarded ≡ forwardedBy a here (getD (s .members) i noMember) → q ≡ getD bytes 2 0
@@ -135,7 +107,7 @@ module _ {a : Air} {ws : List ℕ} {n : ℕ} {s₀ : Station} {store₀ o₀ sto
       → Going a ws n s₀ store₀ o₀ store o (withHears (withMembers s (set (s .members) i k)) hears) x′
   turn-report is {slot} {i} {q} {here} {forwarded} {pending} {k} {hears} {x₁} {x′} es eh ei ew eq em er ep e1 pw pf pa p =
       goes g h f [] ef
-      (rw (append-nil, e1, er, em, ep, ew, ei, eq, eh, es) (told ∙ sym (rw (is-report kind is) at reads)))
+      (rw (append-nil, e1, er, em, ep, ew, ei, eq, eh, es) (told ∙ sym (rw is at reads)))
       pw pf (rw pa (wrote-none o (x .at))) refl refl p
     where
       told : readingAt (withHears (withMember s (getD bytes 1 0) (cond (isMember (s .used) (getD bytes 1 0)) (reportMember a (getD bytes 2 0) (isForwarded a s (getD bytes 1 0)) (memberAt s (getD bytes 1 0))) (memberAt s (getD bytes 1 0)))) (cond (isMember (s .used) (getD bytes 1 0)) (hearPairs (f .len) bytes (getD bytes 1 0) (s .hears)) (s .hears))) store (g .done) (g .seen) (reportRx x (isForwarded a s (getD bytes 1 0)) (getD bytes 1 0) (isPending bytes))
@@ -160,7 +132,7 @@ module _ {a : Air} {ws : List ℕ} {n : ℕ} {s₀ : Station} {store₀ o₀ sto
       ∙ ap (λ (r : piece.Piece). storedPiece a (f .slot) r (takenOf r (getD (s .cells) (placeOf (r .room)) noCell) bytes store) now) same
       ∙ piece-whole a (f .slot) (f .field) bytes now
 
-  pub turn-piece : isPiece kind ≡ true
+  pub turn-piece : kind ≡ Piece
       → {i c end unkept busy landed owner : ℕ} {here relayed : Bool} {p : piece.Piece} {d : Taken} {store′ o′ : List ℕ} {k : Member} {q : Round} {u : Totals} {x′ : Rx}
       → i ≡ indexOf (f .slot) → here ≡ isMember (s .used) (f .slot)
       → p ≡ pieceOf (getD (s .members) i noMember .up) here (f .slot) (f .field) (s .owners) (s .busy) (s .landed) (s .count)
@@ -179,5 +151,46 @@ module _ {a : Air} {ws : List ℕ} {n : ℕ} {s₀ : Station} {store₀ o₀ sto
       x′
   turn-piece is {i} {c} {end} {unkept} {busy} {landed} {owner} {here} {relayed} {p} {d} {store′} ei eh ep ec et eo eb el ek′ er eq eu w en es ex =
       goes g h f (landedEvents d p c relayed (a .polled)) ef
-      (rw (eq, eu, er, ek′, eb, el, eo, en, ec, ei) (stored-is ei eh ep ec et ∙ sym (rw (is-piece kind is) at reads)))
+      (rw (eq, eu, er, ek′, eb, el, eo, en, ec, ei) (stored-is ei eh ep ec et ∙ sym (rw is at reads)))
       refl refl w refl es ex
+
+-- ### After the control byte's arms
+
+module _ {a : Air} {ws : List ℕ} {n : ℕ} {s₀ : Station} {store₀ o₀ store o : List ℕ} {s : Station} {x : Rx} (g : Going a ws n s₀ store₀ o₀ store o s x) (h : x .frame < n)
+    (f : Frame) (ef : f ≡ frameOf (peekAt (drop (x .word) ws))) where
+  -- an arm left the station s′, the output o′ up to `end` and the running values x₁: with the next frame the loop goes on
+  pub record Went (s′ : Station) (o′ : List ℕ) (x₁ : Rx) (end : ℕ) : Type 0 where
+    pub word : x₁ .word ≡ x .word
+    pub frame : x₁ .frame ≡ x .frame
+    pub on : {x′ : Rx} → x′ ≡ nextRx (record { word = x₁ .word; frame = x₁ .frame; at = end; sender = x₁ .sender; more = x₁ .more; heard = x₁ .heard; unkept = x₁ .unkept }) f
+        → Going a ws n s₀ store₀ o₀ store o′ s′ x′
+
+  module _ (kind : Kind) (ek : kind ≡ kindOf f (byteAt (drop (x .word) ws) 0)) where
+    abbrev reading : Reading
+    reading = readingAt s store (g .done) (g .seen) x
+
+    abbrev payloads : List ℕ
+    payloads = payloadIn ws (x .word) (f .len)
+
+    pub went-said : readBy kind a f payloads reading ≡ alsoSaid reading (controlSays kind a (f .slot) (f .len) payloads s)
+        → {s′ : Station} {o′ : List ℕ} {end : ℕ} → Did (controlSays kind a (f .slot) (f .len) payloads s) s′ o (x .at) o′ end → Went s′ o′ x end
+    went-said e d = record { word = refl; frame = refl; on = λ p. turn-other g h f ef kind ek e d p }
+
+  pub went-none : Nothing ≡ kindOf f (byteAt (drop (x .word) ws) 0) → Went s o x (x .at)
+  went-none ek = went-said Nothing ek (rw append-nil) (did-none s o (x .at))
+
+  pub went-report : Report ≡ kindOf f (byteAt (drop (x .word) ws) 0)
+      → {slot i q : ℕ} {here forwarded pending : Bool} {k : Member} {hears : List ℕ} {x₁ : Rx}
+      → slot ≡ getD (payloadIn ws (x .word) (f .len)) 1 0 → here ≡ isMember (s .used) slot → i ≡ indexOf slot
+      → forwarded ≡ forwardedBy a here (getD (s .members) i noMember) → q ≡ getD (payloadIn ws (x .word) (f .len)) 2 0
+      → k ≡ cond here (reportMember a q forwarded (getD (s .members) i noMember)) (getD (s .members) i noMember)
+      → hears ≡ cond here (hearPairs (f .len) (payloadIn ws (x .word) (f .len)) slot (s .hears)) (s .hears) → pending ≡ isPending (payloadIn ws (x .word) (f .len))
+      → x₁ ≡ reportRx x forwarded slot pending
+      → Went (withHears (withMembers s (set (s .members) i k)) hears) o x₁ (x .at)
+  went-report ek {slot} {forwarded = forwarded} {pending = pending} es eh ei ew eq em er ep e1 =
+      let r = report-word x forwarded slot pending e1 in
+      record {
+        word = r .0;
+        frame = r .1;
+        on = λ p. turn-report g h f ef Report ek refl es eh ei ew eq em er ep e1 (r .0) (r .1) (r .2) (p ∙ (rw (r .2)));
+      }

@@ -16,8 +16,6 @@ use Rattle.net.specs.declared.Turn.{Turn}
 use Rattle.net.specs.State.{withWait}
 use Rattle.net.specs.Net.{polledBy}
 use Rattle.frames.specs.declared.Air.{Air}
-use Rattle.frames.specs.declared.Kind.{Kind}
-use Rattle.frames.specs.declared.Kind.the-variants.{Nothing, Piece, Checkin, Report, Overheard, Kids}
 use Rattle.frames.specs.Reading.{Reading}
 use Rattle.frames.specs.Frames.{readFrames}
 use Rattle.rx.specs.Ending.{isAside, busyWait, Ended, nothingMore, idleEnd, replyEnd, endOf}
@@ -97,22 +95,6 @@ headFor ok words = cond ok (cond (ltb 0 (length words)) (headOf (getD words 0 0)
 
 abbrev pub manyOf : Head → ℕ → ℕ
 manyOf h n = cond (eqb (h .code) tiny) 0 n
-
-abbrev pub isPiece : Kind → Bool
-isPiece Nothing = false
-isPiece Piece = true
-isPiece Checkin = false
-isPiece Report = false
-isPiece Overheard = false
-isPiece Kids = false
-
-abbrev pub isReport : Kind → Bool
-isReport Nothing = false
-isReport Piece = false
-isReport Checkin = false
-isReport Report = true
-isReport Overheard = false
-isReport Kids = false
 
 abbrev pub framesIn : Parsed Burst → List Heard
 framesIn malformed = []

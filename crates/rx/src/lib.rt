@@ -6,9 +6,8 @@ ghost use lib.ListN.{length};
 ghost use Rattle.inbox.specs.Sizes.{cellSize};
 ghost use Rattle.words.specs.declared.Shape.the-variants.{Frames};
 ghost use Rattle.words.specs.Words.{parse, shapeOf};
-ghost use Rattle.rx.specs.Reception.{headFor, airBy, manyOf, isPiece, isReport, RxDid, burstRead, rxOf};
+ghost use Rattle.rx.specs.Reception.{headFor, airBy, manyOf, RxDid, burstRead, rxOf};
 use frames::Air;
-use frames::Kind;
 use frames::control;
 use frames::pieces;
 use net::Station;
@@ -62,8 +61,7 @@ fn read_burst(
     let mut x = frames::first_rx();
     while x.frame < n {
         let f = frames::frame_at(words, x.word);
-        let kind = frames::kind_of(words, x.word, f);
-        if is_piece(kind) {
+        if f.ty == wire::T_UP {
             let i = net::index(f.slot);
             let m = s.members[i];
             let up = m.up;
@@ -103,23 +101,38 @@ fn read_burst(
             x = frames::next_frame(x, f);
             continue;
         }
-        if is_report(kind) {
-            let slot = control::byte_in(words, x.word, f.len, 1);
-            let here = net::is_member(s.used, slot);
-            let i = net::index(slot);
-            let m = s.members[i];
-            let forwarded = control::is_forwarded(m, here, a);
-            let q = control::byte_in(words, x.word, f.len, 2);
-            let k = control::report_member(m, here, forwarded, a, q);
-            s.members[i] = k;
-            control::report_hears(&mut s.hears, here, slot, words, x.word, f.len);
-            let pending = control::is_pending(words, x.word, f.len);
-            x = control::report_rx(x, forwarded, slot, pending);
-            x = frames::next_frame(x, f);
-            continue;
-        }
         let mut end = x.at;
-        s = control::control(s, kind, f, a, words, x.word, o, &mut end);
+        // The first byte of a control frame decides its meaning; bytes not listed do nothing.
+        let first = frames::control_byte(words, x.word, f);
+        match first {
+            wire::C_CHECKIN => {
+                if 7 <= f.len {
+                    s = control::checkin(s, a, words, x.word, f.len, o, &mut end);
+                }
+            }
+            wire::C_REPORT => {
+                if 12 <= f.len {
+                    let slot = control::byte_in(words, x.word, f.len, 1);
+                    let here = net::is_member(s.used, slot);
+                    let i = net::index(slot);
+                    let m = s.members[i];
+                    let forwarded = control::is_forwarded(m, here, a);
+                    let q = control::byte_in(words, x.word, f.len, 2);
+                    let k = control::report_member(m, here, forwarded, a, q);
+                    s.members[i] = k;
+                    control::report_hears(&mut s.hears, here, slot, words, x.word, f.len);
+                    let pending = control::is_pending(words, x.word, f.len);
+                    x = control::report_rx(x, forwarded, slot, pending);
+                }
+            }
+            wire::C_OVERHEARD => {
+                s = control::overheard(s, f.slot, a, words, x.word, f.len, o, &mut end);
+            }
+            wire::C_KIDS => {
+                s = control::kids(s, f.slot, a, words, x.word, f.len, o, &mut end);
+            }
+            _ => {}
+        }
         x.at = end;
         x = frames::next_frame(x, f);
     }
@@ -158,30 +171,4 @@ fn many_of(h: Head, n: usize) -> usize
     ensures { λ r. ⌜ r ≡ manyOf h n ⌝ }
 {
     if h.code == wire::TINY { 0 } else { n }
-}
-
-fn is_piece(kind: Kind) -> bool
-    ensures { λ r. ⌜ r ≡ isPiece kind ⌝ }
-{
-    match kind {
-        Kind::Nothing => false,
-        Kind::Piece => true,
-        Kind::Checkin => false,
-        Kind::Report => false,
-        Kind::Overheard => false,
-        Kind::Kids => false,
-    }
-}
-
-fn is_report(kind: Kind) -> bool
-    ensures { λ r. ⌜ r ≡ isReport kind ⌝ }
-{
-    match kind {
-        Kind::Nothing => false,
-        Kind::Piece => false,
-        Kind::Checkin => false,
-        Kind::Report => true,
-        Kind::Overheard => false,
-        Kind::Kids => false,
-    }
 }

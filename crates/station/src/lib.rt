@@ -10,11 +10,13 @@ ghost use lib.ListN.{length};
 ghost use lib.Seq.{sets};
 ghost use Rattle.words.specs.Words.{parse, shapeOf};
 ghost use Rattle.station.specs.Entries.{startRefusal, check1, closeRefusal, cellRefusal, checkRelay, admitRefusal, nextRefusal, receiveCheck, framesOr65, answered, heardOf, startOf, admitOf, receiveOf, nextOf, sentOf, closeOf, readRefusal, readingOf, freeOf};
+ghost use Rattle.station.specs.SignOff.{signOffRefusal, signOffOf};
 use config::Given;
 use net::Station;
 use words::Shape;
 
 pub mod show;
+pub mod signoff;
 
 // A refusal's number, or how many words were written.
 pub enum Answer {
@@ -328,5 +330,36 @@ pub fn free(mut s: Station, cell: usize) -> Answered
     Answered {
         station: s,
         answer: answer_of(no, 0),
+    }
+}
+
+// ---- signing off
+
+fn sign_refusal(used: u64, slot: u8) -> u8
+    ensures { λ r. ⌜ r ≡ signOffRefusal used slot ⌝ }
+{
+    if 61 < slot {
+        return 8;
+    }
+    if net::is_member(used, slot) {
+        return 0;
+    }
+    21
+}
+
+// A boat signs off (request U3). The store is not touched.
+pub fn sign_off(s: Station, slot: u8) -> Answered
+    ensures { λ r. ⌜ r ≡ answered (signOffOf s slot) 0 ⌝ }
+{
+    let no = sign_refusal(s.used, slot);
+    if no == 0 {
+        return Answered {
+            station: signoff::sign_off(s, slot),
+            answer: Answer::Words(0),
+        };
+    }
+    Answered {
+        station: s,
+        answer: Answer::Refused(no),
     }
 }

@@ -2,7 +2,7 @@
 -- Assumes nothing.
 use mathlib.Core.Path.{_≡_, refl, sym, ap, _∙_, subst}
 use mathlib.Core.Bool.{Bool, true, false, cond, _&&_}
-use mathlib.Core.List.{List, [], _∷_, _++_}
+use mathlib.Core.List.{List, [], _∷_, _++_, append-assoc}
 use Prim.Native.Nat.{ℕ, zero, suc, _+_, _-_, _*_, _/_, _%_, _≤_, _<_}
 use native.Mathlib.Nat.{add-zero}
 use native.Mathlib.Numerals.{add-one}
@@ -164,6 +164,42 @@ pub payload-more : (l : List ℕ) (j v : ℕ) → j < 255 → v ≡ byteAt l j
     → set (bytesAt l j ++ replicate (255 - j) 0) j v ≡ bytesAt l (j + 1) ++ replicate (255 - (j + 1)) 0
 unfolding bytesAt
 payload-more l j v h e = fill (bytesAt l j) 255 j v h (length-bytes l j) ∙ rw (e, add-one j)
+
+-- the three bytes of a full word more
+pub payload-three : (l : List ℕ) (j u v w : ℕ) → j + 2 < 255 → u ≡ byteAt l j → v ≡ byteAt l (j + 1) → w ≡ byteAt l (j + 2)
+    → set (set (set (bytesAt l j ++ replicate (255 - j) 0) j u) (j + 1) v) (j + 2) w ≡ bytesAt l (j + 3) ++ replicate (255 - (j + 3)) 0
+payload-three l j u v w h p q r =
+    let two : j + 1 + 1 ≡ j + 2 = omega arith in
+    let three : j + 2 + 1 ≡ j + 3 = omega arith in
+    ap (λ (o : List ℕ). set (set o (j + 1) v) (j + 2) w) (payload-more l j u (omega arith) p)
+    ∙ ap (λ (o : List ℕ). set o (j + 2) w) (payload-more l (j + 1) v (omega arith) q ∙ ap (λ (n : ℕ). bytesAt l n ++ replicate (255 - n) 0) two)
+    ∙ payload-more l (j + 2) w h r
+    ∙ ap (λ (n : ℕ). bytesAt l n ++ replicate (255 - n) 0) three
+
+-- byte r of word k of the payload of the frame at `at`
+pub word-byte : (ws : List ℕ) (at k r : ℕ) → r < 3 → byteOf (getD ws (at + 2 + k) 0) r ≡ byteAt (drop at ws) (3 * k + r)
+word-byte ws at k r h =
+    let q : (3 * k + r) / 3 ≡ k = omega arith in
+    let m : (3 * k + r) % 3 ≡ r = omega arith in
+    rw (q, m) at (byte-at ws at (3 * k + r))
+
+bytes-none : (l : List ℕ) (n r : ℕ) → ((j : ℕ) → byteAt l j ≡ 0) → bytesAt l n ++ replicate r 0 ≡ replicate (n + r) 0
+unfolding bytesAt
+bytes-none l zero r h =
+    let e : r ≡ 0 + r = omega arith in
+    ap (λ (k : ℕ). replicate k 0) e
+bytes-none l (suc n) r h =
+    let e : n + suc r ≡ suc n + r = omega arith in
+    append-assoc (bytesAt l n) (byteAt l n ∷ []) (replicate r 0)
+    ∙ ap (λ (b : ℕ). bytesAt l n ++ (b ∷ replicate r 0)) (h n)
+    ∙ bytes-none l n (suc r) h
+    ∙ ap (λ (k : ℕ). replicate k 0) e
+
+-- past the words' end all are 0
+pub payload-none : (ws : List ℕ) (at n : ℕ) → length ws ≤ at → replicate 255 0 ≡ payloadAt (drop at ws) n
+payload-none ws at n h =
+    let m : least n 255 + (255 - least n 255) ≡ 255 = omega (arith, least-most n 255) in
+    sym (bytes-none (drop at ws) (least n 255) (255 - least n 255) (λ j. byte-none ws at j (omega arith)) ∙ ap (λ (k : ℕ). replicate k 0) m)
 
 pub length-unpack : (ws : List ℕ) → length (unpack ws) ≡ 3 * length ws
 unfolding unpack

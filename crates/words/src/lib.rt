@@ -131,7 +131,20 @@ pub fn payload(words: &[u32], at: usize, n: usize) -> [u8; 255]
 {
     let m = least(n, 255);
     let mut out = [0u8; 255];
-    let mut j: usize = 0;
+    if words.len() <= at {
+        return out;
+    }
+    let full = m / 3;
+    let mut k: usize = 0;
+    while k < full {
+        let w = word_or_zero(words, at + 2 + k);
+        let j = 3 * k;
+        out[j] = low8(w / 65536);
+        out[j + 1] = low8(w / 256);
+        out[j + 2] = low8(w);
+        k += 1;
+    }
+    let mut j = 3 * full;
     while j < m {
         out[j] = payload_byte(words, at, j);
         j += 1;

@@ -10,10 +10,10 @@ use Rattle.admit.proofs.find_call.Statement.{statement}
 use Rattle.admit.proofs.find_call.Tie as tie
 
 abbrev Inv-loop : tie.InvT-loop
-Inv-loop key s i₀ i = (i ≤ 62) × (first (hasCall s key) (62 - i) i ≡ findCall s key)
+Inv-loop s key ms i₀ i = (i ≤ 62) × (first (hasCall s key) (62 - i) i ≡ findCall s key)
 
 abbrev μ-loop : tie.MeasureT-loop
-μ-loop key s i₀ i = 62 - i
+μ-loop s key ms i₀ i = 62 - i
 
 loop-holds : tie.Need-loop-holds Inv-loop μ-loop
 unfolding findCall
@@ -22,8 +22,8 @@ loop-holds c = (omega arith, refl)
 mul-m : tie.Need-mul-m Inv-loop μ-loop
 mul-m c = omega arith
 
-element-copy-out-m : tie.Need-element-copy-out-m Inv-loop μ-loop
-element-copy-out-m c = omega arith
+array-copy-out-m : tie.Need-array-copy-out-m Inv-loop μ-loop
+array-copy-out-m c = omega arith
 
 has-requires : tie.Need-has-requires Inv-loop μ-loop
 has-requires c κs = search needs
@@ -60,7 +60,7 @@ find-call-spec =
     μ-loop
     loop-holds
     mul-m
-    element-copy-out-m
+    array-copy-out-m
     has-requires
     key-of-requires
     returns

@@ -4,29 +4,30 @@ use Prim.Native.Nat.{_≤_, _-_}
 use native.Mathlib.Omega.{arith}
 use borrow.Author.Needs.{needs}
 use Rattle.net.proofs.Laws.{index-lt}
+use Rattle.net.specs.declared.Station.{Station}
 use Rattle.admit.specs.Admission.{leadsTo}
 use Rattle.admit.proofs.Laws.{leads-there, leads-off, leads-on, leads-end}
 use Rattle.admit.proofs.leads_to.Statement.{statement}
 use Rattle.admit.proofs.leads_to.Tie as tie
 
 abbrev Inv-loop : tie.InvT-loop
-Inv-loop from to s at₀ n₀ at n = (n ≤ 62) × (leadsTo (62 - n) s at to ≡ leadsTo 62 s from to)
+Inv-loop from to ms at₀ n₀ at n = (n ≤ 62) × ((s : Station) → s .members ≡ ms → leadsTo (62 - n) s at to ≡ leadsTo 62 s from to)
 
 abbrev μ-loop : tie.MeasureT-loop
-μ-loop from to s at₀ n₀ at n = 62 - n
+μ-loop from to ms at₀ n₀ at n = 62 - n
 
 loop-holds : tie.Need-loop-holds Inv-loop μ-loop
-loop-holds c = (omega arith, refl)
+loop-holds c = (omega arith, λ s e. refl)
 
 returns : tie.Need-returns Inv-loop μ-loop
 returns c =
     let l = c .before .before .loop in
-    sym (leads-there _ _ _ _ (omega arith) (c .if1 .taken)) ∙ l .inv .1
+    sym (leads-there _ _ _ _ (omega arith) (c .if1 .taken)) ∙ l .inv .1 _ refl
 
 returns-2 : tie.Need-returns-2 Inv-loop μ-loop
 returns-2 c =
     let l = c .before .before .before .loop in
-    sym (leads-off _ _ _ _ (omega arith) (c .before .if1 .left) (c .if2 .taken)) ∙ l .inv .1
+    sym (leads-off _ _ _ _ (omega arith) (c .before .if1 .left) (c .if2 .taken)) ∙ l .inv .1 _ refl
 
 index-requires : tie.Need-index-requires Inv-loop μ-loop
 index-requires c κs = search needs
@@ -34,8 +35,8 @@ index-requires c κs = search needs
 mul-m : tie.Need-mul-m Inv-loop μ-loop
 mul-m c = omega (arith, rw (← c .index .ensures) at (index-lt (c .before .before .before .before .loop .at)))
 
-element-copy-out-m : tie.Need-element-copy-out-m Inv-loop μ-loop
-element-copy-out-m c = omega (arith, rw (← c .index .ensures) at (index-lt (c .before .before .before .before .loop .at)))
+array-copy-out-m : tie.Need-array-copy-out-m Inv-loop μ-loop
+array-copy-out-m c = omega (arith, rw (← c .index .ensures) at (index-lt (c .before .before .before .before .loop .at)))
 
 add-n : tie.Need-add-n Inv-loop μ-loop
 add-n c = omega arith
@@ -47,10 +48,10 @@ loop-again : tie.Need-loop-again Inv-loop μ-loop
 loop-again c =
     let b = c .before .before .before in
     let l = b .before .before .loop in
-    (omega arith, rw (c .before .index .ensures) (sym (leads-on _ _ _ _ (omega arith) (b .if1 .left) (omega arith)) ∙ l .inv .1))
+    (omega arith, λ s e. rw (c .before .index .ensures, ← e) (sym (leads-on _ _ _ _ (omega arith) (b .if1 .left) (omega arith)) ∙ l .inv .1 s e))
 
 returns-3 : tie.Need-returns-3 Inv-loop μ-loop
-returns-3 c = sym (leads-end _ _ _ _ (c .loop-test .left)) ∙ c .before .loop .inv .1
+returns-3 c = sym (leads-end _ _ _ _ (c .loop-test .left)) ∙ c .before .loop .inv .1 _ refl
 
 pub leads-to-spec : {M : Type 1} → statement M
 leads-to-spec =
@@ -63,7 +64,7 @@ leads-to-spec =
     returns-2
     index-requires
     mul-m
-    element-copy-out-m
+    array-copy-out-m
     add-n
     loop-less
     loop-again

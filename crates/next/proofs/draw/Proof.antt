@@ -15,10 +15,10 @@ use Rattle.next.proofs.draw.Statement.{statement}
 use Rattle.next.proofs.draw.Tie as tie
 
 abbrev Inv-loop : tie.InvT-loop
-Inv-loop s limit fourth list₀ i₀ list i = (i ≤ 62) × (fold (markIf (λ k. hasBit (s .used) k && eqb (seated s k .via) 63 && (fourth || ltb (seated s k .missed) limit))) (62 - i) i list ≡ listFor s (s .round .number))
+Inv-loop s ms limit fourth list₀ i₀ list i = (i ≤ 62) × (fold (markIf (λ k. hasBit (s .used) k && eqb (seated s k .via) 63 && (fourth || ltb (seated s k .missed) limit))) (62 - i) i list ≡ listFor s (s .round .number))
 
 abbrev μ-loop : tie.MeasureT-loop
-μ-loop s limit fourth list₀ i₀ list i = 62 - i
+μ-loop s ms limit fourth list₀ i₀ list i = 62 - i
 
 loop-holds : tie.Need-loop-holds Inv-loop μ-loop
 unfolding listFor maskWhere
@@ -27,8 +27,8 @@ loop-holds c = (omega arith, refl)
 mul-m : tie.Need-mul-m Inv-loop μ-loop
 mul-m c = search needs
 
-element-copy-out-m : tie.Need-element-copy-out-m Inv-loop μ-loop
-element-copy-out-m c = search needs
+array-copy-out-m : tie.Need-array-copy-out-m Inv-loop μ-loop
+array-copy-out-m c = search needs
 
 has-requires : tie.Need-has-requires Inv-loop μ-loop
 has-requires c κs = search needs
@@ -56,7 +56,7 @@ draw-spec =
     μ-loop
     loop-holds
     mul-m
-    element-copy-out-m
+    array-copy-out-m
     has-requires
     with-if-requires
     add-i

@@ -1,13 +1,16 @@
 -- Assumes nothing.
-use mathlib.Core.Path.{sym, ap, _∙_}
+use mathlib.Core.Path.{refl, sym, ap, _∙_}
+use mathlib.Core.Logic.{⊎-elim}
 use Rattle.out.proofs.Laws.{wrote-length}
 use Rattle.frames.specs.declared.Rx.{Rx}
+use Rattle.frames.specs.Kinds.{Piece, Checkin, Overheard, Kids}
+use Rattle.frames.proofs.ByKind.{kind-up, kind-byte, is-checkin, short-checkin, is-report, short-report, is-overheard, is-kids, is-none}
 use native.Mathlib.Omega.{arith}
 use Prim.Native.Nat.{_-_}
 use borrow.Author.Needs.{needs}
 use Rattle.net.proofs.Laws.{index-lt}
 use Rattle.rx.proofs.Turns.{Going, going-start, fits, fewer, read-done}
-use Rattle.rx.proofs.Each.{cell-lt, report-word, room-now, turn-piece, turn-report, turn-other}
+use Rattle.rx.proofs.Each.{cell-lt, room-now, turn-piece, Went, went-said, went-none, went-report}
 use Rattle.rx.proofs.read_burst.Statement.{statement}
 use Rattle.rx.proofs.read_burst.Tie as tie
 
@@ -26,20 +29,14 @@ loop-holds c = going-start _ _ _ _ _ _ _ (c .first-rx .ensures) (λ h. c .before
 frame-at-requires : tie.Need-frame-at-requires Inv-loop μ-loop
 frame-at-requires c κs = search needs
 
-kind-of-requires : tie.Need-kind-of-requires Inv-loop μ-loop
-kind-of-requires c κs = search needs
-
-is-piece-requires : tie.Need-is-piece-requires Inv-loop μ-loop
-is-piece-requires c κs = search needs
-
 index-requires : tie.Need-index-requires Inv-loop μ-loop
 index-requires c κs = search needs
 
 mul-m : tie.Need-mul-m Inv-loop μ-loop
-mul-m c = omega (arith, rw (← c .index .ensures) at (index-lt (c .before .before .before .before .frame-at .result .slot)))
+mul-m c = omega (arith, rw (← c .index .ensures) at (index-lt (c .before .before .before .frame-at .result .slot)))
 
 element-copy-out-m : tie.Need-element-copy-out-m Inv-loop μ-loop
-element-copy-out-m c = omega (arith, rw (← c .index .ensures) at (index-lt (c .before .before .before .before .frame-at .result .slot)))
+element-copy-out-m c = omega (arith, rw (← c .index .ensures) at (index-lt (c .before .before .before .frame-at .result .slot)))
 
 is-member-requires : tie.Need-is-member-requires Inv-loop μ-loop
 is-member-requires c κs = search needs
@@ -57,7 +54,7 @@ element-copy-out-before : tie.Need-element-copy-out-before Inv-loop μ-loop
 element-copy-out-before c = omega (arith, cell-lt _ _ _ _ _ _ _ _ (c .before .piece-of .ensures) (c .place-of .ensures))
 
 take-requires : tie.Need-take-requires Inv-loop μ-loop
-take-requires c κs = room-now (c .before .before .before .before .before .before .before .before .before .before .before .before .before .before .before .before .loop .inv) (c .before .before .before .before .before .before .before .before .before .before .before .before .before .before .if1 .taken) (c .before .before .before .before .before .before .before .before .before .before .before .before .before .frame-at .result) (c .before .before .before .before .before .before .before .before .before .before .before .before .before .frame-at .ensures) (c .before .before .before .before .before .before .before .before .before .before .before .before .kind-of .result) (c .before .before .before .before .before .before .before .before .before .before .before .before .kind-of .ensures) _ _ _ _ _ _ _ (c .before .before .before .piece-of .ensures) (c .before .before .before .before .before .before .before .before .before .before .before .before .before .before .before .before .before .before .before .before .before .pre (omega arith) .1)
+take-requires c κs = room-now (c .before .before .before .before .before .before .before .before .before .before .before .before .before .before .before .loop .inv) (c .before .before .before .before .before .before .before .before .before .before .before .before .before .if1 .taken) (c .before .before .before .before .before .before .before .before .before .before .before .before .frame-at .result) (c .before .before .before .before .before .before .before .before .before .before .before .before .frame-at .ensures) Piece (kind-up _ _ (c .before .before .before .before .before .before .before .before .before .before .if2 .taken)) _ _ _ _ _ _ _ (c .before .before .before .piece-of .ensures) (c .before .before .before .before .before .before .before .before .before .before .before .before .before .before .before .before .before .before .before .before .pre (omega arith) .1)
 
 mul-after : tie.Need-mul-after Inv-loop μ-loop
 mul-after c = omega (arith, cell-lt _ _ _ _ _ _ _ _ (c .before .before .before .before .before .before .before .piece-of .ensures) (c .before .before .before .before .before .before .place-of .ensures))
@@ -96,10 +93,10 @@ member-after-requires : tie.Need-member-after-requires Inv-loop μ-loop
 member-after-requires c κs = search needs
 
 mul-k : tie.Need-mul-k Inv-loop μ-loop
-mul-k c = omega (arith, rw (← c .before .before .before .before .before .before .before .before .before .before .before .before .before .before .before .before .before .before .before .before .index .ensures) at (index-lt (c .before .before .before .before .before .before .before .before .before .before .before .before .before .before .before .before .before .before .before .before .before .before .before .before .frame-at .result .slot)))
+mul-k c = omega (arith, rw (← c .before .before .before .before .before .before .before .before .before .before .before .before .before .before .before .before .before .before .before .before .index .ensures) at (index-lt (c .before .before .before .before .before .before .before .before .before .before .before .before .before .before .before .before .before .before .before .before .before .before .before .frame-at .result .slot)))
 
 element-set-from-k : tie.Need-element-set-from-k Inv-loop μ-loop
-element-set-from-k c = omega (arith, rw (← c .before .before .before .before .before .before .before .before .before .before .before .before .before .before .before .before .before .before .before .before .index .ensures) at (index-lt (c .before .before .before .before .before .before .before .before .before .before .before .before .before .before .before .before .before .before .before .before .before .before .before .before .frame-at .result .slot)))
+element-set-from-k c = omega (arith, rw (← c .before .before .before .before .before .before .before .before .before .before .before .before .before .before .before .before .before .before .before .before .index .ensures) at (index-lt (c .before .before .before .before .before .before .before .before .before .before .before .before .before .before .before .before .before .before .before .before .before .before .before .frame-at .result .slot)))
 
 is-relayed-requires : tie.Need-is-relayed-requires Inv-loop μ-loop
 is-relayed-requires c κs = search needs
@@ -120,14 +117,14 @@ with-if-requires-3 : tie.Need-with-if-requires-3 Inv-loop μ-loop
 with-if-requires-3 c κs = search needs
 
 next-frame-requires : tie.Need-next-frame-requires Inv-loop μ-loop
-next-frame-requires c κs = fits (c .before .before .before .before .before .before .before .before .before .before .before .before .before .before .before .before .before .before .before .before .before .before .before .before .before .before .before .before .before .before .before .before .before .before .before .before .before .before .loop .inv) (c .before .before .before .before .before .before .before .before .before .before .before .before .before .before .before .before .before .before .before .before .before .before .before .before .before .before .before .before .before .before .before .before .before .before .before .before .if1 .taken) (c .before .before .before .before .before .before .before .before .before .before .before .before .before .before .before .before .before .before .before .before .before .before .before .before .before .before .before .before .before .before .before .before .before .before .before .frame-at .result) (c .before .before .before .before .before .before .before .before .before .before .before .before .before .before .before .before .before .before .before .before .before .before .before .before .before .before .before .before .before .before .before .before .before .before .before .frame-at .ensures) (c .before .before .before .before .before .before .before .before .before .before .before .before .before .before .before .before .before .before .before .before .before .before .before .before .before .before .before .before .before .before .before .before .before .before .before .before .before .before .before .before .before .before .before .good .1 .1 .1 .0 .0)
+next-frame-requires c κs = fits (c .before .before .before .before .before .before .before .before .before .before .before .before .before .before .before .before .before .before .before .before .before .before .before .before .before .before .before .before .before .before .before .before .before .before .before .before .before .loop .inv) (c .before .before .before .before .before .before .before .before .before .before .before .before .before .before .before .before .before .before .before .before .before .before .before .before .before .before .before .before .before .before .before .before .before .before .before .if1 .taken) (c .before .before .before .before .before .before .before .before .before .before .before .before .before .before .before .before .before .before .before .before .before .before .before .before .before .before .before .before .before .before .before .before .before .before .frame-at .result) (c .before .before .before .before .before .before .before .before .before .before .before .before .before .before .before .before .before .before .before .before .before .before .before .before .before .before .before .before .before .before .before .before .before .before .frame-at .ensures) (c .before .before .before .before .before .before .before .before .before .before .before .before .before .before .before .before .before .before .before .before .before .before .before .before .before .before .before .before .before .before .before .before .before .before .before .before .before .before .before .before .before .before .good .1 .1 .1 .0 .0)
 
 loop-less : tie.Need-loop-less Inv-loop μ-loop
-loop-less c = fewer (ap (λ (k : Rx). k .frame) (c .next-frame .ensures)) (c .before .before .before .before .before .before .before .before .before .before .before .before .before .before .before .before .before .before .before .before .before .before .before .before .before .before .before .before .before .before .before .before .before .before .before .before .before .if1 .taken)
+loop-less c = fewer (ap (λ (k : Rx). k .frame) (c .next-frame .ensures)) (c .before .before .before .before .before .before .before .before .before .before .before .before .before .before .before .before .before .before .before .before .before .before .before .before .before .before .before .before .before .before .before .before .before .before .before .before .if1 .taken)
 
 loop-again : tie.Need-loop-again Inv-loop μ-loop
 loop-again c =
-    turn-piece (c .before .before .before .before .before .before .before .before .before .before .before .before .before .before .before .before .before .before .before .before .before .before .before .before .before .before .before .before .before .before .before .before .before .before .before .before .before .before .before .loop .inv) (c .before .before .before .before .before .before .before .before .before .before .before .before .before .before .before .before .before .before .before .before .before .before .before .before .before .before .before .before .before .before .before .before .before .before .before .before .before .if1 .taken) (c .before .before .before .before .before .before .before .before .before .before .before .before .before .before .before .before .before .before .before .before .before .before .before .before .before .before .before .before .before .before .before .before .before .before .before .before .frame-at .result) (c .before .before .before .before .before .before .before .before .before .before .before .before .before .before .before .before .before .before .before .before .before .before .before .before .before .before .before .before .before .before .before .before .before .before .before .before .frame-at .ensures) (c .before .before .before .before .before .before .before .before .before .before .before .before .before .before .before .before .before .before .before .before .before .before .before .before .before .before .before .before .before .before .before .before .before .before .before .kind-of .result) (c .before .before .before .before .before .before .before .before .before .before .before .before .before .before .before .before .before .before .before .before .before .before .before .before .before .before .before .before .before .before .before .before .before .before .before .kind-of .ensures) (sym (c .before .before .before .before .before .before .before .before .before .before .before .before .before .before .before .before .before .before .before .before .before .before .before .before .before .before .before .before .before .before .before .before .before .before .is-piece .ensures) ∙ c .before .before .before .before .before .before .before .before .before .before .before .before .before .before .before .before .before .before .before .before .before .before .before .before .before .before .before .before .before .before .before .before .before .if2 .taken)
+    turn-piece (c .before .before .before .before .before .before .before .before .before .before .before .before .before .before .before .before .before .before .before .before .before .before .before .before .before .before .before .before .before .before .before .before .before .before .before .before .before .before .loop .inv) (c .before .before .before .before .before .before .before .before .before .before .before .before .before .before .before .before .before .before .before .before .before .before .before .before .before .before .before .before .before .before .before .before .before .before .before .before .if1 .taken) (c .before .before .before .before .before .before .before .before .before .before .before .before .before .before .before .before .before .before .before .before .before .before .before .before .before .before .before .before .before .before .before .before .before .before .before .frame-at .result) (c .before .before .before .before .before .before .before .before .before .before .before .before .before .before .before .before .before .before .before .before .before .before .before .before .before .before .before .before .before .before .before .before .before .before .before .frame-at .ensures) Piece (kind-up _ _ (c .before .before .before .before .before .before .before .before .before .before .before .before .before .before .before .before .before .before .before .before .before .before .before .before .before .before .before .before .before .before .before .before .before .if2 .taken)) refl
     (c .before .before .before .before .before .before .before .before .before .before .before .before .before .before .before .before .before .before .before .before .before .before .before .before .before .before .before .before .before .before .before .before .index .ensures)
     (c .before .before .before .before .before .before .before .before .before .before .before .before .before .before .before .before .before .before .before .before .before .before .before .before .before .before .before .before .before .is-member .ensures)
     (c .before .before .before .before .before .before .before .before .before .before .before .before .before .before .before .before .before .before .before .before .before .before .before .before .before .before .piece-of .ensures)
@@ -145,8 +142,11 @@ loop-again c =
     (c .before .before .before .before .before .before .before .before .before .before .before .before .before .before .before .before .before .before .before .before .before .before .take .kept .1 .1 .1 .1 .1 .0)
     (c .next-frame .ensures)
 
-is-report-requires : tie.Need-is-report-requires Inv-loop μ-loop
-is-report-requires c κs = search needs
+control-byte-requires : tie.Need-control-byte-requires Inv-loop μ-loop
+control-byte-requires c κs = search needs
+
+checkin-requires : tie.Need-checkin-requires Inv-loop μ-loop
+checkin-requires c κs = search needs
 
 byte-in-requires : tie.Need-byte-in-requires Inv-loop μ-loop
 byte-in-requires c κs = search needs
@@ -187,48 +187,43 @@ is-pending-requires c κs = search needs
 report-rx-requires : tie.Need-report-rx-requires Inv-loop μ-loop
 report-rx-requires c κs = search needs
 
+overheard-requires : tie.Need-overheard-requires Inv-loop μ-loop
+overheard-requires c κs = search needs
+
+kids-requires : tie.Need-kids-requires Inv-loop μ-loop
+kids-requires c κs = search needs
+
+-- where the arms of the control byte meet
+went : (c : tie.At-match-came Inv-loop μ-loop) → Went (c .before .before .before .before .before .before .before .loop .inv) (c .before .before .before .before .before .if1 .taken) (c .before .before .before .before .frame-at .result) (c .before .before .before .before .frame-at .ensures) (c .match .s) (c .match .o) (c .match .x) (c .match .end)
+went c =
+    let len = c .before .before .before .before .frame-at .result .len in
+    let byte = kind-byte _ _ (c .before .before .if2 .left) (c .before .control-byte .ensures) in
+    ⊎-elim
+    (λ w. rw (w .8, w .9, w .10, w .11) (went-said (c .before .before .before .before .before .before .before .loop .inv) (c .before .before .before .before .before .if1 .taken) (c .before .before .before .before .frame-at .result) (c .before .before .before .before .frame-at .ensures) Checkin (is-checkin len (w .0 .keys1) (w .2 .taken) ∙ byte) refl (w .5 .ensures)))
+    (⊎-elim
+    (λ w. rw (w .3, w .4, w .5, w .6) (went-none (c .before .before .before .before .before .before .before .loop .inv) (c .before .before .before .before .before .if1 .taken) (c .before .before .before .before .frame-at .result) (c .before .before .before .before .frame-at .ensures) (short-checkin len (w .0 .keys1) (w .2 .left) ∙ byte)))
+    (⊎-elim
+    (λ w. rw (w .14, w .15, w .16, w .17) (went-report (c .before .before .before .before .before .before .before .loop .inv) (c .before .before .before .before .before .if1 .taken) (c .before .before .before .before .frame-at .result) (c .before .before .before .before .frame-at .ensures) (is-report len (w .0 .keys2) (w .2 .taken) ∙ byte)
+    (w .3 .ensures) (w .4 .ensures) (w .5 .ensures) (w .7 .ensures) (w .8 .ensures) (w .9 .ensures) (w .11 .ensures) (w .12 .ensures) (w .13 .ensures)))
+    (⊎-elim
+    (λ w. rw (w .3, w .4, w .5, w .6) (went-none (c .before .before .before .before .before .before .before .loop .inv) (c .before .before .before .before .before .if1 .taken) (c .before .before .before .before .frame-at .result) (c .before .before .before .before .frame-at .ensures) (short-report len (w .0 .keys2) (w .2 .left) ∙ byte)))
+    (⊎-elim
+    (λ w. rw (w .6, w .7, w .8, w .9) (went-said (c .before .before .before .before .before .before .before .loop .inv) (c .before .before .before .before .before .if1 .taken) (c .before .before .before .before .frame-at .result) (c .before .before .before .before .frame-at .ensures) Overheard (is-overheard len (w .0 .keys3) ∙ byte) refl (w .3 .ensures)))
+    (⊎-elim
+    (λ w. rw (w .6, w .7, w .8, w .9) (went-said (c .before .before .before .before .before .before .before .loop .inv) (c .before .before .before .before .before .if1 .taken) (c .before .before .before .before .frame-at .result) (c .before .before .before .before .frame-at .ensures) Kids (is-kids len (w .0 .keys4) ∙ byte) refl (w .3 .ensures)))
+    (λ w. rw (w .1, w .2, w .3, w .4) (went-none (c .before .before .before .before .before .before .before .loop .inv) (c .before .before .before .before .before .if1 .taken) (c .before .before .before .before .frame-at .result) (c .before .before .before .before .frame-at .ensures) (is-none len (w .0 .rest .0 .0 .0 .1) (w .0 .rest .0 .0 .1) (w .0 .rest .0 .1) (w .0 .rest .1) ∙ byte))))))))
+    (c .match .came)
+
 next-frame-requires-2 : tie.Need-next-frame-requires-2 Inv-loop μ-loop
 next-frame-requires-2 c κs =
-    let r = report-word (c .before .before .before .before .before .before .before .before .before .before .before .before .before .before .before .before .before .before .before .loop .x) (c .before .before .before .before .before .before .is-forwarded .result) (c .before .before .before .before .before .before .before .before .before .before .byte-in .result) (c .before .is-pending .result) (c .report-rx .ensures) in
-    rw (r .0, r .1) (fits (c .before .before .before .before .before .before .before .before .before .before .before .before .before .before .before .before .before .before .before .loop .inv) (c .before .before .before .before .before .before .before .before .before .before .before .before .before .before .before .before .before .if1 .taken) (c .before .before .before .before .before .before .before .before .before .before .before .before .before .before .before .before .frame-at .result) (c .before .before .before .before .before .before .before .before .before .before .before .before .before .before .before .before .frame-at .ensures) (c .before .before .before .before .before .before .before .before .before .before .before .before .before .before .before .before .before .before .before .before .before .before .before .before .good .1 .1 .1 .0 .0))
+    let r = went c in
+    rw (r .word, r .frame) (fits (c .before .before .before .before .before .before .before .loop .inv) (c .before .before .before .before .before .if1 .taken) (c .before .before .before .before .frame-at .result) (c .before .before .before .before .frame-at .ensures) (c .before .before .before .before .before .before .before .before .before .before .before .before .good .1 .1 .1 .0 .0))
 
 loop-less-2 : tie.Need-loop-less-2 Inv-loop μ-loop
-loop-less-2 c =
-    let r = report-word (c .before .before .before .before .before .before .before .before .before .before .before .before .before .before .before .before .before .before .before .before .loop .x) (c .before .before .before .before .before .before .before .is-forwarded .result) (c .before .before .before .before .before .before .before .before .before .before .before .byte-in .result) (c .before .before .is-pending .result) (c .before .report-rx .ensures) in
-    fewer (ap (λ (k : Rx). k .frame) (c .next-frame2 .ensures) ∙ (rw (r .1))) (c .before .before .before .before .before .before .before .before .before .before .before .before .before .before .before .before .before .before .if1 .taken)
+loop-less-2 c = fewer (ap (λ (k : Rx). k .frame) (c .next-frame2 .ensures) ∙ (rw (went (c .before) .frame))) (c .before .before .before .before .before .before .if1 .taken)
 
 loop-again-2 : tie.Need-loop-again-2 Inv-loop μ-loop
-loop-again-2 c =
-    let r = report-word (c .before .before .before .before .before .before .before .before .before .before .before .before .before .before .before .before .before .before .before .before .loop .x) (c .before .before .before .before .before .before .before .is-forwarded .result) (c .before .before .before .before .before .before .before .before .before .before .before .byte-in .result) (c .before .before .is-pending .result) (c .before .report-rx .ensures) in
-    turn-report (c .before .before .before .before .before .before .before .before .before .before .before .before .before .before .before .before .before .before .before .before .loop .inv) (c .before .before .before .before .before .before .before .before .before .before .before .before .before .before .before .before .before .before .if1 .taken) (c .before .before .before .before .before .before .before .before .before .before .before .before .before .before .before .before .before .frame-at .result) (c .before .before .before .before .before .before .before .before .before .before .before .before .before .before .before .before .before .frame-at .ensures) (c .before .before .before .before .before .before .before .before .before .before .before .before .before .before .before .before .kind-of .result) (c .before .before .before .before .before .before .before .before .before .before .before .before .before .before .before .before .kind-of .ensures) (sym (c .before .before .before .before .before .before .before .before .before .before .before .before .before .is-report .ensures) ∙ c .before .before .before .before .before .before .before .before .before .before .before .before .if3 .taken)
-    (c .before .before .before .before .before .before .before .before .before .before .before .byte-in .ensures)
-    (c .before .before .before .before .before .before .before .before .before .before .is-member2 .ensures)
-    (c .before .before .before .before .before .before .before .before .before .index2 .ensures)
-    (c .before .before .before .before .before .before .before .is-forwarded .ensures)
-    (c .before .before .before .before .before .before .byte-in2 .ensures)
-    (c .before .before .before .before .before .report-member .ensures)
-    (c .before .before .before .report-hears .ensures)
-    (c .before .before .is-pending .ensures)
-    (c .before .report-rx .ensures)
-    (r .0)
-    (r .1)
-    (r .2)
-    (c .next-frame2 .ensures)
-
-control-requires : tie.Need-control-requires Inv-loop μ-loop
-control-requires c κs = search needs
-
-next-frame-requires-3 : tie.Need-next-frame-requires-3 Inv-loop μ-loop
-next-frame-requires-3 c κs = fits (c .before .before .before .before .before .before .before .before .before .before .before .before .before .loop .inv) (c .before .before .before .before .before .before .before .before .before .before .before .if1 .taken) (c .before .before .before .before .before .before .before .before .before .before .frame-at .result) (c .before .before .before .before .before .before .before .before .before .before .frame-at .ensures) (c .before .before .before .before .before .before .before .before .before .before .before .before .before .before .before .before .before .before .good .1 .1 .1 .0 .0)
-
-loop-less-3 : tie.Need-loop-less-3 Inv-loop μ-loop
-loop-less-3 c = fewer (ap (λ (k : Rx). k .frame) (c .next-frame3 .ensures)) (c .before .before .before .before .before .before .before .before .before .before .before .before .if1 .taken)
-
-loop-again-3 : tie.Need-loop-again-3 Inv-loop μ-loop
-loop-again-3 c =
-    turn-other (c .before .before .before .before .before .before .before .before .before .before .before .before .before .before .loop .inv) (c .before .before .before .before .before .before .before .before .before .before .before .before .if1 .taken) (c .before .before .before .before .before .before .before .before .before .before .before .frame-at .result) (c .before .before .before .before .before .before .before .before .before .before .before .frame-at .ensures) (c .before .before .before .before .before .before .before .before .before .before .kind-of .result) (c .before .before .before .before .before .before .before .before .before .before .kind-of .ensures) (sym (c .before .before .before .before .before .before .before .before .before .is-piece .ensures) ∙ c .before .before .before .before .before .before .before .before .if2 .left) (sym (c .before .before .before .before .before .before .before .is-report .ensures) ∙ c .before .before .before .before .before .before .if3 .left)
-    (c .before .before .before .control .ensures)
-    (c .next-frame3 .ensures)
+loop-again-2 c = went (c .before) .on (c .next-frame2 .ensures)
 
 finish-requires : tie.Need-finish-requires Inv-loop μ-loop
 finish-requires c κs = search needs
@@ -251,8 +246,6 @@ read-burst-spec =
     first-rx-requires
     loop-holds
     frame-at-requires
-    kind-of-requires
-    is-piece-requires
     index-requires
     mul-m
     element-copy-out-m
@@ -285,7 +278,8 @@ read-burst-spec =
     next-frame-requires
     loop-less
     loop-again
-    is-report-requires
+    control-byte-requires
+    checkin-requires
     byte-in-requires
     is-member-requires-2
     index-requires-2
@@ -299,13 +293,11 @@ read-burst-spec =
     report-hears-requires
     is-pending-requires
     report-rx-requires
+    overheard-requires
+    kids-requires
     next-frame-requires-2
     loop-less-2
     loop-again-2
-    control-requires
-    next-frame-requires-3
-    loop-less-3
-    loop-again-3
     finish-requires
     same-length
     same-length-2

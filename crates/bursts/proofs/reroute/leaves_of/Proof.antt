@@ -10,10 +10,10 @@ use Rattle.bursts.proofs.reroute.leaves_of.Statement.{statement}
 use Rattle.bursts.proofs.reroute.leaves_of.Tie as tie
 
 abbrev Inv-loop : tie.InvT-loop
-Inv-loop s limit leaves₀ i₀ leaves i = (i ≤ 62) × (fold (markIf (leafAt s)) (62 - i) i leaves ≡ leavesOf s)
+Inv-loop s ms limit leaves₀ i₀ leaves i = (i ≤ 62) × (fold (markIf (leafAt s)) (62 - i) i leaves ≡ leavesOf s)
 
 abbrev μ-loop : tie.MeasureT-loop
-μ-loop s limit leaves₀ i₀ leaves i = 62 - i
+μ-loop s ms limit leaves₀ i₀ leaves i = 62 - i
 
 loop-holds : tie.Need-loop-holds Inv-loop μ-loop
 unfolding maskWhere
@@ -22,8 +22,8 @@ loop-holds c = (omega arith, refl)
 mul-m : tie.Need-mul-m Inv-loop μ-loop
 mul-m c = omega arith
 
-element-copy-out-m : tie.Need-element-copy-out-m Inv-loop μ-loop
-element-copy-out-m c = omega arith
+array-copy-out-m : tie.Need-array-copy-out-m Inv-loop μ-loop
+array-copy-out-m c = omega arith
 
 has-requires : tie.Need-has-requires Inv-loop μ-loop
 has-requires c κs = tt
@@ -57,7 +57,7 @@ leaves-of-spec =
     μ-loop
     loop-holds
     mul-m
-    element-copy-out-m
+    array-copy-out-m
     has-requires
     is-leaf-requires
     with-if-requires

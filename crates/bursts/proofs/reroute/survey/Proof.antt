@@ -11,14 +11,14 @@ use Rattle.bursts.proofs.reroute.survey.Statement.{statement}
 use Rattle.bursts.proofs.reroute.survey.Tie as tie
 
 abbrev Inv-loop : tie.InvT-loop
-Inv-loop s able₀ needs₀ tried₀ i₀ able needs tried i =
+Inv-loop s ms able₀ needs₀ tried₀ i₀ able needs tried i =
     (i ≤ 62)
     × (fold (markIf (ableAt s)) (62 - i) i able ≡ ableOf s)
     × (fold (markIf (needsAt s)) (62 - i) i needs ≡ needsOf s)
     × (fold (triedAt s) (62 - i) i tried ≡ triedOf s)
 
 abbrev μ-loop : tie.MeasureT-loop
-μ-loop s able₀ needs₀ tried₀ i₀ able needs tried i = 62 - i
+μ-loop s ms able₀ needs₀ tried₀ i₀ able needs tried i = 62 - i
 
 loop-holds : tie.Need-loop-holds Inv-loop μ-loop
 unfolding maskWhere triedOf
@@ -27,8 +27,8 @@ loop-holds c = (omega arith, refl, refl, refl)
 mul-m : tie.Need-mul-m Inv-loop μ-loop
 mul-m c = omega arith
 
-element-copy-out-m : tie.Need-element-copy-out-m Inv-loop μ-loop
-element-copy-out-m c = omega arith
+array-copy-out-m : tie.Need-array-copy-out-m Inv-loop μ-loop
+array-copy-out-m c = omega arith
 
 has-requires : tie.Need-has-requires Inv-loop μ-loop
 has-requires c κs = tt
@@ -78,7 +78,7 @@ survey-spec =
     μ-loop
     loop-holds
     mul-m
-    element-copy-out-m
+    array-copy-out-m
     has-requires
     could-relay-requires
     with-if-requires

@@ -2,18 +2,21 @@
 use mathlib.Core.Path.{_≡_, refl}
 use Prim.Native.Nat.{_≤_, _-_}
 use native.Mathlib.Omega.{arith}
-use Rattle.bursts.specs.Rows.{ackAt, ackRow}
-use lib.ListN.{length, take}
+use mathlib.Core.List.{_∷_}
+use lib.ListN.{length, getD, take}
+use Rattle.wire.specs.Call.{packCall}
+use Rattle.roster.specs.Members.{noMember}
+use Rattle.bursts.specs.Rows.{ackAt}
 use borrow.Author.Needs.{needs}
 use Rattle.bursts.proofs.Filling.{Rows, front-most, rows-from, rows-turn, rows-end}
 use Rattle.bursts.proofs.rows.ack_rows_on.Statement.{statement}
 use Rattle.bursts.proofs.rows.ack_rows_on.Tie as tie
 
 abbrev Inv-loop : tie.InvT-loop
-Inv-loop mask most rows₀ from s n₀ i₀ rows n i = (i ≤ 62) × (length rows ≡ length rows₀) × Rows (ackAt mask most) (ackRow s) 6 (take from rows₀) i n rows
+Inv-loop mask most rows₀ from ms n₀ i₀ rows n i = (i ≤ 62) × (length rows ≡ length rows₀) × Rows (ackAt mask most) (λ k. k ∷ packCall (getD ms k noMember .call)) 6 (take from rows₀) i n rows
 
 abbrev μ-loop : tie.MeasureT-loop
-μ-loop mask most rows₀ from s n₀ i₀ rows n i = 62 - i
+μ-loop mask most rows₀ from ms n₀ i₀ rows n i = 62 - i
 
 loop-holds : tie.Need-loop-holds Inv-loop μ-loop
 loop-holds c = (omega arith, refl, rows-from _ _ 6 _ _ (omega arith))
@@ -21,8 +24,8 @@ loop-holds c = (omega arith, refl, rows-from _ _ 6 _ _ (omega arith))
 mul-m : tie.Need-mul-m Inv-loop μ-loop
 mul-m c = omega arith
 
-element-copy-out-m : tie.Need-element-copy-out-m Inv-loop μ-loop
-element-copy-out-m c = omega arith
+array-copy-out-m : tie.Need-array-copy-out-m Inv-loop μ-loop
+array-copy-out-m c = omega arith
 
 has-requires : tie.Need-has-requires Inv-loop μ-loop
 has-requires c κs = tt
@@ -33,7 +36,7 @@ cast-ack-row c = omega arith
 ack-row-requires : tie.Need-ack-row-requires Inv-loop μ-loop
 ack-row-requires c κs =
     let l = c .before .before .before .before .loop in
-    let a = c .before .before .before .before .before .before .args in
+    let a = c .before .before .before .before .before .before .before .args in
     omega (arith, l .inv .2 .most, l .inv .1, front-most (a .from) (a .rows .now))
 
 add-i : tie.Need-add-i Inv-loop μ-loop
@@ -62,7 +65,7 @@ ack-rows-on-spec =
     μ-loop
     loop-holds
     mul-m
-    element-copy-out-m
+    array-copy-out-m
     has-requires
     cast-ack-row
     ack-row-requires

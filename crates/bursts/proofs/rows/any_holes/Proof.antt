@@ -9,10 +9,10 @@ use Rattle.bursts.proofs.rows.any_holes.Statement.{statement}
 use Rattle.bursts.proofs.rows.any_holes.Tie as tie
 
 abbrev Inv-loop : tie.InvT-loop
-Inv-loop s i₀ i = (i ≤ 62) × (any (holeAt s) (62 - i) i ≡ anyHoles s)
+Inv-loop s ms i₀ i = (i ≤ 62) × (any (holeAt s) (62 - i) i ≡ anyHoles s)
 
 abbrev μ-loop : tie.MeasureT-loop
-μ-loop s i₀ i = 62 - i
+μ-loop s ms i₀ i = 62 - i
 
 loop-holds : tie.Need-loop-holds Inv-loop μ-loop
 loop-holds c = (omega arith, refl)
@@ -20,8 +20,8 @@ loop-holds c = (omega arith, refl)
 mul-m : tie.Need-mul-m Inv-loop μ-loop
 mul-m c = omega arith
 
-element-copy-out-m : tie.Need-element-copy-out-m Inv-loop μ-loop
-element-copy-out-m c = omega arith
+array-copy-out-m : tie.Need-array-copy-out-m Inv-loop μ-loop
+array-copy-out-m c = omega arith
 
 has-requires : tie.Need-has-requires Inv-loop μ-loop
 has-requires c κs = tt
@@ -33,7 +33,7 @@ returns : tie.Need-returns Inv-loop μ-loop
 returns c =
     let l = c .before .before .before .before .before .before .loop in
     let h = c .before .before .before .before .before .loop-test .taken in
-    sym (any-stop (holeAt (c .before .before .before .before .before .before .before .args .t1)) 62 (l .i) h (rw (← c .before .holes .ensures, ← c .before .before .has .ensures) (c .if1 .taken))) ∙ l .inv .1
+    sym (any-stop (holeAt (c .before .before .before .before .before .before .before .before .args .s)) 62 (l .i) h (rw (← c .before .holes .ensures, ← c .before .before .has .ensures) (c .if1 .taken))) ∙ l .inv .1
 
 add-i : tie.Need-add-i Inv-loop μ-loop
 add-i c = omega arith
@@ -45,10 +45,10 @@ loop-again : tie.Need-loop-again Inv-loop μ-loop
 loop-again c =
     let l = c .before .before .before .before .before .before .loop in
     let h = c .before .before .before .before .before .loop-test .taken in
-    (omega arith, sym (any-pass (holeAt (c .before .before .before .before .before .before .before .args .t1)) 62 (l .i) h (rw (← c .before .holes .ensures, ← c .before .before .has .ensures) (c .if1 .left))) ∙ l .inv .1)
+    (omega arith, sym (any-pass (holeAt (c .before .before .before .before .before .before .before .before .args .s)) 62 (l .i) h (rw (← c .before .holes .ensures, ← c .before .before .has .ensures) (c .if1 .left))) ∙ l .inv .1)
 
 returns-2 : tie.Need-returns-2 Inv-loop μ-loop
-returns-2 c = sym (any-end (holeAt (c .before .before .args .t1)) _ _ (c .loop-test .left)) ∙ c .before .loop .inv .1
+returns-2 c = sym (any-end (holeAt (c .before .before .before .args .s)) _ _ (c .loop-test .left)) ∙ c .before .loop .inv .1
 
 pub any-holes-spec : {M : Type 1} → statement M
 any-holes-spec =
@@ -58,7 +58,7 @@ any-holes-spec =
     μ-loop
     loop-holds
     mul-m
-    element-copy-out-m
+    array-copy-out-m
     has-requires
     holes-requires
     returns

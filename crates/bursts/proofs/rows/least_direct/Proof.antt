@@ -9,10 +9,10 @@ use Rattle.bursts.proofs.rows.least_direct.Statement.{statement}
 use Rattle.bursts.proofs.rows.least_direct.Tie as tie
 
 abbrev Inv-loop : tie.InvT-loop
-Inv-loop s g lev₀ i₀ lev i = (i ≤ 62) × (orFloor (fold (directAt s) (62 - i) i lev) ≡ leastDirect s)
+Inv-loop s ms g lev₀ i₀ lev i = (i ≤ 62) × (orFloor (fold (directAt s) (62 - i) i lev) ≡ leastDirect s)
 
 abbrev μ-loop : tie.MeasureT-loop
-μ-loop s g lev₀ i₀ lev i = 62 - i
+μ-loop s ms g lev₀ i₀ lev i = 62 - i
 
 loop-holds : tie.Need-loop-holds Inv-loop μ-loop
 unfolding leastDirect
@@ -21,8 +21,8 @@ loop-holds c = (omega arith, refl)
 mul-m : tie.Need-mul-m Inv-loop μ-loop
 mul-m c = omega arith
 
-element-copy-out-m : tie.Need-element-copy-out-m Inv-loop μ-loop
-element-copy-out-m c = omega arith
+array-copy-out-m : tie.Need-array-copy-out-m Inv-loop μ-loop
+array-copy-out-m c = omega arith
 
 has-requires : tie.Need-has-requires Inv-loop μ-loop
 has-requires c κs = tt
@@ -62,7 +62,7 @@ least-direct-spec =
     μ-loop
     loop-holds
     mul-m
-    element-copy-out-m
+    array-copy-out-m
     has-requires
     is-direct-requires
     down-level-requires

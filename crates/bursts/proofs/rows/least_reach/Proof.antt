@@ -10,10 +10,10 @@ use Rattle.bursts.proofs.rows.least_reach.Statement.{statement}
 use Rattle.bursts.proofs.rows.least_reach.Tie as tie
 
 abbrev Inv-loop : tie.InvT-loop
-Inv-loop mask s g lev₀ i₀ lev i = (i ≤ 62) × (orFloor (fold (reachAt s mask) (62 - i) i lev) ≡ leastReach s mask)
+Inv-loop s mask ms g lev₀ i₀ lev i = (i ≤ 62) × (orFloor (fold (reachAt s mask) (62 - i) i lev) ≡ leastReach s mask)
 
 abbrev μ-loop : tie.MeasureT-loop
-μ-loop mask s g lev₀ i₀ lev i = 62 - i
+μ-loop s mask ms g lev₀ i₀ lev i = 62 - i
 
 loop-holds : tie.Need-loop-holds Inv-loop μ-loop
 unfolding leastReach
@@ -22,8 +22,8 @@ loop-holds c = (omega arith, refl)
 mul-m : tie.Need-mul-m Inv-loop μ-loop
 mul-m c = omega arith
 
-element-copy-out-m : tie.Need-element-copy-out-m Inv-loop μ-loop
-element-copy-out-m c = omega arith
+array-copy-out-m : tie.Need-array-copy-out-m Inv-loop μ-loop
+array-copy-out-m c = omega arith
 
 index-requires : tie.Need-index-requires Inv-loop μ-loop
 index-requires c κs = tt
@@ -31,13 +31,13 @@ index-requires c κs = tt
 mul-p : tie.Need-mul-p Inv-loop μ-loop
 mul-p c =
     let e = c .index .ensures in
-    let h = index-lt (seated (c .before .before .before .before .before .args .t1) (c .before .before .before .loop .i) .via) in
+    let h = index-lt (seated (c .before .before .before .before .before .before .args .s) (c .before .before .before .loop .i) .via) in
     omega (arith, rw (← e) at h)
 
-element-copy-out-p : tie.Need-element-copy-out-p Inv-loop μ-loop
-element-copy-out-p c =
+array-copy-out-p : tie.Need-array-copy-out-p Inv-loop μ-loop
+array-copy-out-p c =
     let e = c .index .ensures in
-    let h = index-lt (seated (c .before .before .before .before .before .args .t1) (c .before .before .before .loop .i) .via) in
+    let h = index-lt (seated (c .before .before .before .before .before .before .args .s) (c .before .before .before .loop .i) .via) in
     omega (arith, rw (← e) at h)
 
 has-requires : tie.Need-has-requires Inv-loop μ-loop
@@ -75,10 +75,10 @@ least-reach-spec =
     μ-loop
     loop-holds
     mul-m
-    element-copy-out-m
+    array-copy-out-m
     index-requires
     mul-p
-    element-copy-out-p
+    array-copy-out-p
     has-requires
     reach-level-requires
     least-if-requires

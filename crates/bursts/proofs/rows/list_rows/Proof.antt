@@ -9,10 +9,10 @@ use Rattle.bursts.proofs.rows.list_rows.Statement.{statement}
 use Rattle.bursts.proofs.rows.list_rows.Tie as tie
 
 abbrev Inv-loop : tie.InvT-loop
-Inv-loop rows₀ s n₀ i₀ rows n i = (i ≤ 62) × Rows (listAt s) (listRow s) 3 [] i n rows
+Inv-loop s rows₀ ms n₀ i₀ rows n i = (i ≤ 62) × Rows (listAt s) (listRow s) 3 [] i n rows
 
 abbrev μ-loop : tie.MeasureT-loop
-μ-loop rows₀ s n₀ i₀ rows n i = 62 - i
+μ-loop s rows₀ ms n₀ i₀ rows n i = 62 - i
 
 loop-holds : tie.Need-loop-holds Inv-loop μ-loop
 loop-holds c = (omega arith, rows-start _ _ 3 _)
@@ -20,8 +20,8 @@ loop-holds c = (omega arith, rows-start _ _ 3 _)
 mul-m : tie.Need-mul-m Inv-loop μ-loop
 mul-m c = omega arith
 
-element-copy-out-m : tie.Need-element-copy-out-m Inv-loop μ-loop
-element-copy-out-m c = omega arith
+array-copy-out-m : tie.Need-array-copy-out-m Inv-loop μ-loop
+array-copy-out-m c = omega arith
 
 has-requires : tie.Need-has-requires Inv-loop μ-loop
 has-requires c κs = tt
@@ -58,7 +58,7 @@ list-rows-spec =
     μ-loop
     loop-holds
     mul-m
-    element-copy-out-m
+    array-copy-out-m
     has-requires
     is-news-requires
     cast-list-row

@@ -1,18 +1,22 @@
 -- Assumes nothing.
 use mathlib.Core.Path.{refl}
-use mathlib.Core.List.{[]}
+use mathlib.Core.Bool.{not, _&&_, _||_}
+use mathlib.Core.List.{[], _∷_}
 use Prim.Native.Nat.{_≤_, _-_}
 use native.Mathlib.Omega.{arith}
-use Rattle.bursts.specs.Rows.{treeAt, treeRow}
+use lib.Dec.{eqb}
+use lib.ListN.{getD}
+use Rattle.bits.specs.Mask.{hasBit}
+use Rattle.roster.specs.Members.{noMember}
 use Rattle.bursts.proofs.Filling.{Rows, rows-start, rows-turn, rows-end}
 use Rattle.bursts.proofs.rows.tree_rows.Statement.{statement}
 use Rattle.bursts.proofs.rows.tree_rows.Tie as tie
 
 abbrev Inv-loop : tie.InvT-loop
-Inv-loop mask moved rows₀ s n₀ i₀ rows n i = (i ≤ 62) × Rows (treeAt s mask moved) (treeRow s) 2 [] i n rows
+Inv-loop mask moved rows₀ ms n₀ i₀ rows n i = (i ≤ 62) × Rows (λ k bs. hasBit mask k && (not (eqb (getD ms k noMember .via) 63) || hasBit moved k)) (λ k. k ∷ getD ms k noMember .via ∷ []) 2 [] i n rows
 
 abbrev μ-loop : tie.MeasureT-loop
-μ-loop mask moved rows₀ s n₀ i₀ rows n i = 62 - i
+μ-loop mask moved rows₀ ms n₀ i₀ rows n i = 62 - i
 
 loop-holds : tie.Need-loop-holds Inv-loop μ-loop
 loop-holds c = (omega arith, rows-start _ _ 2 _)
@@ -20,8 +24,8 @@ loop-holds c = (omega arith, rows-start _ _ 2 _)
 mul-m : tie.Need-mul-m Inv-loop μ-loop
 mul-m c = omega arith
 
-element-copy-out-m : tie.Need-element-copy-out-m Inv-loop μ-loop
-element-copy-out-m c = omega arith
+array-copy-out-m : tie.Need-array-copy-out-m Inv-loop μ-loop
+array-copy-out-m c = omega arith
 
 has-requires : tie.Need-has-requires Inv-loop μ-loop
 has-requires c κs = tt
@@ -58,7 +62,7 @@ tree-rows-spec =
     μ-loop
     loop-holds
     mul-m
-    element-copy-out-m
+    array-copy-out-m
     has-requires
     has-requires-2
     cast-tree-row

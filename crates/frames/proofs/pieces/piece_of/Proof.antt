@@ -13,9 +13,6 @@ widen8-requires c κs = search needs
 enum-known-n : tie.Need-enum-known-n
 enum-known-n c = search needs
 
-numbered-requires : tie.Need-numbered-requires
-numbered-requires c κs = search needs
-
 enum-told : tie.Need-enum-told
 enum-told c = search needs
 
@@ -24,11 +21,14 @@ unwanted-requires c κs = search needs
 
 returns : tie.Need-returns
 unfolding pieceOf
-returns c = rw (← c .before .before .before .before .before .high8 .ensures, ← c .before .before .before .before .widen8 .ensures, c .before .before .n .given .1) (c .numbered .ensures)
+returns c = rw (← c .before .before .before .before .high8 .ensures, ← c .before .before .before .widen8 .ensures, c .before .enum-told .given .1) (c .unwanted .ensures)
+
+numbered-requires : tie.Need-numbered-requires
+numbered-requires c κs = search needs
 
 returns-2 : tie.Need-returns-2
 unfolding pieceOf
-returns-2 c = rw (← c .before .before .before .before .high8 .ensures, ← c .before .before .before .widen8 .ensures, c .before .enum-told .given .1) (c .unwanted .ensures)
+returns-2 c = rw (← c .before .before .before .before .before .high8 .ensures, ← c .before .before .before .before .widen8 .ensures, c .before .before .n .given .1) (c .numbered .ensures)
 
 pub piece-of-spec : {M : Type 1} → statement M
 piece-of-spec =
@@ -37,8 +37,8 @@ piece-of-spec =
     high8-requires
     widen8-requires
     enum-known-n
-    numbered-requires
     enum-told
     unwanted-requires
     returns
+    numbered-requires
     returns-2)

@@ -1,0 +1,162 @@
+-- The definitions run over a sign-off: a boat hands over number 0, signs off, and the next holder of its slot hands over its own number 0. And a piece of a former
+-- stay is not to arrive: `former` breaks that premise alone, and the promise is refuted. By computation; assumes nothing.
+use mathlib.Core.Path.{_≡_, refl, ap, subst}
+use mathlib.Core.Bool.{cond}
+use mathlib.Core.List.{List, [], _∷_}
+use Prim.Native.Nat.{ℕ, _≤_}
+use native.Mathlib.Omega.{arith}
+use lib.Dec.{eqb}
+use lib.ListN.{length, getD, replicate}
+use Rattle.bits.specs.Loop.{first, fold}
+use Rattle.bits.specs.Mask.{hasBit, withBit, withoutBit, lowestFree}
+use Rattle.bits.specs.Stop.{stop}
+use Rattle.bits.proofs.Lists.{cond-keeps}
+use Rattle.level.specs.declared.Level.the-variants.{Unheard}
+use Rattle.level.specs.declared.Clock.the-variants.{At}
+use Rattle.wire.specs.Call.{digit, char, trimStart, trimEnd, unpacked, packCall}
+use Rattle.wire.specs.Numbers.{widened, widenedAt}
+use Rattle.words.specs.Words.{heard, wordOk, payloadOk, unpack, payload, frameOf, itemAt, framesOf, headOk, parse}
+use Rattle.out.specs.Encode.{pack, framesWords}
+use Rattle.inbox.specs.Cells.{seek, next, grow, settle}
+use Rattle.inbox.specs.Cells as cells
+use Rattle.inbox.specs.Messages.{framed}
+use Rattle.stream.specs.Window.{slideOf}
+use Rattle.stream.specs.Table.{ownCell, putOf, accept}
+use Rattle.roster.specs.Members.{tally}
+use Rattle.net.specs.declared.Settings.{Settings}
+use Rattle.net.specs.declared.Station.{Station}
+use Rattle.net.specs.declared.Turn.the-variants.{Waiting}
+use Rattle.net.specs.declared.Wait.{Wait}
+use Rattle.net.specs.State.{memberAt}
+use Rattle.net.specs.Net.{isMember, newStation, waitOf, idleWait}
+use Rattle.admit.specs.Admission.{findCall, seatOf, leadsTo}
+use Rattle.frames.specs.Pieces.{pieceFrame}
+use Rattle.frames.specs.Frames.{readFrame, frameStep, readFrames}
+use Rattle.rx.specs.Ending.{replyEnd}
+use Rattle.rx.specs.Reception.{ncsRx}
+use Rattle.config.specs.declared.Given.{Given}
+use Rattle.config.specs.Checks.{settingsOf}
+use Rattle.station.specs.Entries.{startRefusal, admitRefusal, admitOf, receiveRefusal, receiveOf, cellRefusal, readRefusal, readingOf}
+use Rattle.station.specs.SignOff.{bereaveAt, bereaveAll, clearAt, clearAll, unhearAt, unhearAll, strikeWait, signOff, signOffRefusal, signOffOf}
+use Rattle.promise.specs.Promise.{handed, Net, Call, admission, reading, signing, result, outcome, step, after, started, Stays, emptyBook, cover, alsoHanded, allBelow, bookFrame, bookFrames, eventsIn, answersOf, bookEnds, CallsOk, Holds, handedIn, Messages}
+use Rattle.promise.proofs.Item3.{item-3}
+use Rattle.promise.proofs.Runs.{nought, one-cell, starts, joins, hears, hi, apart, near}
+
+-- every message of a first stay is "hi", and of a later one "ho"
+abbrev pub hi-then-ho : Stays
+hi-then-ho s t k = cond (eqb t 0) (104 ∷ 105 ∷ []) (104 ∷ 111 ∷ [])
+
+-- boat B is admitted
+abbrev joins-too : Call
+joins-too = admission (packCall (66 ∷ 32 ∷ 32 ∷ 32 ∷ 32 ∷ 32 ∷ 32 ∷ [])) 63 nought 8192
+
+-- number 0 of slot 0 once more, "ho"
+abbrev ho : Call
+ho = hears (heard 0 0 (framed (104 ∷ 111 ∷ [])) ∷ []) (0 ∷ [])
+
+abbrev pub stay-calls : List Call
+stay-calls = joins ∷ hi ∷ signing 0 ∷ reading 0 handed ∷ joins-too ∷ ho ∷ reading 0 handed ∷ []
+
+pub record StayRun (g : Settings) : Type 0 where
+  -- the message is landed, unread, in the one cell; the sign-off frees slot and cell, and says nothing
+  pub taken : after (joins ∷ hi ∷ []) (one-cell g) .station .landed ≡ 1
+  pub freed : after (joins ∷ hi ∷ signing 0 ∷ []) (one-cell g) .station .busy ≡ 0
+  pub gone : after (joins ∷ hi ∷ signing 0 ∷ []) (one-cell g) .station .used ≡ 0
+  pub silent : outcome (signing 0) (after (joins ∷ hi ∷ []) (one-cell g)) .words ≡ []
+  pub nobody : outcome (signing 0) (after (joins ∷ hi ∷ signing 0 ∷ []) (one-cell g)) .refusal ≡ 21
+  pub no-slot : outcome (signing 62) (one-cell g) .refusal ≡ 8
+  pub unread : outcome (reading 0 handed) (after (joins ∷ hi ∷ signing 0 ∷ []) (one-cell g)) .refusal ≡ 22
+  -- number 0 again, in another stay
+  pub events : answersOf ho (after (joins ∷ hi ∷ signing 0 ∷ joins-too ∷ []) (one-cell g)) .events ≡ record { slot = 0; cell = 0; number = 0 } ∷ []
+  pub book : handedIn hi-then-ho stay-calls (one-cell g) emptyBook ≡ record { slot = 0; stay = 0; number = 0 } ∷ record { slot = 0; stay = 1; number = 0 } ∷ []
+  pub read : readingOf (after stay-calls (one-cell g) .station) (after stay-calls (one-cell g) .store) 0 ≡ 104 ∷ 111 ∷ []
+
+pub stay-run : (g : Settings) → StayRun g
+unfolding step after result admitOf admitRefusal newStation seatOf findCall first fold lowestFree hasBit withBit withoutBit leadsTo unpacked digit char trimStart trimEnd receiveOf receiveRefusal parse headOk framesOf itemAt frameOf payload unpack payloadOk wordOk pack framesWords ncsRx readFrames frameStep readFrame pieceFrame replyEnd isMember accept widened widenedAt ownCell putOf cells.accept settle grow seek next slideOf stop eventsIn handedIn bookFrames bookFrame cover alsoHanded allBelow readRefusal cellRefusal readingOf signOffOf signOffRefusal signOff bereaveAll bereaveAt clearAll clearAt unhearAll unhearAt bookEnds tally
+stay-run g = record { taken = refl; freed = refl; gone = refl; silent = refl; nobody = refl; no-slot = refl; unread = refl; events = refl; book = refl; read = refl }
+
+-- the premises hold of it
+
+pub stay-ok : (g : Settings) → CallsOk hi-then-ho stay-calls (one-cell g) emptyBook
+unfolding CallsOk step after result admitOf admitRefusal newStation seatOf findCall first fold lowestFree hasBit withBit withoutBit leadsTo unpacked digit char trimStart trimEnd receiveOf receiveRefusal parse headOk framesOf itemAt frameOf payload unpack payloadOk wordOk pack framesWords ncsRx readFrames frameStep readFrame pieceFrame replyEnd isMember accept widened widenedAt ownCell putOf cells.accept settle grow seek next slideOf stop eventsIn handedIn bookFrames bookFrame cover alsoHanded allBelow readRefusal cellRefusal readingOf signOffOf signOffRefusal signOff bereaveAll bereaveAt clearAll clearAt unhearAll unhearAt bookEnds tally
+stay-ok g = (
+  tt,
+  (
+    (
+      tt,
+      (λ r. (
+        (λ m. record { eight = refl; cut = record { short = omega arith; fits = omega arith; same = refl }; near = λ n w. near 0 n (omega arith) (λ b. apart (w .1 1 b)) }),
+        tt,
+      )),
+    ),
+    (
+      tt,
+      (
+        tt,
+        (
+          tt,
+          (
+            (
+              tt,
+              (λ r. (
+                (λ m. record { eight = refl; cut = record { short = omega arith; fits = omega arith; same = refl }; near = λ n w. near 0 n (omega arith) (λ b. apart (w .1 1 b)) }),
+                tt,
+              )),
+            ),
+            (tt, tt),
+          ),
+        ),
+      ),
+    ),
+  ),
+)
+
+short : (s t k : ℕ) → length (hi-then-ho s t k) ≤ 2046
+short s t k = cond-keeps (λ (l : List ℕ). length l ≤ 2046) (eqb t 0) (104 ∷ 105 ∷ []) (104 ∷ 111 ∷ []) (λ _. omega arith) (λ _. omega arith)
+
+-- and so does what item 3 promises, from any start that is not refused
+pub stay-promised : (s : Station) (g : Given) → startRefusal g 6400 ≡ 0 → Messages hi-then-ho (started s g (replicate 6400 7)) stay-calls
+stay-promised s g e =
+    item-3 s g (replicate 6400 7) e stay-calls .messages hi-then-ho short
+    (subst (λ (n : Net). CallsOk hi-then-ho stay-calls n emptyBook) (starts s g (replicate 6400 7) e) (stay-ok (settingsOf g)))
+
+-- ---- a piece of a former stay
+
+-- "hi" of the first stay arrives in the second: it lands, and is read as it came
+abbrev pub former : List Call
+former = joins ∷ signing 0 ∷ joins-too ∷ hi ∷ reading 0 handed ∷ []
+
+pub former-broken : (g : Settings) → Holds hi-then-ho 1 former (one-cell g) emptyBook → ⊥
+unfolding Holds step after result admitOf admitRefusal newStation seatOf findCall first fold lowestFree hasBit withBit withoutBit leadsTo unpacked digit char trimStart trimEnd receiveOf receiveRefusal parse headOk framesOf itemAt frameOf payload unpack payloadOk wordOk pack framesWords ncsRx readFrames frameStep readFrame pieceFrame replyEnd isMember accept widened widenedAt ownCell putOf cells.accept settle grow seek next slideOf stop eventsIn handedIn bookFrames bookFrame cover alsoHanded allBelow readRefusal cellRefusal readingOf signOffOf signOffRefusal signOff bereaveAll bereaveAt clearAll clearAt unhearAll unhearAt bookEnds tally
+former-broken g h = let z : _≡_ {A = ℕ} 105 111 = ap (λ (l : List ℕ). getD l 1 0) (h .1 .1 .1 .1 .0 .1 (omega arith) .1) in omega arith
+
+-- ---- the boats that are left
+
+-- boat B, relayed by A in slot 0
+abbrev relayed : Call
+relayed = admission (packCall (66 ∷ 32 ∷ 32 ∷ 32 ∷ 32 ∷ 32 ∷ 32 ∷ [])) 0 nought 8192
+
+-- A signs off: B has no relay, is unheard and silent, and the total says so
+pub record LeftRun (g : Settings) : Type 0 where
+  pub before : memberAt (after (joins ∷ relayed ∷ []) (one-cell g) .station) 1 .via ≡ 0
+  pub relay : memberAt (after (joins ∷ relayed ∷ signing 0 ∷ []) (one-cell g) .station) 1 .via ≡ 63
+  pub level : memberAt (after (joins ∷ relayed ∷ signing 0 ∷ []) (one-cell g) .station) 1 .snrup ≡ Unheard
+  pub missed : memberAt (after (joins ∷ relayed ∷ signing 0 ∷ []) (one-cell g) .station) 1 .missed ≡ g .misslimit
+  pub waits : after (joins ∷ relayed ∷ signing 0 ∷ []) (one-cell g) .station .round .toack ≡ 2
+
+pub left-run : (g : Settings) → LeftRun g
+unfolding step after result admitOf admitRefusal newStation seatOf findCall first fold lowestFree hasBit withBit withoutBit leadsTo unpacked digit char trimStart trimEnd isMember signOffOf signOffRefusal signOff bereaveAll bereaveAt clearAll clearAt unhearAll unhearAt tally
+left-run g = record { before = refl; relay = refl; level = refl; missed = refl; waits = refl }
+
+-- its own turn ends with no deadline, and one that relays for it goes on with no source
+abbrev asked : ℕ → ℕ → Wait
+asked slot source = waitOf (Waiting (record { slot = slot; relayfor = source; tries = 1; turnbursts = 2 })) (At nought)
+
+pub turn-ends : strikeWait 5 (asked 5 9) ≡ idleWait
+turn-ends = refl
+
+pub turn-goes-on : strikeWait 9 (asked 5 9) ≡ asked 5 63
+turn-goes-on = refl
+
+pub turn-of-others : strikeWait 7 (asked 5 9) ≡ asked 5 9
+turn-of-others = refl

@@ -1,0 +1,330 @@
+-- The next decision is a chain of single changes, stage by stage. Assumes nothing.
+use mathlib.Core.Path.{_≡_, refl, sym, ap, _∙_, subst}
+use mathlib.Core.Logic.{inl, inr, ⊎-elim}
+use Prim.Native.Nat.{ℕ, _<_}
+use native.Mathlib.Omega.{arith}
+use mathlib.Core.Bool.{Bool, true, false, cond, not, _&&_, _||_}
+use mathlib.Core.List.{[]}
+use lib.Dec.{eqb, ltb}
+use lib.ListN.{set}
+use lib.Seq.{set-getD}
+use lib.Ieee.{Float, lt, le}
+use borrow.Author.Tests.{eqb-false}
+use Rattle.bits.specs.Mask.{hasBit, withBit, withoutBit, lowestBit}
+use Rattle.bits.specs.declared.Found.{Found}
+use Rattle.bits.specs.declared.Found.the-variants as found
+use Rattle.bits.proofs.Lists.{cond-keeps, and-true, never-both, eq-or-not}
+use Rattle.bits.proofs.Laws.{has-none, has-both, with-other}
+use Rattle.bits.proofs.Loops.{fold-keeps-below}
+use Rattle.level.specs.declared.Level.{Level}
+use Rattle.level.specs.declared.Clock.{Clock}
+use Rattle.level.specs.declared.Clock.the-variants.{Never, At}
+use Rattle.level.specs.declared.Level.the-variants.{Unheard, Decibels}
+use Rattle.roster.specs.declared.Member.{Member}
+use Rattle.roster.specs.Members.{isNews, withMissed, toldNow}
+use Rattle.roster.specs.Relays.{couldRelay, promoteBy, promotableAt, isLeaf}
+use Rattle.roster.proofs.Laws.{best-high-able, best-high-slot, without-in}
+use Rattle.net.specs.declared.Station.{Station}
+use Rattle.net.specs.declared.Reply.{Reply}
+use Rattle.net.specs.declared.Round.{Round}
+use Rattle.net.specs.declared.Totals.{Totals}
+use Rattle.net.specs.declared.Turn.{Turn}
+use Rattle.net.specs.declared.Turn.the-variants.{Idle, Sending, Waiting}
+use Rattle.net.specs.declared.Wait.{Wait}
+use Rattle.net.specs.State.{indexOf, memberAt, withMember, withMembers, withCounted, withWait, withRound, withTotals, withRxsent, withRxdirty, alsoAck, alsoNews}
+use Rattle.net.specs.Net.{isMember, idleWait, Said, said}
+use Rattle.net.proofs.Laws.{index-lt, index-is, member-lt, member-is}
+use Rattle.bursts.specs.Rows.{seated}
+use Rattle.bursts.specs.Bursts.{acked, beyond, acksBurst, beaconOf, tellAt, tellAll, listSent, listTold, rxListBurst}
+use Rattle.bursts.specs.Reroute.{ableAt, ableOf, floorOf, promoteWith, promoteAt, promoteAll, leafAt, leavesOf, newRelay, mustMove, moveAt, moveAll, rerouteOf}
+use Rattle.bursts.proofs.Masks.{mask-where}
+use Rattle.bursts.proofs.Listed.{beyond-has}
+use Rattle.next.specs.declared.Due.{Due}
+use Rattle.next.specs.declared.Due.the-variants.{Free, Quiet, Close, Again, Missed}
+use Rattle.next.specs.declared.Act.{Act}
+use Rattle.next.specs.declared.Act.the-variants as act
+use Rattle.next.specs.Next.{Decision, pollBy, pollStage, drawn, drawStage, reroutedStage, rerouteStage, listStage, roundEnd, hurried, actOf, actBy, windowStage, closeStage, againStage, turnOverIn, missedIn, missedStage, dueTurn, dueOf, byDue, ncsNext}
+use Rattle.promise.proofs.Walk.{Allowed, told, Fields, none, also, Turned, ends, sends, polls, goes, draws, Within, Marks, others, turned, over, written, counted, promoted, moved, Chain, start, more}
+
+-- ---- what is known where a change is made
+
+-- a member's slot is its index
+pub index-member : (used slot : ℕ) → isMember used slot ≡ true → isMember used (indexOf slot) ≡ true
+index-member used slot here = ap (isMember used) (index-is slot (member-lt used slot here)) ∙ here
+
+-- masks of slots
+same-marks : (s : Station) (r : Round) → r .toack ≡ s .round .toack → r .treenews ≡ s .round .treenews → Marks s r
+same-marks s r p q = record { toack = λ i l h. inl (ap (λ (m : ℕ). hasBit m i) (sym p) ∙ h); treenews = λ i l h. inl (ap (λ (m : ℕ). hasBit m i) (sym q) ∙ h) }
+
+none-left : (s : Station) (old : ℕ) → Within s old 0
+none-left s old i l h = absurd (never-both (hasBit 0 i) h (has-none i))
+
+one-more : (s : Station) (old c : ℕ) → isMember (s .used) c ≡ true → Within s old (withBit old c)
+one-more s old c here i l h =
+    ⊎-elim (λ e. inr (subst (λ (j : ℕ). isMember (s .used) j ≡ true) e here)) (λ n. inl (sym (with-other old c i n) ∙ h)) (eq-or-not c i)
+
+fewer : (s : Station) → Within s (s .round .toack) (beyond 9 (acked s))
+fewer s i l h =
+    let b = and-true (hasBit (acked s) i) _ (sym (beyond-has 9 (acked s) i (omega arith)) ∙ h) .0 in
+    inl (and-true (hasBit (s .round .toack) i) (hasBit (s .used) i) (sym (has-both (s .round .toack) (s .used) i) ∙ b) .0)
+
+-- what is due of a reply is due of the running turn's
+abbrev Runs : Due → Turn → Type 0
+Runs Free y = Unit {0}
+Runs Quiet y = Unit {0}
+Runs Close y = Unit {0}
+Runs (Again r) y = y ≡ Waiting r
+Runs (Missed r) y = y ≡ Waiting r
+
+overdue-runs : (b c : Bool) (r : Reply) → Runs (cond b Quiet (cond c (Again r) (Missed r))) (Waiting r)
+overdue-runs true c r = tt
+overdue-runs false true r = refl
+overdue-runs false false r = refl
+
+turn-runs : (closed : Bool) (y : Turn) (d : Clock) (now : Float) → Runs (cond closed Close (dueTurn y d now)) y
+turn-runs true y d now = tt
+turn-runs false Idle d now = tt
+turn-runs false Sending d now = tt
+turn-runs false (Waiting r) Never now = tt
+turn-runs false (Waiting r) (At end) now = overdue-runs (lt now end) (eqb (r .tries) 0) r
+
+due-runs : (s : Station) (now : Float) → Runs (dueOf (s .wait) (s .round .closed) now) (s .wait .turn)
+unfolding dueOf
+due-runs s now = turn-runs (s .round .closed) (s .wait .turn) (s .wait .deadline) now
+
+level-by : (b : Bool) (d snr : Float) → cond b (Decibels d) Unheard ≡ Decibels snr → (b ≡ true) × (Decibels d ≡ Decibels snr)
+level-by true d snr e = (refl, e)
+level-by false d snr e = (cc, cc)
+
+-- a boat that is promoted was heard directly
+promotes : (l : Level) (leaf : Bool) (floor snr : Float) → promoteBy l leaf floor ≡ Decibels snr → (leaf ≡ true) × (l ≡ Decibels snr)
+promotes Unheard leaf floor snr e = (cc, cc)
+promotes (Decibels d) leaf floor snr e =
+    let b = level-by (leaf && le floor d) d snr e in
+    (and-true leaf (le floor d) (b .0) .0, b .1)
+
+leaf-here : (t : Station) (c : ℕ) → c < 62 → hasBit (leavesOf t) c ≡ true → hasBit (t .used) c ≡ true
+leaf-here t c h e = and-true (hasBit (t .used) c) (isLeaf (seated t c) (t .settings .misslimit)) (sym (mask-where (leafAt t) c h) ∙ e) .0
+
+-- a leaf moves to a boat that could relay
+module _ (s : Station) (c r : ℕ) (e : newRelay s c ≡ r) (l : r < 62) where
+  able-in : (hasBit (ableOf s) r ≡ true) × (r ≡ c → ⊥)
+  able-in =
+      let h = best-high-able (s .hears) (withoutBit (withoutBit (ableOf s) c) (seated s c .via)) c (s .settings .relaysnr) r e l in
+      without-in (ableOf s) c r (without-in (withoutBit (ableOf s) c) (seated s c .via) r h .0)
+
+  able-at : (hasBit (s .used) r ≡ true) × (couldRelay (seated s r) ≡ true)
+  able-at = and-true (hasBit (s .used) r) (couldRelay (seated s r)) (sym (mask-where (ableAt s) r l) ∙ able-in .0)
+
+relay-lt : (s : Station) (c : ℕ) → eqb (newRelay s c) 63 ≡ false → newRelay s c < 62
+relay-lt s c f =
+    ⊎-elim (λ l. l) (λ e. absurd (eqb-false (newRelay s c) 63 f e))
+    (best-high-slot (s .hears) (withoutBit (withoutBit (ableOf s) c) (seated s c .via)) c (s .settings .relaysnr))
+
+module _ (A : Allowed) where
+  -- ---- the changes at a slot, from s₀ on
+
+  module _ (s₀ : Station) where
+    -- flags, times and counters
+    pub calm : (s : Station) (r : Round) (t : Totals) → r .list ≡ s .round .list → r .toack ≡ s .round .toack → r .treenews ≡ s .round .treenews
+        → t .silent ≡ s .totals .silent → Chain A s₀ s → Chain A s₀ (withTotals (withRound s r) t)
+    calm s r t e p q n k = more k (others r t e (same-marks s r p q) n)
+
+    pub ack : (s : Station) (i : ℕ) → isMember (s .used) i ≡ true → Chain A s₀ s → Chain A s₀ (alsoAck s i)
+    ack s i here k = more k (others _ _ refl (record { toack = one-more s (s .round .toack) i here; treenews = λ j l h. inl h }) refl)
+
+    news : (s : Station) (i : ℕ) → isMember (s .used) i ≡ true → Chain A s₀ s → Chain A s₀ (alsoNews s i)
+    news s i here k = more k (others _ _ refl (record { toack = λ j l h. inl h; treenews = one-more s (s .round .treenews) i here }) refl)
+
+    -- the turn, and the list
+    pub turn : (s : Station) (w : Wait) (r : Round) (t : Totals) → A .turns → Turned s (w .turn) (r .list) → r .toack ≡ s .round .toack
+        → r .treenews ≡ s .round .treenews → t .silent ≡ s .totals .silent → Chain A s₀ s → Chain A s₀ (withTotals (withRound (withWait s w) r) t)
+    turn s w r t allowed y p q n k = more k (turned allowed w r t y (same-marks s r p q) n)
+
+    -- the turn ends, and what came of it is noted
+    pub over-walk : (s : Station) (r : Reply) (w : Wait) (n : Totals) → A .turns → s .wait .turn ≡ Waiting r
+        → ((u : Station) → Turned u (w .turn) (u .round .list)) → n .silent ≡ s .totals .silent → Chain A s₀ s
+        → Chain A s₀ (turnOverIn (withTotals (withWait s w) n) (r .slot) (r .relayfor))
+    over-walk s r w n allowed e y q k =
+        cond-keeps (Chain A s₀) (isMember (s .used) (r .relayfor)) _ _
+        (λ here. turn _ w (s .round) n allowed (y _) refl refl q (more k (over allowed r e here)))
+        (λ _. turn s w (s .round) n allowed (y s) refl refl q k)
+
+    pub write : (s : Station) (slot : ℕ) (m : Member) → isMember (s .used) slot ≡ true → Fields A (memberAt s slot) m → Chain A s₀ s
+        → Chain A s₀ (withMember s slot m)
+    write s slot m here f k = more k (written (indexOf slot) m (index-lt slot) (index-member (s .used) slot here) f)
+
+    pub count : (s : Station) (slot : ℕ) (m : Member) (n : ℕ) → isMember (s .used) slot ≡ true → Fields A (memberAt s slot) m → Chain A s₀ s
+        → Chain A s₀ (withCounted s slot (withMissed m n))
+    count s slot m n here f k = more k (counted (indexOf slot) m n (index-lt slot) (index-member (s .used) slot here) f)
+
+    abbrev WalkSaid : Said → Type 0
+    WalkSaid x = Chain A s₀ (x .station)
+
+    abbrev WalkNext : Decision → Type 0
+    WalkNext d = Chain A s₀ (d .station)
+
+    -- ---- received list
+
+    tell-walk : (i : ℕ) (s : Station) → i < 62 → Chain A s₀ s → Chain A s₀ (tellAt i s)
+    tell-walk i s h k =
+        cond-keeps (λ (m : Member). Chain A s₀ (withMembers s (set (s .members) i m))) (hasBit (s .used) i && isNews (seated s i)) (toldNow (seated s i)) (seated s i)
+        (λ e. more k (written i (toldNow (seated s i)) h (member-is (s .used) i h ∙ and-true (hasBit (s .used) i) _ e .0) (also none told)))
+        (λ _. subst (Chain A s₀) (sym (ap (withMembers s) (set-getD (s .members) i _))) k)
+
+    told-walk : (s : Station) → Chain A s₀ s → Chain A s₀ (tellAll s)
+    unfolding tellAll
+    told-walk s k = fold-keeps-below (Chain A s₀) tellAt 62 0 (λ i t _ h m. tell-walk i t (omega arith) m) s k
+
+    -- ---- reroute
+
+    promote-with : (l : Level) (i : ℕ) (x : Said) → i < 62
+        → ((snr : Float) → l ≡ Decibels snr → (isMember (x .station .used) i ≡ true) × (seated (x .station) i .direct ≡ Decibels snr)) → WalkSaid x
+        → WalkSaid (promoteWith l i x)
+    promote-with Unheard i x h f k = k
+    promote-with (Decibels snr) i x h f k = news _ i (f snr refl .0) (more k (promoted i snr h (f snr refl .0) (f snr refl .1)))
+
+    promote-walk : (floor : Float) (i : ℕ) (x : Said) → i < 62 → WalkSaid x → WalkSaid (promoteAt floor i x)
+    unfolding promoteAt
+    promote-walk floor i x h k =
+        let u = x .station .used in
+        let m = seated (x .station) i in
+        promote-with (promotableAt (hasBit u i) m floor) i x h
+        (λ snr e.
+        let p = promotes (m .direct) (hasBit u i && not (eqb (m .via) 63)) floor snr e in
+        (member-is u i h ∙ and-true (hasBit u i) _ (p .0) .0, p .1)) k
+
+    -- the leaves are those of a station t with the same boats
+    abbrev Moves : Station → Said → Type 0
+    Moves t x = WalkSaid x × (x .station .used ≡ t .used)
+
+    move-walk : (t : Station) (c : ℕ) (x : Said) → c < 62 → Moves t x → Moves t (moveAt (leavesOf t) c x)
+    unfolding moveAt
+    move-walk t c x h k =
+        cond-keeps (Moves t) (mustMove (leavesOf t) s c) _ x
+        (λ e. cond-keeps (Moves t) (eqb r 63) x _ (λ _. k)
+        (λ f.
+        let l = relay-lt s c f in
+        let a = able-at s c r refl l in
+        let here = member-is (s .used) c h ∙ subst (λ (u : ℕ). hasBit u c ≡ true) (sym (k .1)) (leaf-here t c h (and-true (hasBit (leavesOf t) c) _ e .0)) in
+        (news _ c here (more (k .0) (moved c r h here (member-is (s .used) r l ∙ a .0) (a .1) (able-in s c r refl l .1))), k .1)))
+        (λ _. k)
+      where
+        s : Station
+        s = x .station
+
+        r : ℕ
+        r = newRelay s c
+
+    moved-walk : (x : Said) → WalkSaid x → WalkSaid (moveAll x)
+    unfolding moveAll
+    moved-walk x k =
+        fold-keeps-below (Moves (x .station)) (moveAt (leavesOf (x .station))) 62 0 (λ c y _ h m. move-walk (x .station) c y (omega arith) m) x (k, refl) .0
+
+    rerouted : (s : Station) → Chain A s₀ s → Chain A s₀ (rerouteOf s .station)
+    unfolding rerouteOf promoteAll
+    rerouted s k =
+        moved-walk (promoteAll s)
+        (fold-keeps-below WalkSaid (promoteAt (floorOf s)) 62 0 (λ i x _ h m. promote-walk (floorOf s) i x (omega arith) m) (said s []) k)
+
+    -- ---- the stages, last first
+
+    module _ (allowed : A .turns) where
+      list-walk : (s : Station) → Chain A s₀ s → Chain A s₀ (rxListBurst s .station)
+      unfolding rxListBurst
+      list-walk s k =
+          let t = told-walk (withRound s (withRxdirty (s .round) false)) (calm s _ _ refl refl refl refl k) in
+          cond-keeps WalkSaid (listSent s) _ _ (λ _. turn (listTold s) _ _ _ allowed sends refl refl refl t) (λ _. t)
+
+      acks-walk : (s : Station) → Chain A s₀ s → Chain A s₀ (acksBurst s .station)
+      unfolding acksBurst
+      acks-walk s k = more k (turned allowed _ _ _ sends (record { toack = none-left s (s .round .toack); treenews = none-left s (s .round .treenews) }) refl)
+
+      beacon-walk : (s : Station) (now : Float) → Chain A s₀ s → Chain A s₀ (beaconOf s now .station)
+      unfolding beaconOf
+      beacon-walk s now k = more k (turned allowed _ _ _ sends (record { toack = fewer s; treenews = λ i l h. inl h }) refl)
+
+      poll-by : (f : Found) (s : Station) → lowestBit (s .round .list) ≡ f → Chain A s₀ s → WalkNext (pollBy f s)
+      poll-by found.Nothing s e k = k
+      poll-by (found.At slot) s e k = turn s _ _ _ allowed (polls slot e) refl refl refl k
+
+      poll-walk : (s : Station) → Chain A s₀ s → WalkNext (pollStage s)
+      unfolding pollStage
+      poll-walk s k = poll-by (lowestBit (s .round .list)) s refl k
+
+      draw-walk : (s : Station) (now : Float) → Chain A s₀ s → WalkNext (drawStage s now)
+      unfolding drawStage
+      draw-walk s now k = poll-walk (drawn s now) (turn s _ _ _ allowed (draws _) refl refl refl k)
+
+      rerouted-walk : (x : Said) (now : Float) → WalkSaid x → WalkNext (reroutedStage x now)
+      rerouted-walk x now k =
+          cond-keeps WalkNext (eqb (x .station .round .treenews) 0) _ _ (λ _. draw-walk (x .station) now k) (λ _. acks-walk (x .station) k)
+
+      reroute-stage : (s : Station) (now : Float) → Chain A s₀ s → WalkNext (rerouteStage s now)
+      unfolding rerouteStage
+      reroute-stage s now k =
+          cond-keeps WalkNext (not (s .round .traffic) && ltb 0 (s .round .number) && lt now (s .round .nextround)) _ _
+          (λ _. k)
+          (λ _. rerouted-walk (rerouteOf s) now (rerouted s k))
+
+      list-stage : (s : Station) (now : Float) → Chain A s₀ s → WalkNext (listStage s now)
+      list-stage s now k =
+          cond-keeps WalkNext (listSent s) _ _ (λ _. list-walk s k) (λ _. reroute-stage (rxListBurst s .station) now (list-walk s k))
+
+      round-walk : (s : Station) (now : Float) → Chain A s₀ s → WalkNext (roundEnd s now)
+      unfolding roundEnd
+      round-walk s now k =
+          cond-keeps WalkNext (eqb (s .round .number) 0 || eqb (s .round .rxsent) (s .round .number)) _ _
+          (λ _. reroute-stage s now k)
+          (λ _. list-stage (withRound s (withRxsent (s .round) (s .round .number))) now (calm s _ _ refl refl refl refl k))
+
+      act-by : (a : Act) (s : Station) (now : Float) → Chain A s₀ s → WalkNext (actBy a s now)
+      act-by act.Wait s now k = k
+      act-by act.Beacon s now k = beacon-walk s now k
+      act-by act.Acks s now k = acks-walk s k
+      act-by act.Draw s now k = round-walk s now k
+      act-by act.Poll s now k = poll-walk s k
+
+      hurried-walk : (s : Station) (now : Float) → Chain A s₀ s → Chain A s₀ (hurried s now)
+      hurried-walk s now k = cond-keeps (Chain A s₀) (s .round .activity) _ s (λ _. calm s _ _ refl refl refl refl k) (λ _. k)
+
+      window-walk : (s : Station) (now : Float) → Chain A s₀ s → WalkNext (windowStage s now)
+      unfolding windowStage
+      window-walk s now k =
+          cond-keeps WalkNext (lt now (s .round .windowend)) _ _ (λ _. k)
+          (λ _. act-by (actOf (hurried s now .round) (hurried s now .used) now) (hurried s now) now (hurried-walk s now k))
+
+      close-walk : (s : Station) (now : Float) → Chain A s₀ s → WalkNext (closeStage s now)
+      unfolding closeStage
+      close-walk s now k = cond-keeps WalkNext (eqb (s .round .closeleft) 0) _ _ (λ _. k) (λ _. calm s _ _ refl refl refl refl k)
+
+      again-walk : (r : Reply) (s : Station) → s .wait .turn ≡ Waiting r → Chain A s₀ s → WalkNext (againStage r s)
+      unfolding againStage
+      again-walk r s e k = turn s _ _ _ allowed (goes r _ _ e) refl refl refl k
+
+      missed-walk : (r : Reply) (s : Station) (now : Float) → s .wait .turn ≡ Waiting r → Chain A s₀ s → WalkNext (missedStage r s now)
+      unfolding missedStage
+      missed-walk r s now e k =
+          window-walk (turnOverIn (missedIn (withWait s idleWait) (r .slot)) (r .slot) (r .relayfor)) now
+          (cond-keeps (λ (t : Station). Chain A s₀ (turnOverIn t (r .slot) (r .relayfor))) (isMember (s .used) (r .slot)) _ (withWait s idleWait)
+          (λ here. over-walk _ r idleWait _ allowed e (λ u. ends) refl (count s (r .slot) (memberAt s (r .slot)) _ here none k))
+          (λ _. over-walk s r idleWait (s .totals) allowed e (λ u. ends) refl k))
+
+      due-walk : (d : Due) (s : Station) (now : Float) → Runs d (s .wait .turn) → Chain A s₀ s → WalkNext (byDue d s now)
+      due-walk Free s now e k = window-walk s now k
+      due-walk Quiet s now e k = k
+      due-walk Close s now e k = close-walk s now k
+      due-walk (Again r) s now e k = again-walk r s e k
+      due-walk (Missed r) s now e k = missed-walk r s now e k
+
+      decided : (s : Station) (now : Float) → Chain A s₀ s → WalkNext (ncsNext s now)
+      unfolding ncsNext
+      decided s now k = due-walk (dueOf (s .wait) (s .round .closed) now) s now (due-runs s now) k
+
+  -- boats promoted and moved
+  pub reroute-walk : (s : Station) → Chain A s (rerouteOf s .station)
+  reroute-walk s = rerouted s s start
+
+  -- the next decision
+  pub next-walk : A .turns → (s : Station) (now : Float) → Chain A s (ncsNext s now .station)
+  next-walk allowed s now = decided s allowed s now start

@@ -1,0 +1,130 @@
+-- The walk for a property of the roster alone (the slots in use, the members but for most of their fields, and the total of silent boats), and for one of every
+-- member: fewer cases, the other changes being none to them. Assumes nothing.
+use mathlib.Core.Path.{_≡_, sym, subst}
+use mathlib.Core.Bool.{true, false}
+use mathlib.Core.List.{List, [], _∷_}
+use Prim.Native.Nat.{ℕ, zero, suc, _<_}
+use lib.Dec.{eqb}
+use lib.Ieee.{Float}
+use lib.ListN.{getD, set, replicate}
+use Rattle.bits.specs.Mask.{hasBit, withBit, withoutBit}
+use Rattle.bits.proofs.Lists.{cond-keeps}
+use Rattle.bits.proofs.Loops.{fold-keeps}
+use Rattle.level.specs.Consts.{nought}
+use Rattle.level.specs.declared.Level.the-variants.{Decibels}
+use Rattle.roster.specs.declared.Member.{Member}
+use Rattle.roster.specs.Members.{noMember, newMember, withMissed, withMark, promotedAt, reroutedTo, landedOne, silentAt, tally}
+use Rattle.roster.specs.Relays.{couldRelay}
+use Rattle.net.specs.declared.Station.{Station}
+use Rattle.net.specs.declared.Settings.{Settings}
+use Rattle.net.specs.State.{indexOf}
+use Rattle.net.specs.Net.{isMember, blankCall}
+use Rattle.net.proofs.Laws.{index-lt}
+use Rattle.bursts.specs.Rows.{seated}
+use Rattle.bursts.specs.Reroute.{withSeated}
+use Rattle.station.specs.SignOff.{vacant, leave, untried, cutOff, bereft, bereaveAt, bereaveAll, struckOff, signOff}
+use Rattle.promise.proofs.Walk.{Allowed, Field, fields-keep, Stays, stays, over-keeps, over-stays, RelayOk, Change}
+use Rattle.promise.proofs.Walk as walk
+use Rattle.promise.proofs.WalkNext.{index-member}
+
+-- ---- the roster
+
+-- what a change makes of the settings, the slots in use, the members and the total of silent boats
+pub data Roster (s : Station) : Settings → ℕ → List Member → ℕ → Type 0 where
+  same : Roster s (s .settings) (s .used) (s .members) (s .totals .silent)
+  written : (i : ℕ) (m : Member) → i < 62 → isMember (s .used) i ≡ true → Stays (seated s i) m → Roster s (s .settings) (s .used) (set (s .members) i m) (s .totals .silent)
+  counted : (i : ℕ) (m : Member) → i < 62 → isMember (s .used) i ≡ true → m .call ≡ seated s i .call → m .via ≡ seated s i .via
+      → Roster s (s .settings) (s .used) (set (s .members) i m) (tally (s .totals .silent) (silentAt (s .settings .misslimit) (seated s i)) (silentAt (s .settings .misslimit) m))
+  promoted : (i : ℕ) (snr : Float) → i < 62 → isMember (s .used) i ≡ true
+      → Roster s (s .settings) (s .used) (set (s .members) i (promotedAt (seated s i) snr))
+      (tally (s .totals .silent) (silentAt (s .settings .misslimit) (seated s i)) (silentAt (s .settings .misslimit) (promotedAt (seated s i) snr)))
+  moved : (c r : ℕ) → c < 62 → isMember (s .used) c ≡ true → isMember (s .used) r ≡ true → couldRelay (seated s r) ≡ true → (r ≡ c → ⊥)
+      → Roster s (s .settings) (s .used) (set (s .members) c (reroutedTo (seated s c) r))
+      (tally (s .totals .silent) (silentAt (s .settings .misslimit) (seated s c)) (silentAt (s .settings .misslimit) (reroutedTo (seated s c) r)))
+  entered : (i : ℕ) (call : List ℕ) (v : ℕ) (now : Float) → i < 62 → hasBit (s .used) i ≡ false → RelayOk (s .used) v
+      → Roster s (s .settings) (withBit (s .used) i) (set (s .members) i (newMember call v now)) (s .totals .silent)
+  signsOff : (slot : ℕ) → isMember (s .used) slot ≡ true
+      → Roster s (signOff s slot .settings) (signOff s slot .used) (signOff s slot .members) (signOff s slot .totals .silent)
+
+-- the same boats
+same-silent : (s : Station) (n : ℕ) → n ≡ s .totals .silent → Roster s (s .settings) (s .used) (s .members) n
+same-silent s n e = subst (Roster s (s .settings) (s .used) (s .members)) (sym e) same
+
+pub roster : {A : Allowed} {s t : Station} → Change A s t → Roster s (t .settings) (t .used) (t .members) (t .totals .silent)
+roster {s = s} (walk.others r n e m q) = same-silent s (n .silent) q
+roster {s = s} (walk.turned a w r n y m q) = same-silent s (n .silent) q
+roster {s = s} (walk.over a r e here) =
+    written (indexOf (r .relayfor)) _ (index-lt (r .relayfor)) (index-member (s .used) (r .relayfor) here) (over-stays (s .hears) (s .used) _ (r .relayfor) (r .slot))
+roster (walk.hears r c q l h) = same
+roster (walk.written i m l here f) = written i m l here (stays f)
+roster (walk.counted i m n l here f) = counted i (withMissed m n) l here (stays f .call) (stays f .via)
+roster (walk.promoted i snr l here d) = promoted i snr l here
+roster (walk.moved c r l here there able n) = moved c r l here there able n
+roster (walk.entered i call v now l free r) = entered i call v now l free r
+roster {s = s} (walk.piece a store slot field p m here f l d) = written (indexOf slot) m (index-lt slot) (index-member (s .used) slot here) (stays f)
+roster {s = s} (walk.landed a store slot field p m here f l d) =
+    written (indexOf slot) _ (index-lt slot) (index-member (s .used) slot here) (record { call = stays f .call; via = stays f .via; missed = stays f .missed })
+roster (walk.freed a cell) = same
+roster (walk.signsOff a b slot here) = signsOff slot here
+
+-- ---- every member
+
+abbrev pub Every : (Member → Type 0) → Station → Type 0
+Every Q s = (j : ℕ) → Q (getD (s .members) j noMember)
+
+-- what keeps Q of a member
+pub record Each (A : Allowed) (Q : Member → Type 0) : Type 0 where
+  pub field : (m k : Member) → Field A m k → Q m → Q k
+  pub missed : (m : Member) (n : ℕ) → Q m → Q (withMissed m n)
+  pub marked : (m : Member) (next marks tried : ℕ) → Q m → Q (withMark m next marks tried)
+  pub promoted : (m : Member) (snr : Float) → m .direct ≡ Decibels snr → Q m → Q (promotedAt m snr)
+  pub moved : (m : Member) (r : ℕ) → Q m → Q (reroutedTo m r)
+  pub landed : (m : Member) (number n : ℕ) → Q m → Q (landedOne m number n)
+  pub entered : (call : List ℕ) (v : ℕ) (now : Float) → Q (newMember call v now)
+  pub cut : (m : Member) (limit : ℕ) → Q m → Q (cutOff limit m)
+
+pub set-every : (Q : Member → Type 0) (ms : List Member) (i : ℕ) (m : Member) → Q m → ((j : ℕ) → Q (getD ms j noMember)) → (j : ℕ) → Q (getD (set ms i m) j noMember)
+set-every Q [] i m f l j = l j
+set-every Q (x ∷ ms) zero m f l zero = f
+set-every Q (x ∷ ms) zero m f l (suc j) = l (suc j)
+set-every Q (x ∷ ms) (suc i) m f l zero = l zero
+set-every Q (x ∷ ms) (suc i) m f l (suc j) = set-every Q ms i m f (λ k. l (suc k)) j
+
+module _ (A : Allowed) (Q : Member → Type 0) (e : Each A Q) where
+  -- a boat signs off: those it relayed for lose it
+  bereave-every : (slot j : ℕ) (s : Station) → Every Q s → Every Q (bereaveAt slot j s)
+  unfolding bereaveAt
+  bereave-every slot j s l =
+      let m = seated s j in
+      let q = e .marked m (m .marknext) (m .markbits) (withoutBit (m .tried) slot) (l j) in
+      cond-keeps (Every Q) (hasBit (s .used) j) (withSeated s j (bereft slot (s .settings .misslimit) m)) s
+      (λ _. set-every Q (s .members) j _ (cond-keeps Q (eqb (m .via) slot) _ _ (λ _. e .cut (untried slot m) (s .settings .misslimit) q) (λ _. q)) l) (λ _. l)
+
+  sign-every : (s : Station) (slot : ℕ) → Every Q s → Every Q (signOff s slot)
+  unfolding signOff bereaveAll
+  sign-every s slot l =
+      fold-keeps (Every Q) (bereaveAt slot) (bereave-every slot) 62 0 (leave slot (struckOff slot s)) (set-every Q (s .members) slot vacant (e .entered blankCall 63 nought) l)
+
+  pub every : (s t : Station) → Change A s t → Every Q s → Every Q t
+  every s t (walk.others r n q m z) l = l
+  every s t (walk.turned a w r n y m q) l = l
+  every s t (walk.over a r q here) l =
+      let i = indexOf (r .relayfor) in
+      set-every Q (s .members) i _ (over-keeps Q (s .hears) (s .used) (seated s i) (r .relayfor) (r .slot) (λ next marks tried. e .marked (seated s i) next marks tried (l i))) l
+  every s t (walk.hears r c q h z) l = l
+  every s t (walk.written i m h here f) l = set-every Q (s .members) i m (fields-keep Q (e .field) f (l i)) l
+  every s t (walk.counted i m n h here f) l = set-every Q (s .members) i _ (e .missed m n (fields-keep Q (e .field) f (l i))) l
+  every s t (walk.promoted i snr h here d) l = set-every Q (s .members) i _ (e .promoted (seated s i) snr d (l i)) l
+  every s t (walk.moved c r h here there able n) l = set-every Q (s .members) c _ (e .moved (seated s c) r (l c)) l
+  every s t (walk.entered i call v now h free r) l = set-every Q (s .members) i _ (e .entered call v now) l
+  every s t (walk.piece a store slot field p m here f h d) l = set-every Q (s .members) (indexOf slot) m (fields-keep Q (e .field) f (l (indexOf slot))) l
+  every s t (walk.landed a store slot field p m here f h d) l =
+      set-every Q (s .members) (indexOf slot) _ (e .landed m _ _ (fields-keep Q (e .field) f (l (indexOf slot)))) l
+  every s t (walk.freed a cell) l = l
+  every s t (walk.signsOff a b slot here) l = sign-every s slot l
+
+-- at a start
+pub every-new : (Q : Member → Type 0) (n : ℕ) (m : Member) → Q noMember → Q m → (j : ℕ) → Q (getD (replicate n m) j noMember)
+every-new Q zero m z f j = z
+every-new Q (suc n) m z f zero = f
+every-new Q (suc n) m z f (suc j) = every-new Q n m z f j
