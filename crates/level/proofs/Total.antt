@@ -1,61 +1,28 @@
--- The sign by division, and the order of `totalLt` on finite values. Assumes nothing.
+-- What is equal to itself, and the order of `totalLt` on finite values. Assumes nothing.
 use mathlib.Core.Path.{_≡_, refl, sym, ap, _∙_, subst, subst⁻¹}
-use Prim.Native.Nat.{ℕ, zero, suc, _+_, _*_, _<_}
-use native.Mathlib.Nat.{mul-one, zero-mul, mul-right-comm, mul-pos, zero-lt-suc, lt-irrefl, lt-trans, le-of-eq, lt-of-le-of-lt, lt-of-lt-of-le, mul-lt-mul-of-pos-right, lt-of-mul-lt-mul-right}
-use native.Mathlib.Omega.{arith}
-use mathlib.Core.Bool.{Bool, true, false, Bool·beq, _&&_, _||_, false≢true}
-use lib.IntN.{ℤ, pos}
-use lib.Dec.{T, ltb, eqb, ltb→lt, lt→ltb, eqb→eq}
-use lib.Ieee.{Float, nan, inf, fin, up, down, binary32, lt, eq, le, div}
-use lib.Ieee.Fits.{up-pos, down-pos, and-l, and-i}
+use Prim.Native.Nat.{ℕ, _*_, _<_}
+use native.Mathlib.Nat.{mul-right-comm, lt-irrefl, lt-trans, le-of-eq, lt-of-le-of-lt, lt-of-lt-of-le, mul-lt-mul-of-pos-right, lt-of-mul-lt-mul-right}
+use mathlib.Core.Bool.{Bool, true, false, not, Bool·beq, _&&_, _||_}
+use lib.IntN.{ℤ}
+use lib.Dec.{T, ltb, eqb, ltb→lt, lt→ltb}
+use borrow.Author.Tests.{eq-eqb}
+use lib.Ieee.{Float, nan, inf, fin, up, down, lt, eq, le}
+use lib.Ieee.Fits.{down-pos}
 use lib.Ieee.Scale.{finite}
-use Rattle.level.specs.Order.{negative, totalLt}
-use Rattle.level.proofs.Le.{iff, or-r, same-eqb, and-true, le-across}
+use Rattle.level.specs.Order.{isNan, totalLt}
+use Rattle.level.proofs.Le.{and-true, le-across}
 
--- ---- the sign
-abbrev nought : Float
-nought = fin false 0 (pos 0)
+-- ---- a NaN alone is not equal to itself
+nan-alone-by : (s : Bool) (a : ℕ) → not (eqb a a && (Bool·beq s s || eqb a 0)) ≡ false
+nan-alone-by true a = rw (eq-eqb a a refl)
+nan-alone-by false a = rw (eq-eqb a a refl)
 
-abbrev one : Float
-one = fin false 1 (pos 0)
-
-yes : {b : Bool} → b ≡ true → T b
-yes h = subst T (sym h) tt
-
-size-pos : (m : ℕ) (e : ℤ) → 0 < suc m * up e * 1
-size-pos m e = mul-pos (mul-pos (zero-lt-suc m) (up-pos e)) (zero-lt-suc 0)
-
-nonzero : (m : ℕ) (e : ℤ) → suc m * up e * 1 ≡ 0 * down e → ⊥
-nonzero m e h = lt-irrefl 0 (subst (λ (z : ℕ). 0 < z) (h ∙ zero-mul (down e)) (size-pos m e))
-
-zero-eq : (s : Bool) (e : ℤ) → T (eq (fin s 0 e) nought)
+pub nan-alone : (x : Float) → not (eq x x) ≡ isNan x
 unfolding eq
-zero-eq s e =
-    and-i (eqb (0 * up e * 1) (0 * down e)) (Bool·beq s false || eqb (0 * up e * 1) 0)
-    (same-eqb (mul-one (0 * up e) ∙ zero-mul (up e) ∙ sym (zero-mul (down e))))
-    (or-r (Bool·beq s false) (eqb (0 * up e * 1) 0) (same-eqb (mul-one (0 * up e) ∙ zero-mul (up e))))
-
-clash : (b : Bool) → T b → b ≡ false → ⊥
-clash b t h = subst T h t
-
-pub sign-of-zero : (x : Float) → eq x nought ≡ true → lt (div binary32 one x) nought ≡ negative x
-unfolding eq lt div
-sign-of-zero nan h = absurd (false≢true h)
-sign-of-zero (inf s) h = absurd (false≢true h)
-sign-of-zero (fin true zero e) h = refl
-sign-of-zero (fin false zero e) h = refl
-sign-of-zero (fin s (suc m) e) h = absurd (nonzero m e (eqb→eq (suc m * up e * 1) (0 * down e) (and-l (eqb (suc m * up e * 1) (0 * down e)) (Bool·beq s false || eqb (suc m * up e * 1) 0) (yes h))))
-
-pub sign-of-other : (x : Float) → eq x nought ≡ false → lt x nought ≡ negative x
-unfolding lt
-sign-of-other nan h = refl
-sign-of-other (inf s) h = refl
-sign-of-other (fin s zero e) h = absurd (clash (eq (fin s 0 e) nought) (zero-eq s e) h)
-sign-of-other (fin true (suc m) e) h = iff (ltb 0 (suc m * up e * 1 + 0 * down e)) true (λ t. tt) (λ t. lt→ltb 0 (suc m * up e * 1 + 0 * down e) (let p = size-pos m e in omega arith))
-sign-of-other (fin false (suc m) e) h = iff (ltb (suc m * up e * 1) (0 * down e)) false (λ t. absurd (nothing (suc m * up e * 1) (0 * down e) (zero-mul (down e)) (ltb→lt (suc m * up e * 1) (0 * down e) t))) (λ t. absurd t)
-  where
-    nothing : (a b : ℕ) → b ≡ 0 → a < b → ⊥
-    nothing a b z h = omega arith
+nan-alone nan = refl
+nan-alone (inf true) = refl
+nan-alone (inf false) = refl
+nan-alone (fin s m e) = nan-alone-by s (m * up e * down e)
 
 -- ---- `totalLt` of two finite values, by the signs
 -- the part for equal values, where the signs are not - and +

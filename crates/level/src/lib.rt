@@ -1,7 +1,7 @@
 // Signal levels and clocks, and the checks of numbers handed in.
 ghost use mathlib.Core.Path.{_≡_};
 ghost use Rattle.level.specs.Levels.{smoothed, levelOf, levelFor, orElse, isHeard, isAt};
-ghost use Rattle.level.specs.Order.{negative, totalLt, least};
+ghost use Rattle.level.specs.Order.{isNan, least};
 ghost use Rattle.level.specs.Spans.{upTo, within};
 
 // How well a station is heard, in dB.
@@ -78,25 +78,18 @@ pub fn is_at(c: Clock) -> bool
     }
 }
 
-// The sign: of a zero by the infinity that 1 over it is.
-fn is_negative(x: f32) -> bool
-    ensures { λ r. ⌜ r ≡ negative x ⌝ }
+// A NaN is not equal to itself.
+pub fn is_nan(x: f64) -> bool
+    ensures { λ r. ⌜ r ≡ isNan x ⌝ }
 {
-    if x == 0.0 { 1.0 / x < 0.0 } else { x < 0.0 }
+    !(x == x)
 }
 
-// total_cmp: a is less than b, and -0 less than +0.
-pub fn total_lt(a: f32, b: f32) -> bool
-    ensures { λ r. ⌜ r ≡ totalLt a b ⌝ }
-{
-    (a < b) | ((a == b) & (is_negative(a) & !is_negative(b)))
-}
-
-// f64::min of two times.
+// f64::min of two times: the lesser, or the one that is no NaN.
 pub fn least(a: f64, b: f64) -> f64
     ensures { λ r. ⌜ r ≡ least a b ⌝ }
 {
-    if b < a { b } else { a }
+    if is_nan(a) | (b < a) { b } else { a }
 }
 
 // A clock handed in: 0 to 1,000,000,000 seconds.
