@@ -20,11 +20,7 @@ pub record Wrote (l : List ℕ) (i : ℕ) (vs : List ℕ) (m : List ℕ) (j : �
   pub out : m ≡ sets l i vs
   pub end : j ≡ after (length l) i (length vs)
 
--- ### A refusal and events
-
--- kind 0: the refusal's number
-abbrev pub refusalWord : ℕ → ℕ
-refusalWord n = n
+-- ### Events
 
 -- 1 checked in, 4 relayed, 5 routed: slot 5-0, relay 11-6
 abbrev pub eventWord : ℕ → ℕ → ℕ → ℕ

@@ -1,5 +1,5 @@
--- `pack_call` and `unpack_call` of wire.rs; document 01, 'Call': seven of 38 characters, as a number in base 38. Definitions only, and document 01's P calls.
-use mathlib.Core.Path.{_≡_, refl}
+-- `pack_call` and `unpack_call` of wire.rs; document 01, 'Call': seven of 38 characters, as a number in base 38. Definitions only.
+use mathlib.Core.Path.{_≡_}
 use mathlib.Core.Bool.{Bool, cond, _&&_}
 use mathlib.Core.List.{List, [], _∷_, _++_}
 use Prim.Native.Nat.{ℕ, zero, suc, _+_, _-_, _*_, _/_, _%_}
@@ -97,11 +97,3 @@ pub record IsCall (l : List ℕ) : Type 0 where
   pub seven : length l ≡ 7
   pub chars : AllChars l
   pub trimmed : held l ≡ l
-
--- P calls: the numbers of the empty call, `0`, `A` and seven `/`, and what a number reads as
-pub p-calls :
-    (_≡_ {A = List ℕ} (packed (pad 7 []) ∷ packed (pad 7 (48 ∷ [])) ∷ packed (pad 7 (65 ∷ [])) ∷ packed (47 ∷ 47 ∷ 47 ∷ 47 ∷ 47 ∷ 47 ∷ 47 ∷ []) ∷ [])
-    (0 ∷ 3010936384 ∷ 33120300224 ∷ 114415582591 ∷ []))
-    × (unpacked 114415582592 ≡ pad 7 [])
-unfolding digit unpacked trimStart trimEnd char
-p-calls = (refl, refl)

@@ -1,23 +1,13 @@
 -- The constants of wire.rs (TINY: station.rs) under their names there. Definitions only.
 use Prim.Native.Nat.{ℕ}
 
--- The slot that means everyone, or nobody
-abbrev pub slotAll : ℕ
-slotAll = 63
-
--- Codes of a burst: control frames, and header-only messages
-abbrev pub ctrlCode : ℕ
-ctrlCode = 0
-
+-- The code of a header-only message
 abbrev pub tiny : ℕ
 tiny = 62
 
 -- Frame types: the top two bits of a frame's flags
 abbrev pub tUp : ℕ
 tUp = 0
-
-abbrev pub tDown : ℕ
-tDown = 1
 
 abbrev pub tCtrl : ℕ
 tCtrl = 2
@@ -71,7 +61,3 @@ kSubpoll = 7
 
 abbrev pub kSuback : ℕ
 kSuback = 8
-
--- The bit of the high nibble of a burst that does not answer a poll
-abbrev pub aside : ℕ
-aside = 8

@@ -1,10 +1,15 @@
--- `widen8` of wire.rs; document 01, 'Message number'. Definitions only, and document 01's P numbers.
-use mathlib.Core.Path.{_≡_, refl}
+-- `widen8` of wire.rs; document 01, 'Message number'. Definitions only.
 use mathlib.Core.Bool.{Bool, false, cond, _&&_, _||_}
+use mathlib.Core.Option.{Option, none, some}
 use Prim.Native.Nat.{ℕ, _+_, _-_, _%_}
 use lib.Dec.{ltb}
 use Rattle.wire.specs.declared.number.Number.{Number}
 use Rattle.wire.specs.declared.number.Number.the-variants.{Is, Before}
+
+-- document 01's value of the answer: a number, or none
+abbrev pub valueOf : Number → Option ℕ
+valueOf (Is n) = some n
+valueOf Before = none
 
 -- no message has this number or one above it
 abbrev pub numbers : ℕ
@@ -32,8 +37,3 @@ serialLt half i1 i2 = (ltb i1 i2 && ltb (i2 - i1) half) || (ltb i2 i1 && ltb hal
 abbrev pub isAbove : Number → ℕ → Bool
 isAbove (Is k) next = ltb next k
 isAbove Before next = false
-
--- P numbers
-pub p-numbers : (widened 10 200 ≡ Is 266) × (widened 171 300 ≡ Is 427) × (widened 172 300 ≡ Is 172) × (widened 128 0 ≡ Before)
-unfolding widened widenedAt
-p-numbers = (refl, refl, refl, refl)

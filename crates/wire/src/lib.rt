@@ -9,15 +9,11 @@ pub mod number;
 // The slot that means everyone, or nobody.
 pub const ALL: u8 = 63;
 
-// Codes of a burst: control frames, and header-only messages.
-pub const CTRL_CODE: u32 = 0;
-
+// The code of a header-only message.
 pub const TINY: u32 = 62;
 
 // Frame types: the top two bits of a frame's flags.
 pub const T_UP: u32 = 0;
-
-pub const T_DOWN: u32 = 1;
 
 pub const T_CTRL: u32 = 2;
 
