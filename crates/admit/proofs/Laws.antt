@@ -7,7 +7,7 @@ use Prim.Native.Nat.{ℕ, suc, _<_, _≤_, _-_, _+_, _%_}
 use native.Mathlib.Omega.{arith}
 use lib.Dec.{eqb}
 use lib.ListN.{getD}
-use borrow.Author.Tests.{lt-ltb, le-ltb, eq-eqb, ne-eqb}
+use borrow.Author.Tests.{eq-eqb, ne-eqb}
 use Rattle.bits.specs.declared.Found.{Found}
 use Rattle.bits.specs.declared.Found.the-variants.{At, Nothing}
 use Rattle.bits.specs.Mask.{hasBit, lowestFree}
@@ -18,6 +18,7 @@ use Rattle.wire.specs.Call.{keyOf}
 use Rattle.roster.specs.Members.{noMember}
 use Rattle.net.specs.declared.Station.{Station}
 use Rattle.net.specs.State.{memberAt}
+use Rattle.net.specs.Net.{isMember}
 use Rattle.admit.specs.declared.Seat.the-variants.{Known, Free, Full}
 use Rattle.admit.specs.Admission.{hasCall, findCall, seatBy, seatOf, leadsTo}
 
@@ -94,13 +95,13 @@ module _ (n : ℕ) (s : Station) (at to : ℕ) where
   unfolding leadsTo
   leads-there h e = rw (left n h, eq-eqb at to e)
 
-  pub leads-off : n < 62 → (at ≡ to → ⊥) → 62 ≤ at → leadsTo (62 - n) s at to ≡ false
+  pub leads-off : n < 62 → (at ≡ to → ⊥) → isMember (s .used) at ≡ false → leadsTo (62 - n) s at to ≡ false
   unfolding leadsTo
-  leads-off h e g = rw (left n h, ne-eqb at to e, le-ltb at 62 g)
+  leads-off h e g = rw (left n h, ne-eqb at to e, g)
 
-  pub leads-on : n < 62 → (at ≡ to → ⊥) → at < 62 → leadsTo (62 - n) s at to ≡ leadsTo (62 - (n + 1)) s (memberAt s at .via) to
+  pub leads-on : n < 62 → (at ≡ to → ⊥) → isMember (s .used) at ≡ true → leadsTo (62 - n) s at to ≡ leadsTo (62 - (n + 1)) s (memberAt s at .via) to
   unfolding leadsTo
-  leads-on h e g = rw (left n h, ne-eqb at to e, lt-ltb at 62 g)
+  leads-on h e g = rw (left n h, ne-eqb at to e, g)
 
   pub leads-end : 62 ≤ n → leadsTo (62 - n) s at to ≡ false
   unfolding leadsTo

@@ -2,7 +2,7 @@
 use Prim.Native.Nat.{ℕ, zero, suc}
 use mathlib.Core.Bool.{Bool, true, false, cond, _&&_, _||_}
 use mathlib.Core.List.{List, [], _∷_}
-use lib.Dec.{eqb, ltb}
+use lib.Dec.{eqb}
 use lib.ListN.{getD}
 use lib.Ieee.{Float}
 use Rattle.bits.specs.Loop.{first}
@@ -14,7 +14,7 @@ use Rattle.out.specs.Encode.{eventWord}
 use Rattle.roster.specs.Members.{noMember, newMember}
 use Rattle.net.specs.declared.Station.{Station}
 use Rattle.net.specs.State.{indexOf, memberAt, withMember, withUsed, alsoAck}
-use Rattle.net.specs.Net.{Said, said}
+use Rattle.net.specs.Net.{isMember, Said, said}
 use Rattle.admit.specs.declared.Seat.{Seat}
 use Rattle.admit.specs.declared.Seat.the-variants.{Known, Free, Full}
 
@@ -60,10 +60,10 @@ admitBy (Known i) s call via now = said (alsoAck s (indexOf i)) []
 admitBy (Free i) s call via now = said (enterAt s i call via now) (admitEvents i via)
 admitBy Full s call via now = said s []
 
--- the relays from slot `at` on lead to slot `to`, in n steps at most
+-- the relays from slot `at` on lead to slot `to`, in n steps at most: each step from a member to its relay
 unfoldable pub leadsTo : ℕ → Station → ℕ → ℕ → Bool
 leadsTo zero s at to = false
-leadsTo (suc n) s at to = eqb at to || (ltb at 62 && leadsTo n s (memberAt s at .via) to)
+leadsTo (suc n) s at to = eqb at to || (isMember (s .used) at && leadsTo n s (memberAt s at .via) to)
 
 -- the relay of a newcomer at this seat: one that leads back to its own slot is not written (document 01, Member)
 abbrev pub viaFor : Station → Seat → ℕ → ℕ

@@ -75,7 +75,7 @@ pub fn slot_of(seat: Seat) -> u8
 fn admit_events(o: &mut [u32], at: usize, slot: u8, via: u8) -> usize
     ensures { λ r. ⌜ Wrote (now (o .entry)) at (admitEvents slot via) (now (o .exit)) r ⌝ }
 {
-    let direct = via == 63;
+    let direct = via == wire::ALL;
     if direct {
         return out::put_event(o, at, 1, slot as usize, via);
     }
@@ -137,7 +137,7 @@ fn leads_to(s: Station, from: u8, to: u8) -> bool
         if at == to {
             return true;
         }
-        if 62 <= at {
+        if !net::is_member(s.used, at) {
             return false;
         }
         let i = net::index(at);

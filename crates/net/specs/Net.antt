@@ -1,12 +1,12 @@
--- net.rs: `NetStation::new`, `on_tx_done`, `level_for`, `slot_len`; `down_level` and `leaf_wait_s` of ncs.rs.
-use Prim.Native.Nat.{ℕ}
+-- net.rs: `NetStation::new`, `on_tx_done`, `level_for`, `tiny_wave`, `slot_len`; `cap_for`, `down_level` and `leaf_wait_s` of ncs.rs.
+use Prim.Native.Nat.{ℕ, _-_, _^_}
 use mathlib.Core.Path.{_≡_}
 use mathlib.Core.Bool.{Bool, true, false, cond, _&&_}
 use mathlib.Core.List.{List}
 use lib.ListN.{replicate, getD}
 use lib.Dec.{eqb, ltb}
 use lib.Ieee.{Float, nan, binary64, add, mul}
-use Rattle.bits.specs.Mask.{hasBit}
+use Rattle.bits.specs.Mask.{hasBit, bothOf}
 use Rattle.level.specs.declared.Level.{Level}
 use Rattle.level.specs.declared.Clock.{Clock}
 use Rattle.level.specs.declared.Clock.the-variants.{Never, At}
@@ -35,6 +35,10 @@ times a b = mul binary64 a b
 -- the slot has a member; from 62 on there is no slot
 unfoldable pub isMember : ℕ → ℕ → Bool
 isMember used slot = ltb slot 62 && hasBit used slot
+
+-- the slots with a member as a mask: bits 62 and 63 of `used` are no slots
+abbrev pub membersIn : ℕ → ℕ
+membersIn used = bothOf used (2 ^ 62 - 1)
 
 -- ---- a start
 
@@ -98,6 +102,14 @@ onTxDone s t = withRound (withWait s (doneWait s t)) (withTxat (s .round) t)
 -- `level_for` of a level that may be unheard
 abbrev pub levelIn : Settings → Level → ℕ
 levelIn g x = levelFor (g .thresholds) (g .margin) x
+
+-- `tiny_wave`: the level of the waveform that a header-only burst is sent in
+abbrev pub tinyWave : Settings → Level → ℕ
+tinyWave g x = levelIn g x
+
+-- `cap_for`: the level that a member is to send at
+abbrev pub capFor : Settings → Member → ℕ
+capFor g m = levelIn g (m .snrup)
 
 -- `down_level`: the level of bursts to a member
 abbrev pub downLevel : Settings → Member → ℕ

@@ -102,7 +102,7 @@ abbrev pub withClosing : Round → Bool → ℕ → Round
 withClosing r c n =
     record { list = r .list; toack = r .toack; treenews = r .treenews; windowend = r .windowend; nextbeacon = r .nextbeacon; nextround = r .nextround; txat = r .txat; number = r .number; rxsent = r .rxsent; closeleft = n; closed = c; traffic = r .traffic; rxdirty = r .rxdirty; activity = r .activity }
 
--- what a beacon leaves: its check-in window, the next one, and nobody to acknowledge
+-- what a beacon leaves: its check-in window, the next one, and those who go on waiting for acknowledgement
 abbrev pub withBeacon : Round → ℕ → Float → Float → Round
 withBeacon r m e t =
     record { list = r .list; toack = m; treenews = r .treenews; windowend = e; nextbeacon = t; nextround = r .nextround; txat = r .txat; number = r .number; rxsent = r .rxsent; closeleft = r .closeleft; closed = r .closed; traffic = r .traffic; rxdirty = r .rxdirty; activity = r .activity }

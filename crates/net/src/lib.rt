@@ -2,7 +2,7 @@
 ghost use mathlib.Core.Path.{_≡_};
 ghost use mathlib.Core.Bool.{cond};
 ghost use Rattle.net.specs.State.{indexOf, memberAt};
-ghost use Rattle.net.specs.Net.{isMember, firstRound, noTotals, newStation, waitOf, idleWait, isIdle, polledBy, deadlineOf, doneBy, onTxDone, levelIn, downLevel, slotLen, leafWait};
+ghost use Rattle.net.specs.Net.{isMember, membersIn, firstRound, noTotals, newStation, waitOf, idleWait, isIdle, polledBy, deadlineOf, doneBy, onTxDone, levelIn, downLevel, slotLen, leafWait};
 use inbox::cell::Cell;
 use level::Clock;
 use level::Level;
@@ -113,6 +113,13 @@ pub fn is_member(used: u64, slot: u8) -> bool
     (slot < 62) & bits::has(used, slot as usize)
 }
 
+// The slots with a member: bits 62 and 63 of `used` are no slots.
+pub fn members(used: u64) -> u64
+    ensures { λ r. ⌜ r ≡ membersIn used ⌝ }
+{
+    bits::both(used, 4611686018427387903)
+}
+
 fn first_round() -> Round
     ensures { λ r. ⌜ r ≡ firstRound ⌝ }
 {
@@ -152,7 +159,7 @@ pub fn new(settings: Settings, count: usize) -> Station
     ensures { λ r. ⌜ r ≡ newStation settings count ⌝ }
 {
     let nobody = [32u8; 7];
-    let m = roster::new_member(nobody, 63, 0.0);
+    let m = roster::new_member(nobody, wire::ALL, 0.0);
     let c = inbox::store::empty_cell();
     let wait = Wait {
         turn: Turn::Idle,

@@ -1,15 +1,15 @@
 -- Each choice of a relay is a slot below 62 of the mask that it was made from, or 63 for nobody.
 -- Assumes nothing.
-use Prim.Native.Nat.{ℕ, _-_, _^_, _<_}
+use Prim.Native.Nat.{ℕ, _-_, _^_, _<_, _≤_}
 use mathlib.Core.Path.{_≡_, refl, sym, ap, _∙_, subst}
-use mathlib.Core.Bool.{Bool, true, cond, _&&_, _||_}
+use mathlib.Core.Bool.{Bool, true, false, cond, _&&_, _||_}
 use mathlib.Core.List.{List}
 use mathlib.Core.Logic.{_⊎_, _≢_, ⊎-elim, inl, inr}
 use native.Mathlib.Omega.{arith}
 use lib.Dec.{eqb, ltb, leb}
 use lib.ListN.{getD}
 use lib.Ieee.{Float}
-use borrow.Author.Tests.{eqb-true}
+use borrow.Author.Tests.{eqb-true, lt-ltb, le-ltb}
 use Rattle.bits.specs.Loop.{first}
 use Rattle.bits.specs.Mask.{hasBit, withoutBit, bothOf, minusOf}
 use Rattle.bits.specs.declared.Found.{Found}
@@ -125,7 +125,7 @@ module _ (hears : List ℕ) (needs able : ℕ) (tried : List ℕ) (slot : ℕ) (
 
   pub source-of : SlotOf (withoutBit needs slot) (relaySrcFor hears needs able tried slot floor)
   unfolding relaySrcFor
-  source-of = source-by _ refl
+  source-of = cond-keeps (SlotOf (withoutBit needs slot)) (ltb slot 62) _ 63 (λ _. source-by _ refl) (λ _. inr refl)
 
   pub source-slot : (relaySrcFor hears needs able tried slot floor < 62) ⊎ (relaySrcFor hears needs able tried slot floor ≡ 63)
   source-slot = slot-or-63 (withoutBit needs slot) source-of
@@ -140,13 +140,29 @@ module _ (hears : List ℕ) (needs able : ℕ) (tried : List ℕ) (slot : ℕ) (
       subst (λ k. relayerFor hears able (getD tried k 0) k floor ≡ slot) q (eqb-true _ _ (and-true (hasBit (withoutBit needs slot) s) (eqb (relayerFor hears able (getD tried s 0) s floor) slot) (h .1) .1))
   relayed-by r Nothing e q l = absurd (omega arith)
 
+  relayed-at : (b : Bool) (r : ℕ) → cond b (slotOr63 (first (isSource hears (withoutBit needs slot) able tried slot floor) 62 0)) 63 ≡ r → r < 62 → relayerFor hears able (getD tried r 0) r floor ≡ slot
+  relayed-at true r e l = relayed-by r _ refl e l
+  relayed-at false r e l = absurd (omega arith)
+
   -- its relayer is that member
   pub source-relayer : (r : ℕ) → relaySrcFor hears needs able tried slot floor ≡ r → r < 62 → relayerFor hears able (getD tried r 0) r floor ≡ slot
   unfolding relaySrcFor
-  source-relayer r e l = relayed-by r _ refl e l
+  source-relayer r e l = relayed-at (ltb slot 62) r e l
 
   -- where none is left, none is chosen
   pub none-left : withoutBit needs slot ≡ 0 → relaySrcFor hears needs able tried slot floor ≡ 63
   unfolding relaySrcFor
-  none-left e =
-      rw e (ap slotOr63 (first-none (isSource hears 0 able tried slot floor) 62 (λ j h. rw (has-none j))))
+  none-left e = none-by (ltb slot 62) (rw e (ap slotOr63 (first-none (isSource hears 0 able tried slot floor) 62 (λ j h. rw (has-none j)))))
+    where
+      none-by : (b : Bool) {x : ℕ} → x ≡ 63 → cond b x 63 ≡ 63
+      none-by true e = e
+      none-by false e = refl
+
+  -- nor where there is no such slot
+  pub no-slot : 62 ≤ slot → relaySrcFor hears needs able tried slot floor ≡ 63
+  unfolding relaySrcFor
+  no-slot h = rw (le-ltb slot 62 h)
+
+  pub at-slot : slot < 62 → slotOr63 (first (isSource hears (withoutBit needs slot) able tried slot floor) 62 0) ≡ relaySrcFor hears needs able tried slot floor
+  unfolding relaySrcFor
+  at-slot h = rw (lt-ltb slot 62 h)

@@ -124,9 +124,13 @@ isWilling m = not (m .hascaps) || relays (m .caps)
 abbrev pub downOrUp : Member → Level
 downOrUp m = orElse (m .snrdown) (m .snrup)
 
+-- `active()`: a member that misses few polls and was heard
+abbrev pub active : Member → ℕ → Bool
+active m limit = ltb (m .missed) limit && isAt (m .lastheard)
+
 -- `direct()`: an active member that is polled itself
 abbrev pub isDirect : Member → ℕ → Bool
-isDirect m limit = ltb (m .missed) limit && isAt (m .lastheard) && eqb (m .via) 63
+isDirect m limit = active m limit && eqb (m .via) 63
 
 -- ---- silent boats
 

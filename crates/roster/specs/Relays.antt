@@ -76,7 +76,7 @@ unfoldable pub relayerFor : List ℕ → ℕ → ℕ → ℕ → Float → ℕ
 relayerFor hears able tried a floor =
     orBest (bestLow hears (minusOf (withoutBit able a) tried) a floor) (bestLow hears (withoutBit able a) a floor)
 
--- `relay_src_for(slot)`: the first station in need whose relayer is `slot`; 63 for none. `tried` has each station's tried relayers
+-- `relay_src_for(slot)`: the first station in need whose relayer is `slot`; 63 for none, and where `slot` is no slot. `tried` has each station's tried relayers
 abbrev pub slotOr63 : Found → ℕ
 slotOr63 (found.At a) = a
 slotOr63 found.Nothing = 63
@@ -86,7 +86,8 @@ isSource hears left able tried slot floor a =
     hasBit left a && eqb (relayerFor hears able (getD tried a 0) a floor) slot
 
 unfoldable pub relaySrcFor : List ℕ → ℕ → ℕ → List ℕ → ℕ → Float → ℕ
-relaySrcFor hears needs able tried slot floor = slotOr63 (first (isSource hears (withoutBit needs slot) able tried slot floor) 62 0)
+relaySrcFor hears needs able tried slot floor =
+    cond (ltb slot 62) (slotOr63 (first (isSource hears (withoutBit needs slot) able tried slot floor) 62 0)) 63
 
 -- ---- turn_over
 

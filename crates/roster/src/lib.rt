@@ -99,7 +99,7 @@ pub fn with_direct(m: Member, snr: f32) -> Member
 fn heard_by(via: u8, now: f64) -> Clock
     ensures { λ r. ⌜ r ≡ heardBy via now ⌝ }
 {
-    let direct = via == 63;
+    let direct = via == wire::ALL;
     if direct { Clock::At(now) } else { Clock::Never }
 }
 
@@ -263,7 +263,7 @@ pub fn is_direct(m: Member, limit: u32) -> bool
     ensures { λ r. ⌜ r ≡ isDirect m limit ⌝ }
 {
     let lastheard = m.lastheard;
-    (m.missed < limit) & level::is_at(lastheard) & (m.via == 63)
+    (m.missed < limit) & level::is_at(lastheard) & (m.via == wire::ALL)
 }
 
 // How many boats are silent, when one boat changes.

@@ -18,7 +18,7 @@ pub fn could_relay(m: Member) -> bool
     ensures { λ r. ⌜ r ≡ couldRelay m ⌝ }
 {
     let lastheard = m.lastheard;
-    (m.via == 63) & (m.missed == 0) & level::is_at(lastheard) & super::is_willing(m)
+    (m.via == wire::ALL) & (m.missed == 0) & level::is_at(lastheard) & super::is_willing(m)
 }
 
 // Some of its traffic may lie with others: it missed its poll, or messages arrived past a hole.
@@ -26,7 +26,7 @@ pub fn needs_relay(m: Member) -> bool
     ensures { λ r. ⌜ r ≡ needsRelay m ⌝ }
 {
     let w = m.up;
-    (m.via == 63) & ((0 < m.missed) | window::holes(w))
+    (m.via == wire::ALL) & ((0 < m.missed) | window::holes(w))
 }
 
 // The level field of `hears` is one, of floor or more.
@@ -41,7 +41,7 @@ fn loud_enough(q: u8, floor: f32) -> bool
 fn better_low(p: Pick, ok: bool, slot: u8, q: u8) -> Pick
     ensures { λ r. ⌜ r ≡ betterLow p ok slot q ⌝ }
 {
-    if ok & ((p.slot == 63) | (p.level < q)) {
+    if ok & ((p.slot == wire::ALL) | (p.level < q)) {
         return Pick {
             slot: slot,
             level: q,
@@ -54,7 +54,7 @@ fn better_low(p: Pick, ok: bool, slot: u8, q: u8) -> Pick
 fn better_high(p: Pick, ok: bool, slot: u8, q: u8) -> Pick
     ensures { λ r. ⌜ r ≡ betterHigh p ok slot q ⌝ }
 {
-    if ok & ((p.slot == 63) | (p.level <= q)) {
+    if ok & ((p.slot == wire::ALL) | (p.level <= q)) {
         return Pick {
             slot: slot,
             level: q,
@@ -88,7 +88,10 @@ fn high_step(hears: &[u8; 3844], able: u64, a: u8, floor: f32, i: u8, p: Pick) -
 pub fn best_low(hears: &[u8; 3844], able: u64, a: u8, floor: f32) -> u8
     ensures { λ r. ⌜ r ≡ bestLow (now (hears .entry)) able a floor ⌝ }
 {
-    let mut p = Pick { slot: 63, level: 0 };
+    let mut p = Pick {
+        slot: wire::ALL,
+        level: 0,
+    };
     let mut i: u8 = 0;
     while i < 62 {
         p = low_step(hears, able, a, floor, i, p);
@@ -101,7 +104,10 @@ pub fn best_low(hears: &[u8; 3844], able: u64, a: u8, floor: f32) -> u8
 pub fn best_high(hears: &[u8; 3844], able: u64, a: u8, floor: f32) -> u8
     ensures { λ r. ⌜ r ≡ bestHigh (now (hears .entry)) able a floor ⌝ }
 {
-    let mut p = Pick { slot: 63, level: 0 };
+    let mut p = Pick {
+        slot: wire::ALL,
+        level: 0,
+    };
     let mut i: u8 = 0;
     while i < 62 {
         p = high_step(hears, able, a, floor, i, p);
@@ -130,7 +136,7 @@ pub fn relayer_for(hears: &[u8; 3844], able: u64, tried: u64, a: u8, floor: f32)
 {
     let others = bits::without(able, a as usize);
     let first = best_low(hears, bits::minus(others, tried), a, floor);
-    if first != 63 {
+    if first != wire::ALL {
         return first;
     }
     best_low(hears, others, a, floor)
@@ -167,9 +173,12 @@ pub fn relay_src_for(
 ) -> u8
     ensures { λ r. ⌜ r ≡ relaySrcFor (now (hears .entry)) needs able (now (tried .entry)) slot floor ⌝ }
 {
+    if 62 <= slot {
+        return wire::ALL;
+    }
     let left = bits::without(needs, slot as usize);
     if left == 0 {
-        return 63;
+        return wire::ALL;
     }
     let mut a: u8 = 0;
     while a < 62 {
@@ -233,7 +242,7 @@ pub fn turn_over(hears: &[u8; 3844], used: u64, m: Member, a: u8, slot: u8) -> M
 pub fn promotable(here: bool, m: Member, floor: f32) -> Level
     ensures { λ r. ⌜ r ≡ promotableAt here m floor ⌝ }
 {
-    let leaf = here & (m.via != 63);
+    let leaf = here & (m.via != wire::ALL);
     let direct = m.direct;
     match direct {
         Level::Unheard => Level::Unheard,
@@ -250,5 +259,5 @@ pub fn is_leaf(m: Member, limit: u32) -> bool
     ensures { λ r. ⌜ r ≡ isLeaf m limit ⌝ }
 {
     let snrup = m.snrup;
-    (m.via != 63) | ((limit <= m.missed) & !level::is_heard(snrup))
+    (m.via != wire::ALL) | ((limit <= m.missed) & !level::is_heard(snrup))
 }

@@ -5,7 +5,7 @@ use mathlib.Core.Path.{_≡_, sym, _∙_, ap}
 use Prim.Native.Nat.{_≤_, _-_}
 use native.Mathlib.Omega.{arith}
 use borrow.Author.Needs.{needs}
-use Rattle.roster.proofs.Laws.{none-left}
+use Rattle.roster.proofs.Laws.{none-left, no-slot, at-slot}
 use Rattle.roster.specs.Relays.{isSource, relaySrcFor, slotOr63}
 use Rattle.roster.proofs.relay.relay_src_for.Statement.{statement}
 use Rattle.roster.proofs.relay.relay_src_for.Tie as tie
@@ -22,19 +22,21 @@ without-requires : tie.Need-without-requires Inv-loop μ-loop
 without-requires c κs = search needs
 
 returns : tie.Need-returns Inv-loop μ-loop
-returns c = sym (none-left _ _ _ _ _ _ (sym (c .before .without .ensures) ∙ c .if1 .taken))
+returns c = sym (no-slot _ _ _ _ _ _ (c .if1 .taken))
+
+returns-2 : tie.Need-returns-2 Inv-loop μ-loop
+returns-2 c = sym (none-left _ _ _ _ _ _ (sym (c .before .without .ensures) ∙ c .if2 .taken))
 
 loop-holds : tie.Need-loop-holds Inv-loop μ-loop
-unfolding relaySrcFor
-loop-holds c = (omega arith, rw (c .before .without .ensures))
+loop-holds c = (omega arith, rw (c .before .without .ensures) (at-slot _ _ _ _ _ _ (omega arith)))
 
 is-source-requires : tie.Need-is-source-requires Inv-loop μ-loop
 is-source-requires c κs = omega arith
 
-returns-2 : tie.Need-returns-2 Inv-loop μ-loop
-returns-2 c =
+returns-3 : tie.Need-returns-3 Inv-loop μ-loop
+returns-3 c =
     let b = c .before .before in
-    ap slotOr63 (sym (first-stop _ _ _ (b .loop-test .taken) (sym (c .before .is-source .ensures) ∙ c .if2 .taken))) ∙ b .before .loop .inv .1
+    ap slotOr63 (sym (first-stop _ _ _ (b .loop-test .taken) (sym (c .before .is-source .ensures) ∙ c .if3 .taken))) ∙ b .before .loop .inv .1
 
 add-a : tie.Need-add-a Inv-loop μ-loop
 add-a c = omega arith
@@ -45,10 +47,10 @@ loop-less c = omega arith
 loop-again : tie.Need-loop-again Inv-loop μ-loop
 loop-again c =
     let b = c .before .before in
-    (omega arith, ap slotOr63 (sym (first-pass _ _ _ (b .loop-test .taken) (sym (c .before .is-source .ensures) ∙ c .if2 .left))) ∙ b .before .loop .inv .1)
+    (omega arith, ap slotOr63 (sym (first-pass _ _ _ (b .loop-test .taken) (sym (c .before .is-source .ensures) ∙ c .if3 .left))) ∙ b .before .loop .inv .1)
 
-returns-3 : tie.Need-returns-3 Inv-loop μ-loop
-returns-3 c = ap slotOr63 (sym (first-end _ _ _ (c .loop-test .left))) ∙ c .before .loop .inv .1
+returns-4 : tie.Need-returns-4 Inv-loop μ-loop
+returns-4 c = ap slotOr63 (sym (first-end _ _ _ (c .loop-test .left))) ∙ c .before .loop .inv .1
 
 pub relay-src-for-spec : {M : Type 1} → statement M
 relay-src-for-spec =
@@ -56,12 +58,13 @@ relay-src-for-spec =
     (tie.spec
     Inv-loop
     μ-loop
-    without-requires
     returns
+    without-requires
+    returns-2
     loop-holds
     is-source-requires
-    returns-2
+    returns-3
     add-a
     loop-less
     loop-again
-    returns-3)
+    returns-4)
