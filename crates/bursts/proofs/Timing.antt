@@ -1,5 +1,5 @@
 -- The numbers that a beacon announces are within half a millisecond, where the product is between 1 and 65,535 milliseconds. Assumes nothing.
-use mathlib.Core.Path.{_≡_, sym, subst}
+use mathlib.Core.Path.{_≡_, sym, ap, _∙_, subst}
 use mathlib.Core.Bool.{false}
 use Prim.Native.Nat.{ℕ, zero, suc, _*_, _<_, _≤_}
 use native.Mathlib.Omega.{arith}
@@ -7,6 +7,8 @@ use borrow.Author.Tests.{ne-eqb}
 use lib.IntN.{ℤ}
 use lib.Ieee.{Float, fin, up, down, sub, binary64}
 use lib.Ieee.Fits.{down-pos}
+use Rattle.bits.proofs.Lists.{cond-false}
+use Rattle.level.specs.Order.{isNan}
 use Rattle.rounding.specs.Round.{announced, Close}
 use Rattle.rounding.proofs.Rounding.{announced-close}
 use Rattle.net.specs.declared.Settings.{Settings}
@@ -29,4 +31,5 @@ pub len-close : (g : Settings) (m : ℕ) (e : ℤ) → times (slotLen g) thousan
     → down e ≤ m * up e → m * up e ≤ 65535 * down e → Close (lenMs g) (m * up e) (down e)
 len-close g m e p l h =
     let c : Close (announced (times (slotLen g) thousand)) (m * up e) (down e) = subst (λ (x : Float). Close (announced x) (m * up e) (down e)) (sym p) (announced-close m e h) in
-    subst (λ (r : ℕ). Close r (m * up e) (down e)) (sym (or-one (announced (times (slotLen g) thousand)) (m * up e) (down e) (down-pos e) l c)) c
+    let n : isNan (times (slotLen g) thousand) ≡ false = ap isNan p in
+    subst (λ (r : ℕ). Close r (m * up e) (down e)) (sym (cond-false _ _ _ n ∙ or-one (announced (times (slotLen g) thousand)) (m * up e) (down e) (down-pos e) l c)) c

@@ -12,17 +12,18 @@ use Rattle.bits.specs.Mask.{hasBit, withoutBit, bothOf, eitherOf, minusOf, lowe
 use Rattle.bits.specs.declared.Found.{Found}
 use Rattle.bits.specs.declared.Found.the-variants as found
 use Rattle.level.specs.Consts.{nought}
+use Rattle.level.specs.Order.{isNan}
 use Rattle.rounding.specs.Round.{announced}
 use Rattle.wire.specs.Call.{packCall}
 use Rattle.wire.specs.Kinds.{kPoll, kRelay, cBeacon, cAcks, cTree, cRxlist}
 use Rattle.out.specs.Encode.{headWord, waveWord, ctrlWords, chunkWords}
 use Rattle.roster.specs.declared.Member.{Member}
-use Rattle.roster.specs.Members.{isNews, toldNow}
+use Rattle.roster.specs.Members.{isNews, toldNow, downOrUp}
 use Rattle.net.specs.declared.Station.{Station}
 use Rattle.net.specs.declared.Settings.{Settings}
 use Rattle.net.specs.declared.Turn.the-variants.{Sending}
 use Rattle.net.specs.State.{withWait, withRound, withMembers, withToack, withTreenews, withRxdirty, withBeacon, oneList}
-use Rattle.net.specs.Net.{plus, times, waitOf, levelIn, downLevel, slotLen, Said, said}
+use Rattle.net.specs.Net.{plus, times, membersIn, waitOf, tinyWave, capFor, slotLen, Said, said}
 use Rattle.bursts.specs.Rows.{seated, leastOf, ackRows, ackRowsOn, treeRows, listRows, anyHoles, leastReach, leastDirect}
 
 -- the head of a burst, and of one without frames
@@ -47,36 +48,47 @@ abbrev pub pollKind : ℕ → ℕ
 pollKind relayfor = cond (eqb relayfor 63) kPoll kRelay
 
 abbrev pub pollLevel : Settings → Member → Bool → ℕ
-pollLevel g m robust = cond robust 0 (downLevel g m)
+pollLevel g m robust = cond robust 0 (tinyWave g (downOrUp m))
 
 -- the poll of a slot, whose member is m where there is one; robust: at the floor
 unfoldable pub pollBurst : Settings → Bool → Member → ℕ → ℕ → Bool → List ℕ
 pollBurst g here m slot relayfor robust =
     cond here
-    (tinyWords (pollKind relayfor) (pollExtra slot relayfor (levelIn g (m .snrup)) (m .burst)) (pollLevel g m robust))
+    (tinyWords (pollKind relayfor) (pollExtra slot relayfor (capFor g m) (m .burst)) (pollLevel g m robust))
     (tinyWords (pollKind relayfor) (pollExtra slot relayfor 0 0) 0)
-
--- P extra: poll slot 5, cap 3, burst 2; relay 5 for 9, cap 3
-pub p-polls : (pollExtra 5 63 3 2 ≡ 2245) × (pollExtra 5 9 3 2 ≡ 12869)
-p-polls = (refl, refl)
 
 -- ---- acks_burst
 
--- those to acknowledge, and with them those whose relay is news
+-- the members to acknowledge, and with them those whose relay is news
 abbrev pub acked : Station → ℕ
-acked s = bothOf (s .round .toack) (s .used)
+acked s = bothOf (s .round .toack) (membersIn (s .used))
 
 abbrev pub movedIn : Station → ℕ
-movedIn s = bothOf (s .round .treenews) (s .used)
+movedIn s = bothOf (s .round .treenews) (membersIn (s .used))
 
 abbrev pub ackedOrMoved : Station → ℕ
 ackedOrMoved s = eitherOf (acked s) (movedIn s)
 
--- C_ACKS frames of three entries, then C_TREE frames of ten pairs, at the level that the weakest of them can hear
+-- slots among them without a member, which `reach_level` puts at the floor
+abbrev pub strays : Station → ℕ
+strays s = minusOf (eitherOf (s .round .toack) (s .round .treenews)) (membersIn (s .used))
+
+abbrev pub floorIf : ℕ → ℕ → ℕ
+floorIf strays lev = cond (eqb strays 0) lev 0
+
+-- the level that the weakest of them can hear
+abbrev pub acksLevel : Station → ℕ
+acksLevel s = floorIf (strays s) (leastReach s (ackedOrMoved s))
+
+-- `ack_frames`: C_ACKS frames of three entries
+abbrev pub ackFrames : List ℕ → List ℕ
+ackFrames rows = chunkWords cAcks 18 rows
+
+-- then C_TREE frames of ten pairs
 abbrev pub acksWords : Station → List ℕ
 acksWords s =
-    headWords 0 0 0 (leastReach s (ackedOrMoved s))
-    ++ (chunkWords cAcks 18 (ackRows s (acked s) 62) ++ chunkWords cTree 20 (treeRows s (ackedOrMoved s) (movedIn s)))
+    headWords 0 0 0 (acksLevel s)
+    ++ (ackFrames (ackRows s (acked s) 62) ++ chunkWords cTree 20 (treeRows s (ackedOrMoved s) (movedIn s)))
 
 unfoldable pub acksBurst : Station → Said
 acksBurst s = said (withRound (sends s) (withTreenews (withToack (s .round) 0) 0)) (acksWords s)
@@ -103,12 +115,15 @@ abbrev pub firstMs : Settings → ℕ → ℕ
 firstMs g acks =
     announced (times (plus (plus (plus (sub binary64 (beaconLasts g acks) (g .lead)) (g .turnaround)) (g .lead)) (g .latency)) thousand)
 
--- and the slot length, 1 at least
+-- and the slot length, 1 at least; a NaN is 0, as in the Rust
 abbrev pub orOne : ℕ → ℕ
 orOne n = cond (eqb n 0) 1 n
 
+abbrev pub lenOf : Float → ℕ
+lenOf x = cond (isNan x) 0 (orOne (announced x))
+
 abbrev pub lenMs : Settings → ℕ
-lenMs g = orOne (announced (times (slotLen g) thousand))
+lenMs g = lenOf (times (slotLen g) thousand)
 
 -- lowest byte first
 abbrev pub twoBytes : ℕ → List ℕ
@@ -148,7 +163,7 @@ beaconAcks s = (length (beaconRows s) + 17) / 18
 
 abbrev pub beaconWords : Station → List ℕ
 beaconWords s =
-    headWords 0 0 0 (s .settings .beaconlevel) ++ (ctrlWords (beaconPayload (s .settings) (beaconAcks s)) ++ chunkWords cAcks 18 (beaconRows s))
+    headWords 0 0 0 (s .settings .beaconlevel) ++ (ctrlWords (beaconPayload (s .settings) (beaconAcks s)) ++ ackFrames (beaconRows s))
 
 -- now + dur + turnaround + window_slots * slot_len + 0.0 (no chorus) + reply_slack, of a beacon with this many frames after the first
 abbrev pub windowEnd : Settings → Float → ℕ → Float

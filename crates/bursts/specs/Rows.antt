@@ -117,7 +117,8 @@ directAt s i lev =
 unfoldable pub leastDirect : Station → ℕ
 leastDirect s = orFloor (fold (directAt s) 62 0 17)
 
--- rows of bytes in a lent array: its first n are bs
+-- rows of bytes in a lent array: its first n are bs. What stands in it past n is undecided: no burst has it, since whoever reads the array is handed n and
+-- reads those n bytes alone
 pub record Filled (bs : List ℕ) (rows : List ℕ) (n : ℕ) : Type 0 where
   pub front : take n rows ≡ bs
   pub count : n ≡ length bs

@@ -4,10 +4,9 @@ ghost use mathlib.Core.List.{[], _∷_, _++_};
 ghost use Prim.Native.Nat.{_-_, _/_, _%_};
 ghost use lib.ListN.{replicate, take, set};
 ghost use Rattle.bits.specs.Mask.{lowestBit};
-ghost use Rattle.wire.specs.Kinds.{cAcks};
-ghost use Rattle.out.specs.Encode.{Wrote, chunkWords};
+ghost use Rattle.out.specs.Encode.{Wrote};
 ghost use Rattle.net.specs.Net.{Did};
-ghost use Rattle.bursts.specs.Bursts.{pollExtra, pollKind, pollLevel, pollBurst, acksBurst, beaconLasts, firstMs, lenMs, namePayload, beaconPayload, beaconSize, withoutFound, beyond, windowEnd, beaconOf, tellOf, tellAll, rxListBurst};
+ghost use Rattle.bursts.specs.Bursts.{pollExtra, pollKind, pollLevel, pollBurst, floorIf, ackFrames, acksBurst, beaconLasts, firstMs, lenMs, namePayload, beaconPayload, beaconSize, withoutFound, beyond, windowEnd, beaconOf, tellOf, tellAll, rxListBurst};
 use bits::Found;
 use net::Settings;
 use net::Station;
@@ -24,7 +23,7 @@ fn poll_extra(slot: u8, relayfor: u8, cap: u32, burst: u8) -> u32
 {
     let c = rows::least(cap, 15);
     let s = slot as u32 % 64;
-    if relayfor == 63 {
+    if relayfor == wire::ALL {
         return s + 64 * c + 1024 * (burst as u32 % 4);
     }
     s + 64 * (relayfor as u32 % 64) + 4096 * c
@@ -33,7 +32,11 @@ fn poll_extra(slot: u8, relayfor: u8, cap: u32, burst: u8) -> u32
 fn poll_kind(relayfor: u8) -> u32
     ensures { λ r. ⌜ r ≡ pollKind relayfor ⌝ }
 {
-    if relayfor == 63 { 1 } else { 5 }
+    if relayfor == wire::ALL {
+        wire::K_POLL
+    } else {
+        wire::K_RELAY
+    }
 }
 
 fn poll_level(g: Settings, m: Member, robust: bool) -> u32
@@ -67,20 +70,30 @@ pub fn poll_burst(
 
 // ---- acks_burst
 
+// A slot without a member among those told is at the floor.
+fn floor_if(strays: u64, lev: u32) -> u32
+    ensures { λ r. ⌜ r ≡ floorIf strays lev ⌝ }
+{
+    if strays == 0 { lev } else { 0 }
+}
+
 // Slot assignments, and the relay of every leaf among them or moved.
 pub fn acks_burst(mut s: Station, o: &mut [u32], at: &mut usize) -> Station
     ensures { λ r. ⌜ Did (acksBurst s) r (now (o .entry)) (now (at .entry)) (now (o .exit)) (now (at .exit)) ⌝ }
 {
-    let known = bits::both(s.round.toack, s.used);
-    let moved = bits::both(s.round.treenews, s.used);
+    let members = net::members(s.used);
+    let known = bits::both(s.round.toack, members);
+    let moved = bits::both(s.round.treenews, members);
     let all = bits::either(known, moved);
+    let strays = bits::minus(bits::either(s.round.toack, s.round.treenews), members);
     let mut acks = [0u8; 372];
     let n = rows::ack_rows(s, known, &mut acks);
     let mut tree = [0u8; 372];
     let k = rows::tree_rows(s, all, moved, &mut tree);
-    let a = out::put_head(o, *at, 0, 0, 0, rows::least_reach(s, all));
-    let b = out::put_chunks(o, a, 5, &acks, n, 18);
-    *at = out::put_chunks(o, b, 8, &tree, k, 20);
+    let lev = floor_if(strays, rows::least_reach(s, all));
+    let a = out::put_head(o, *at, 0, 0, 0, lev);
+    let b = out::put_chunks(o, a, wire::C_ACKS, &acks, n, 18);
+    *at = out::put_chunks(o, b, wire::C_TREE, &tree, k, 20);
     let w = s.wait;
     let v = net::sending(w);
     s.wait = v;
@@ -98,7 +111,7 @@ fn name_payload(g: Settings) -> [u8; 32]
     let c = wire::calls::pack_call(call);
     let n = g.name;
     let mut p = [0u8; 32];
-    p[0] = 1;
+    p[0] = wire::C_BEACON;
     p[1] = c[0];
     p[2] = c[1];
     p[3] = c[2];
@@ -131,11 +144,15 @@ fn first_ms(g: Settings, acks: usize) -> u16
     rounding::whole_ms(first * 1000.0)
 }
 
-// The slot length, 1 at least.
+// The slot length, 1 at least; a NaN is 0.
 fn len_ms(g: Settings) -> u16
     ensures { λ r. ⌜ r ≡ lenMs g ⌝ }
 {
-    let n = rounding::whole_ms(net::slot_len(g) * 1000.0);
+    let x = net::slot_len(g) * 1000.0;
+    if level::is_nan(x) {
+        return 0;
+    }
+    let n = rounding::whole_ms(x);
     if n == 0 { 1 } else { n }
 }
 
@@ -182,9 +199,9 @@ fn window_end(g: Settings, time: f64, acks: usize) -> f64
 
 // C_ACKS frames of three entries.
 fn put_acks(o: &mut [u32], at: usize, rows: &[u8; 744], n: usize) -> usize
-    ensures { λ r. ⌜ Wrote (now (o .entry)) at (chunkWords cAcks 18 (take n (now (rows .entry)))) (now (o .exit)) r ⌝ }
+    ensures { λ r. ⌜ Wrote (now (o .entry)) at (ackFrames (take n (now (rows .entry)))) (now (o .exit)) r ⌝ }
 {
-    out::put_rows(o, at, 5, rows, n, 18)
+    out::put_rows(o, at, wire::C_ACKS, rows, n, 18)
 }
 
 // The mask without its lowest slot.
@@ -229,7 +246,7 @@ pub fn beacon(mut s: Station, time: f64, o: &mut [u32], at: &mut usize) -> Stati
     let end = window_end(g, time, more);
     s.round.nextbeacon = soon;
     s.round.windowend = end;
-    let waiting = beyond_nine(bits::both(s.round.toack, s.used));
+    let waiting = beyond_nine(bits::both(s.round.toack, net::members(s.used)));
     s.round.toack = waiting;
     s
 }
@@ -273,7 +290,7 @@ pub fn rx_list_burst(mut s: Station, o: &mut [u32], at: &mut usize) -> Station
         return s;
     }
     let a = out::put_head(o, *at, 0, 0, 0, lev);
-    *at = out::put_chunks(o, a, 6, &list, n, 21);
+    *at = out::put_chunks(o, a, wire::C_RXLIST, &list, n, 21);
     let w = s.wait;
     let v = net::sending(w);
     s.wait = v;

@@ -89,7 +89,7 @@ fn promote(mut s: Station, o: &mut [u32], at: &mut usize) -> Station
         s.totals.silent = silent;
         let news = with_if(s.round.treenews, moved, i);
         s.round.treenews = news;
-        end = routed(moved, i, 63, o, end);
+        end = routed(moved, i, wire::ALL, o, end);
         i += 1;
     }
     *at = end;
@@ -133,7 +133,11 @@ fn new_relay(hears: &[u8; 3844], able: u64, down: bool, via: u8, c: u8, floor: f
 fn moved_to(m: Member, r: u8) -> Member
     ensures { λ k. ⌜ k ≡ cond (eqb r 63) m (reroutedTo m r) ⌝ }
 {
-    if r == 63 { m } else { roster::rerouted(m, r) }
+    if r == wire::ALL {
+        m
+    } else {
+        roster::rerouted(m, r)
+    }
 }
 
 fn without_if(mask: u64, yes: bool, i: usize) -> u64
@@ -156,7 +160,7 @@ fn move_leaves(mut s: Station, leaves: u64, able: u64, o: &mut [u32], at: &mut u
         let p = s.members[v];
         let down = bits::has(leaves, c) & is_down(s.used, m, p, s.settings.misslimit);
         let r = new_relay(&s.hears, free, down, m.via, c as u8, s.settings.relaysnr);
-        let moved = r != 63;
+        let moved = r != wire::ALL;
         let k = moved_to(m, r);
         s.members[c] = k;
         let limit = s.settings.misslimit;

@@ -57,7 +57,7 @@ pub fn ack_rows(s: Station, mask: u64, rows: &mut [u8; 372]) -> usize
 pub fn beacon_rows(s: Station, rows: &mut [u8; 744]) -> usize
     ensures { λ r. ⌜ Filled (beaconRows s) (now (rows .exit)) r ⌝ }
 {
-    let waiting = bits::both(s.round.toack, s.used);
+    let waiting = bits::both(s.round.toack, net::members(s.used));
     let others = bits::minus(s.used, s.round.toack);
     let n = ack_rows_on(s, waiting, 9, rows, 0);
     ack_rows_on(s, others, 9, rows, n)
@@ -85,7 +85,7 @@ pub fn tree_rows(s: Station, mask: u64, moved: u64, rows: &mut [u8; 372]) -> usi
     let mut i: usize = 0;
     while i < 62 {
         let m = ms[i];
-        let told = bits::has(mask, i) & ((m.via != 63) | bits::has(moved, i));
+        let told = bits::has(mask, i) & ((m.via != wire::ALL) | bits::has(moved, i));
         n = tree_row(rows, n, told, m, i as u8);
         i += 1;
     }

@@ -1,7 +1,9 @@
 -- Assumes nothing.
 use native.Mathlib.Omega.{arith}
 use Rattle.out.proofs.Laws.{then, wrote-as}
-use Rattle.bursts.specs.Bursts.{beaconOf}
+use mathlib.Core.Path.{_≡_, ap, _∙_}
+use Rattle.bits.specs.Mask.{bothOf}
+use Rattle.bursts.specs.Bursts.{acked, beyond, beaconOf}
 use Rattle.bursts.proofs.Waiting.{beacon-most, payload-front}
 use borrow.Author.Needs.{needs}
 use Rattle.bursts.proofs.beacon.Statement.{statement}
@@ -37,6 +39,9 @@ sending-requires c κs = tt
 window-end-requires : tie.Need-window-end-requires
 window-end-requires c κs = tt
 
+members-requires : tie.Need-members-requires
+members-requires c κs = tt
+
 both-requires : tie.Need-both-requires
 both-requires c κs = tt
 
@@ -49,13 +54,16 @@ same-length c = search needs
 returns : tie.Need-returns
 unfolding beaconOf
 returns c =
-    let g = c .before .before .before .before .before .before .before .before .before .before .before .before .before .before .before .before .before .before .before .before .before .before .before .before .before .before .before .before .before .before .before .args .s .settings in
+    let s = c .before .before .before .before .before .before .before .before .before .before .before .before .before .before .before .before .before .before .before .before .before .before .before .before .before .before .before .before .before .before .before .before .args .s in
+    let g = s .settings in
+    let w : c .before .beyond-nine .result ≡ beyond 9 (acked s) =
+    c .before .beyond-nine .ensures ∙ ap (beyond 9) (c .before .before .both .ensures ∙ ap (bothOf (s .round .toack)) (c .before .before .before .members .ensures)) in
     record {
-      station = rw (c .before .before .before .before .before .before .before .sending .ensures, c .before .before .before .before .before .window-end .ensures, c .before .before .before .before .before .before .before .before .before .before .before .before .before .before .before .before .before .before .before .before .before .before .before .before .before .before .before .beacon-rows .ensures .count, c .before .beyond-nine .ensures, c .before .before .both .ensures);
+      station = rw (c .before .before .before .before .before .before .before .before .sending .ensures, c .before .before .before .before .before .before .window-end .ensures, c .before .before .before .before .before .before .before .before .before .before .before .before .before .before .before .before .before .before .before .before .before .before .before .before .before .before .before .before .beacon-rows .ensures .count, w);
       wrote =
           wrote-as
-          (then (c .before .before .before .before .before .before .before .before .before .before .before .before .before .before .before .before .before .before .before .before .before .before .put-head .ensures) (then (c .before .before .before .before .before .before .before .before .before .before .before .before .before .before .before .before .put-ctrl .ensures) (c .before .before .before .before .before .before .before .before .before .before .before .put-acks .ensures)))
-          (rw (c .before .before .before .before .before .before .before .before .before .before .before .before .before .before .before .before .before .before .before .before .before .before .before .before .before .before .beacon-payload .ensures, c .before .before .before .before .before .before .before .before .before .before .before .before .before .before .before .before .before .beacon-size .ensures, payload-front g _, c .before .before .before .before .before .before .before .before .before .before .before .before .before .before .before .before .before .before .before .before .before .before .before .before .before .before .before .beacon-rows .ensures .front, c .before .before .before .before .before .before .before .before .before .before .before .before .before .before .before .before .before .before .before .before .before .before .before .before .before .before .before .beacon-rows .ensures .count));
+          (then (c .before .before .before .before .before .before .before .before .before .before .before .before .before .before .before .before .before .before .before .before .before .before .before .put-head .ensures) (then (c .before .before .before .before .before .before .before .before .before .before .before .before .before .before .before .before .before .put-ctrl .ensures) (c .before .before .before .before .before .before .before .before .before .before .before .before .put-acks .ensures)))
+          (rw (c .before .before .before .before .before .before .before .before .before .before .before .before .before .before .before .before .before .before .before .before .before .before .before .before .before .before .before .beacon-payload .ensures, c .before .before .before .before .before .before .before .before .before .before .before .before .before .before .before .before .before .before .beacon-size .ensures, payload-front g _, c .before .before .before .before .before .before .before .before .before .before .before .before .before .before .before .before .before .before .before .before .before .before .before .before .before .before .before .before .beacon-rows .ensures .front, c .before .before .before .before .before .before .before .before .before .before .before .before .before .before .before .before .before .before .before .before .before .before .before .before .before .before .before .before .beacon-rows .ensures .count));
     }
 
 pub beacon-spec : {M : Type 1} → statement M
@@ -72,6 +80,7 @@ beacon-spec =
     put-acks-requires
     sending-requires
     window-end-requires
+    members-requires
     both-requires
     beyond-nine-requires
     same-length
