@@ -27,7 +27,7 @@ use Rattle.net.specs.declared.Wait.{Wait}
 use Rattle.net.specs.declared.Turn.{Turn}
 use Rattle.net.specs.declared.Turn.the-variants.{Idle, Sending, Waiting}
 use Rattle.net.specs.State.{memberAt, withMember, withCounted, tallied, withWait, withRound, withTotals, withTxat, withClosing, withRxsent, onePoll}
-use Rattle.net.specs.Net.{plus, isMember, idleWait, isIdle, Said, said}
+use Rattle.net.specs.Net.{plus, isMember, idleWait, isIdle, Said, said, membersIn}
 use Rattle.net.proofs.Laws.{member-again}
 use Rattle.bursts.specs.Bursts.{tinyWords, acksBurst, beaconOf, rxListBurst, listSent}
 use Rattle.bursts.specs.Reroute.{rerouteOf}
@@ -171,7 +171,7 @@ draw-by false false false d e = cc
 draw-empty : (r : Round) (used : ℕ) (now : Float) → actOf r used now ≡ act.Draw → r .list ≡ 0
 unfolding actOf
 draw-empty r used now e =
-    eqb-true (r .list) 0 (draw-by (le (r .nextbeacon) now) (not (eqb (r .toack) 0) || not (eqb (r .treenews) 0)) (eqb (r .list) 0) (eqb used 0) e)
+    eqb-true (r .list) 0 (draw-by (le (r .nextbeacon) now) (not (eqb (r .toack) 0) || not (eqb (r .treenews) 0)) (eqb (r .list) 0) (eqb (membersIn used) 0) e)
 
 pub rest-quiet : (s : Station) (now : Float) → restOf true s now ≡ said s []
 rest-quiet s now = poll-never s act.Wait refl

@@ -22,7 +22,7 @@ use Rattle.net.specs.declared.Turn.{Turn}
 use Rattle.net.specs.declared.Turn.the-variants.{Idle, Sending, Waiting}
 use Rattle.net.specs.declared.Wait.{Wait}
 use Rattle.net.specs.State.{memberAt, withMember, withCounted, withWait, withRound, withList, withTxat, withClosing, withActivity, withNextbeacon, withRxsent, withNumber, onePoll, oneRound}
-use Rattle.net.specs.Net.{plus, isMember, waitOf, idleWait, Said, said}
+use Rattle.net.specs.Net.{plus, isMember, membersIn, waitOf, idleWait, Said, said}
 use Rattle.bursts.specs.Rows.{seated, maskWhere}
 use Rattle.bursts.specs.Bursts.{tinyWords, pollBurst, acksBurst, beaconOf, rxListBurst, listSent}
 use Rattle.bursts.specs.Reroute.{sourceFor, rerouteOf}
@@ -124,7 +124,7 @@ unfoldable pub actOf : Round → ℕ → Float → Act
 actOf r used now =
     cond (le (r .nextbeacon) now) act.Beacon
     (cond (not (eqb (r .toack) 0) || not (eqb (r .treenews) 0)) act.Acks
-    (cond (not (eqb (r .list) 0)) act.Poll (cond (eqb used 0) act.Wait act.Draw)))
+    (cond (not (eqb (r .list) 0)) act.Poll (cond (eqb (membersIn used) 0) act.Wait act.Draw)))
 
 abbrev pub actBy : Act → Station → Float → Decision
 actBy act.Wait s now = silent s

@@ -125,7 +125,7 @@ fn no_late(quiet: bool, closing: bool) -> Late
 {
     Late {
         slot: 255,
-        relayfor: 63,
+        relayfor: wire::ALL,
         turnbursts: 0,
         again: false,
         missed: false,
@@ -177,7 +177,7 @@ fn put_late(
     ensures { λ r. ⌜ Wrote (now (o .entry)) at (lateWords l left g m here) (now (o .exit)) r ⌝ }
 {
     if l.closing & (0 < left) {
-        return out::put_tiny(o, at, 6, 0, g.beaconlevel as u32);
+        return out::put_tiny(o, at, wire::K_CLOSE, 0, g.beaconlevel as u32);
     }
     if l.again {
         return bursts::poll_burst(g, here, m, l.slot, l.relayfor, true, o, at);
@@ -297,7 +297,7 @@ fn act_of(quiet: bool, r: Round, used: u64, time: f64) -> Act
     if r.list != 0 {
         return Act::Poll;
     }
-    if used == 0 {
+    if net::members(used) == 0 {
         return Act::Wait;
     }
     Act::Draw
@@ -341,7 +341,7 @@ fn draw(s: Station) -> u64
     let mut i: usize = 0;
     while i < 62 {
         let m = ms[i];
-        let listed = bits::has(s.used, i) & (m.via == 63) & (fourth | (m.missed < limit));
+        let listed = bits::has(s.used, i) & (m.via == wire::ALL) & (fourth | (m.missed < limit));
         list = with_if(list, listed, i);
         i += 1;
     }
