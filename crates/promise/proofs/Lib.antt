@@ -37,3 +37,4 @@ pub mod StayRun
 pub mod StruckRun
 pub mod Alike
 pub mod Needed
+pub mod Refuted

@@ -1,0 +1,214 @@
+-- Small wrong traces, pairings, readings and rosters, each refuted by a part of item 3's statement, over its own definitions; and two that it must let pass, with a
+-- sign-off. The runs with which a premise is broken are in Needed. Assumes nothing.
+use mathlib.Core.Path.{_≡_, refl, ap}
+use mathlib.Core.Bool.{Bool, true, false, cond}
+use mathlib.Core.List.{List, [], _∷_}
+use mathlib.Core.Option.{Option, none, some}
+use Prim.Native.Nat.{ℕ, _≤_, _<_}
+use native.Mathlib.Omega.{arith}
+use lib.Dec.{T}
+use lib.ListN.{getD}
+use Rattle.bits.specs.Loop.{first}
+use Rattle.bits.specs.Mask.{hasBit, withBit, lowestFree}
+use Rattle.bits.specs.Stop.{stop}
+use Rattle.wire.specs.Call.{digit, char, trimStart, trimEnd, unpacked}
+use Rattle.wire.specs.Numbers.{widened, widenedAt}
+use Rattle.words.specs.Words.{wordOk, payloadOk, unpack, payload, frameOf, itemAt, framesOf, headOk, parse}
+use Rattle.out.specs.Encode.{pack, framesWords}
+use Rattle.inbox.specs.Cells.{seek, next, grow, settle}
+use Rattle.inbox.specs.Cells as cells
+use Rattle.stream.specs.Window.{slideOf}
+use Rattle.stream.specs.Table.{ownCell, putOf, accept}
+use Rattle.roster.specs.Members.{newMember}
+use Rattle.net.specs.declared.Settings.{Settings}
+use Rattle.net.specs.declared.Station.{Station}
+use Rattle.net.specs.State.{withUsed, withMember}
+use Rattle.net.specs.Net.{isMember, blankCall, newStation}
+use Rattle.admit.specs.Admission.{findCall, seatOf, leadsTo}
+use Rattle.frames.specs.Pieces.{pieceFrame}
+use Rattle.frames.specs.Frames.{readFrame, frameStep, readFrames}
+use Rattle.rx.specs.Ending.{replyEnd}
+use Rattle.rx.specs.Reception.{ncsRx}
+use Rattle.station.specs.Entries.{admitRefusal, admitOf, receiveRefusal, receiveOf, cellRefusal, readRefusal, readingOf}
+use Rattle.promise.specs.Promise.{handed, Net, InBook, result, step, after, leads, LinksHold, TurnEvent, drew, over, poll, ack, struck, emptyView, TurnsHold, Message, Event2, Stayed, alsoHanded, alsoStayed, emptyBook, Pairs, Rising, Once, OnceInStay, ReadsAs, AtCall}
+use Rattle.promise.proofs.Runs.{nought, one-cell, joins, hi, apart}
+
+-- ---- turns: traces of slots 0, 1 and 2
+
+some-none : {A : Type 0} (x : A) (l : List A) → x ∷ l ≡ [] → ⊥
+some-none x l e = let z : _≡_ {A = ℕ} 1 0 = cc in omega arith
+
+-- 0 has a second turn, and 1 has had none
+pub second-turn : TurnsHold emptyView (drew (0 ∷ 1 ∷ []) ∷ poll 0 ∷ over 0 ∷ poll 0 ∷ []) → ⊥
+second-turn h = h .0 .1 .0 tt tt 1 tt (λ (e : _≡_ {A = ℕ} 1 0). omega arith)
+
+-- nor does another list, drawn up in between, allow it
+pub second-turn-redrawn : TurnsHold emptyView (drew (0 ∷ 1 ∷ []) ∷ poll 0 ∷ over 0 ∷ drew (0 ∷ []) ∷ poll 0 ∷ []) → ⊥
+second-turn-redrawn h = h .0 .1 .0 tt tt 1 tt (λ (e : _≡_ {A = ℕ} 1 0). omega arith)
+
+-- six polls in one turn; five acknowledgements
+pub six-polls : TurnsHold emptyView (drew (0 ∷ []) ∷ poll 0 ∷ poll 0 ∷ poll 0 ∷ poll 0 ∷ poll 0 ∷ poll 0 ∷ []) → ⊥
+six-polls h = let z : 6 ≤ 5 = h .1 .0 .1 tt .polls in omega arith
+
+pub five-acks : TurnsHold emptyView (drew (0 ∷ []) ∷ poll 0 ∷ ack 0 ∷ ack 0 ∷ ack 0 ∷ ack 0 ∷ ack 0 ∷ []) → ⊥
+five-acks h = let z : 5 ≤ 4 = h .1 .0 .1 tt .acks in omega arith
+
+-- the turn of 0 does not end, and that of 1 begins
+pub never-over : TurnsHold emptyView (drew (0 ∷ 1 ∷ []) ∷ poll 0 ∷ poll 1 ∷ []) → ⊥
+never-over h = some-none 0 [] (h .1 .1 .0 .1 tt .alone)
+
+-- a poll of a slot that is not listed; an acknowledgement, and an end of a waiting, outside every turn
+pub unlisted : TurnsHold emptyView (drew (0 ∷ []) ∷ poll 1 ∷ []) → ⊥
+unlisted h = h .1 .0 .0
+
+pub ack-outside : TurnsHold emptyView (drew (0 ∷ []) ∷ poll 0 ∷ over 0 ∷ ack 0 ∷ []) → ⊥
+ack-outside h = h .1 .1 .1 .0
+
+pub over-outside : TurnsHold emptyView (drew (0 ∷ []) ∷ over 0 ∷ []) → ⊥
+over-outside h = h .1 .0
+
+-- ---- turns, with a sign-off
+
+-- after it: an acknowledgement of the slot's turn; a poll of the slot, which is on no list; a second turn of 0, though 2 has had none
+pub struck-ack : TurnsHold emptyView (drew (0 ∷ 1 ∷ []) ∷ poll 0 ∷ struck 0 ∷ ack 0 ∷ []) → ⊥
+struck-ack h = h .1 .1 .1 .0
+
+pub struck-poll : TurnsHold emptyView (drew (0 ∷ 1 ∷ []) ∷ struck 0 ∷ poll 0 ∷ []) → ⊥
+struck-poll h = h .1 .1 .0 .0
+
+pub struck-other : TurnsHold emptyView (drew (0 ∷ 1 ∷ 2 ∷ []) ∷ poll 0 ∷ over 0 ∷ struck 1 ∷ poll 0 ∷ []) → ⊥
+struck-other h = h .0 .1 .0 tt tt 2 tt (λ (e : _≡_ {A = ℕ} 2 0). omega arith)
+
+-- six polls, a strike of another slot among them
+pub struck-six : TurnsHold emptyView (drew (0 ∷ 1 ∷ []) ∷ poll 0 ∷ poll 0 ∷ poll 0 ∷ struck 1 ∷ poll 0 ∷ poll 0 ∷ poll 0 ∷ []) → ⊥
+struck-six h = let z : 6 ≤ 5 = h .1 .0 .1 tt .polls in omega arith
+
+-- what it must let pass: 1 is struck, so 0 has its second turn; 0 is struck, so its next holder has a turn of the next list
+pub struck-counts : TurnsHold emptyView (drew (0 ∷ 1 ∷ []) ∷ poll 0 ∷ over 0 ∷ struck 1 ∷ poll 0 ∷ [])
+struck-counts = (
+  (λ b h t q d. absurd h, (λ b h t q d. q, tt)),
+  (
+    (tt, λ b. record { alone = refl; polls = omega arith; acks = omega arith }),
+    (tt, (tt, ((tt, λ b. record { alone = refl; polls = omega arith; acks = omega arith }), tt))),
+  ),
+)
+
+pub struck-next : TurnsHold emptyView (drew (0 ∷ 1 ∷ []) ∷ poll 0 ∷ struck 0 ∷ drew (0 ∷ 1 ∷ []) ∷ poll 0 ∷ [])
+struck-next = (
+  (λ b h t q d. absurd h, (λ b h t q d. absurd h, tt)),
+  (
+    (tt, λ b. record { alone = refl; polls = omega arith; acks = omega arith }),
+    (tt, ((λ b h t q d. absurd h, tt), ((tt, λ b. record { alone = refl; polls = omega arith; acks = omega arith }), tt))),
+  ),
+)
+
+-- ---- pairings: message 0 of slot 5 (and 256, which is alike), cells 0 and 1 of two
+
+abbrev event : (slot cell number : ℕ) → Event2
+event slot cell number = record { slot = slot; cell = cell; number = number }
+
+abbrev message : (slot number : ℕ) → Message
+message slot number = record { slot = slot; number = number }
+
+abbrev vacant : ℕ → Option Message
+vacant c = none
+
+taken-none : (m : Message) → some m ≡ none → ⊥
+taken-none m e = let z : _≡_ {A = ℕ} 1 0 = cc in omega arith
+
+-- handed over with no event; two events for one message; an event for none
+pub silent : Pairs 2 [] (message 5 0 ∷ []) vacant → ⊥
+silent h = h
+
+pub event-too-many : Pairs 2 (event 5 0 0 ∷ event 5 1 0 ∷ []) (message 5 0 ∷ []) vacant → ⊥
+event-too-many h = h .4
+
+pub event-for-none : Pairs 2 (event 5 0 0 ∷ []) [] vacant → ⊥
+event-for-none h = h
+
+-- another slot; another number mod 256
+pub other-slot : Pairs 2 (event 4 0 0 ∷ []) (message 5 0 ∷ []) vacant → ⊥
+other-slot h = let z : _≡_ {A = ℕ} 4 5 = h .0 in omega arith
+
+pub other-number : Pairs 2 (event 5 0 1 ∷ []) (message 5 256 ∷ []) vacant → ⊥
+other-number h = let z : _≡_ {A = ℕ} 1 0 = h .1 in omega arith
+
+-- a cell not below the count; one in use before the reception; one that an earlier event of it names
+pub cell-past-count : Pairs 2 (event 5 2 0 ∷ []) (message 5 0 ∷ []) vacant → ⊥
+cell-past-count h = let z : 2 < 2 = h .2 in omega arith
+
+pub cell-in-use : Pairs 2 (event 5 0 0 ∷ []) (message 5 0 ∷ []) (λ c. some (message 7 3)) → ⊥
+cell-in-use h = taken-none (message 7 3) (h .3)
+
+pub one-cell-twice : Pairs 2 (event 5 0 0 ∷ event 5 0 1 ∷ []) (message 5 0 ∷ message 5 1 ∷ []) vacant → ⊥
+one-cell-twice h = taken-none (message 5 0) (h .4 .3)
+
+-- of two alike the higher number first
+pub wrong-order : Rising (message 5 256 ∷ message 5 0 ∷ []) → ⊥
+wrong-order h = let z : 256 < 0 = h .0 .0 refl refl in omega arith
+
+-- an event 2 of a call that is no reception: a decision, a reading, a freeing, a sign-off
+abbrev QuietAt : Net → InBook → Type 0
+QuietAt n c = AtCall (λ s k. []) 1 c (event 5 0 0 ∷ []) [] n emptyBook
+
+pub event-elsewhere : (n : Net) → (QuietAt n InBook.changesNothing → ⊥) × (QuietAt n (InBook.reads 0 handed) → ⊥) × (QuietAt n (InBook.frees 0) → ⊥) × (QuietAt n (InBook.ends 5) → ⊥)
+event-elsewhere n = (λ h. some-none _ _ h, λ h. some-none _ _ (h .0), λ h. some-none _ _ h, λ h. some-none _ _ h)
+
+-- handed over twice, in one reception, and in a run within one stay
+pub twice : Once (message 5 0 ∷ message 5 0 ∷ []) (λ s k. false) → ⊥
+unfolding alsoHanded
+twice h = let z : _≡_ {A = Bool} true false = h .1 .0 in apart cc
+
+abbrev stayed : (slot stay number : ℕ) → Stayed
+stayed slot stay number = record { slot = slot; stay = stay; number = number }
+
+pub twice-in-stay : OnceInStay (stayed 5 1 0 ∷ stayed 4 1 0 ∷ stayed 5 1 0 ∷ []) (λ s t k. false) → ⊥
+unfolding alsoStayed
+twice-in-stay h = let z : _≡_ {A = Bool} true false = h .1 .1 .0 in apart cc
+
+-- ---- readings of cell 0: as at a start, and with "hi" of slot 0 landed in it
+
+abbrev with-hi : Settings → Net
+with-hi g = after (joins ∷ hi ∷ []) (one-cell g)
+
+pub record Readings (g : Settings) : Type 0 where
+  -- it should be 22, and is read
+  pub stale : ReadsAs (λ s k. 104 ∷ 105 ∷ []) none (with-hi g) 0 → ⊥
+  -- it should not be 22, and is
+  pub gone : ReadsAs (λ s k. 104 ∷ 105 ∷ []) (some (message 0 0)) (one-cell g) 0 → ⊥
+  -- other bytes; a byte too few
+  pub other : ReadsAs (λ s k. 104 ∷ 111 ∷ []) (some (message 0 0)) (with-hi g) 0 → ⊥
+  pub short : ReadsAs (λ s k. 104 ∷ 105 ∷ 33 ∷ []) (some (message 0 0)) (with-hi g) 0 → ⊥
+
+pub readings : (g : Settings) → Readings g
+unfolding step after result admitOf admitRefusal newStation seatOf findCall first lowestFree hasBit withBit leadsTo unpacked digit char trimStart trimEnd receiveOf receiveRefusal parse headOk framesOf itemAt frameOf payload unpack payloadOk wordOk pack framesWords ncsRx readFrames frameStep readFrame pieceFrame replyEnd isMember accept widened widenedAt ownCell putOf cells.accept settle grow seek next slideOf stop readRefusal cellRefusal readingOf
+readings g =
+    record {
+      stale = λ h. let z : _≡_ {A = ℕ} 0 22 = h in omega arith;
+      gone = λ h. let z : _≡_ {A = ℕ} 22 0 = h .0 in omega arith;
+      other = λ h. let z : _≡_ {A = ℕ} 105 111 = ap (λ (l : List ℕ). getD l 1 0) (h .1) in omega arith;
+      short = λ h. let z : _≡_ {A = ℕ} 0 33 = ap (λ (l : List ℕ). getD l 2 0) (h .1) in omega arith;
+    }
+
+-- ---- rosters of two boats, by their relays
+
+abbrev relays : Settings → ℕ → ℕ → Station
+relays g a b = withUsed (withMember (withMember (newStation g 1) 0 (newMember blankCall a nought)) 1 (newMember blankCall b nought)) 3
+
+pub record Rosters (g : Settings) : Type 0 where
+  -- each relays for the other; a boat for itself; a relay without a member
+  pub cycle : LinksHold (relays g 1 0) → ⊥
+  pub itself : LinksHold (relays g 63 1) → ⊥
+  pub nobody : LinksHold (relays g 63 5) → ⊥
+  -- and the roster where slot 1 is relayed by slot 0 has its two links
+  pub fine : (leads (relays g 63 0) 61 0 ≡ true) × (leads (relays g 63 0) 61 1 ≡ true)
+
+pub rosters : (g : Settings) → Rosters g
+unfolding leads isMember hasBit newStation
+rosters g =
+    record {
+      cycle = λ h. apart (h 0 refl);
+      itself = λ h. apart (h 1 refl);
+      nobody = λ h. apart (h 1 refl);
+      fine = (refl, refl);
+    }
