@@ -14,8 +14,7 @@ use borrow.Author.Tests.{eqb-true, eq-eqb, ne-eqb}
 use Rattle.bits.specs.Mask.{hasBit, withBit}
 use Rattle.bits.proofs.Laws.{with-same}
 use Rattle.bits.proofs.Lists.{cond-keeps, cond-true, cases, eq-or-not, never-both}
-use Rattle.wire.specs.Kinds.{tiny, kIdle, tUp, tCtrl}
-use Rattle.words.specs.Words.{Heard, lost, heard, Burst, Parsed, malformed, parsed, parse}
+use Rattle.words.specs.Words.{Heard, Burst, Parsed, malformed, parsed, parse}
 use Rattle.words.specs.Fine.{Fine, AllFine}
 use Rattle.words.proofs.Fine.{parse-fine}
 use Rattle.inbox.specs.declared.keep.Kept.the-variants.{Yes}
@@ -23,37 +22,33 @@ use Rattle.inbox.proofs.Rule.{yes-is}
 use Rattle.stream.specs.declared.window.Window.{Window}
 use Rattle.stream.specs.declared.table.Room.{Room}
 use Rattle.stream.specs.declared.table.Room.the-variants.{Own, Free, Full}
-use Rattle.stream.specs.Window.{handedOf, landOf, freshOf}
+use Rattle.stream.specs.Window.{handedOf, landOf}
 use Rattle.stream.specs.Table.{Table, Accepted, passed, accept, cellAt, cellFor, cellCount, ownerOf, placeOf, hasRoom, hasLanded, putIn, tableRoom}
 use Rattle.stream.proofs.Rooms.{RoomIs}
 use Rattle.stream.proofs.Tables.{Tidy, table-room, place-in, kept-other}
 use Rattle.stream.proofs.Accepts.{leftAs, answerOf, cellIn, heldAfter, putAs, accept-cases, accept-window}
 use Rattle.net.specs.declared.Station.{Station}
-use Rattle.net.specs.State.{memberAt, tableOf, withWait}
-use Rattle.net.specs.Net.{isMember}
+use Rattle.net.specs.State.{tableOf}
 use Rattle.net.proofs.Laws.{member-lt}
 use Rattle.stream.proofs.Windows.{fresh-none}
 use Rattle.station.specs.SignOff.{signOff, signOffRefusal, signOffOf}
 use Rattle.frames.specs.declared.Air.{Air}
 use Rattle.frames.specs.Reading.{Reading}
-use Rattle.frames.specs.Pieces.{pieceEvents, keptPiece, pieceFrame}
-use Rattle.frames.specs.Frames.{readFrame, frameStep, readFrames}
-use Rattle.rx.specs.Ending.{busyWait, idleEnd, replyEnd, nothingMore, Ended}
-use Rattle.rx.specs.Reception.{Received, airOf, firstReading, receivedOf, ncsRx}
+use Rattle.frames.specs.Frames.{frameStep, readFrames}
+use Rattle.rx.specs.Reception.{airOf, ncsRx}
 use Rattle.station.specs.Entries.{Outcome, receiveBy, receiveRefusal, receiveOf, cellRefusal, freeOf}
-use Rattle.promise.specs.Promise.{lentTo, Net, net, Call, admission, reception, decision, sending, closing, reading, freeing, charging, signing, result, inBook, outcome, step, after, alsoHanded, Event2, eventsIn, answersOf}
+use Rattle.promise.specs.Promise.{lentTo, Net, net, Call, admission, reception, decision, sending, closing, reading, freeing, charging, signing, result, inBook, outcome, step, after, alsoHanded, framesBy, Event2, eventsIn, answersOf}
 use Rattle.laws.specs.Marks.{alsoLanded, landedBy, landedIn}
 use Rattle.promise.proofs.Ledgers.{handed-other}
 use Rattle.promise.proofs.Ties.{View}
 use Rattle.promise.proofs.Pieces.{alsoOne, windowsAfter, viewAfter, eventFor}
-use Rattle.promise.proofs.Quiet.{windowAt, Keeps, kept-self, viewOf, kept-view}
-use Rattle.promise.proofs.Events.{events-none, events-append, append-quiet}
-use Rattle.promise.proofs.QuietRx.{Untouched, untouched, control-untouched, QuietEnd, idle-kept, reply-kept}
-use Rattle.promise.proofs.Readings.{piece-view, piece-events}
+use Rattle.promise.proofs.Quiet.{windowAt, Keeps, viewOf}
+use Rattle.promise.proofs.Events.{events-none}
+use Rattle.promise.proofs.WalkFrames.{viewIn, offeredIn, FrameRead, other, unkept, piece, firstIn, rx-end}
 use Rattle.promise.proofs.Signs.{sign-member}
 use Rattle.promise.proofs.SignTies.{window-gone, window-still}
 use Rattle.promise.proofs.Messages.{admission-kept, decision-kept, sending-kept, closing-kept, reading-kept, charging-kept, refusedBy}
-use Rattle.promise.proofs.Sounds.{FitView, Fit, FitRead, accept-land, step-read-fit, other-store, room-of, step-fit}
+use Rattle.promise.proofs.Sounds.{FitView, Fit, FitRead, accept-land, fit-frame, step-read-fit, read-fine, first-fit, other-store, room-of, step-fit}
 
 -- ---- the cell of a landed message
 
@@ -215,96 +210,36 @@ module _ (f : ℕ → ℕ → Bool) (v : View) (es : List Event2) (log : Log f v
 -- ---- a reception
 
 abbrev LogRead : (ℕ → ℕ → Bool) → Reading → Type 0
-LogRead f x = Log f (viewOf (x .station) (x .store)) (eventsIn (x .words))
+LogRead f x = Log f (viewIn x) (eventsIn (x .words))
 
 module _ (f : ℕ → ℕ → Bool) where
   -- what leaves every message alone and tells of none
   quiet-log : (v v′ : View) (es es′ : List Event2) → v′ ≡ v → es′ ≡ es ++ [] → Log f v es → Log f v′ es′
   quiet-log v v′ es es′ p q l = subst (λ (u : View). Log f u es′) (sym p) (subst (Log f v) (sym (q ∙ append-nil es)) l)
 
-  untouched-log : (x y : Reading) → Untouched x y → LogRead f x → LogRead f y
-  untouched-log x y u l =
-      quiet-log (viewOf (x .station) (x .store)) (viewOf (y .station) (y .store)) (eventsIn (x .words)) (eventsIn (y .words))
-      (ap (viewOf (y .station)) (u .store) ∙ kept-view (x .station) (y .station) (x .store) (u .station)) (u .events) l
-
-  module _ (a : Air) (slot field : ℕ) (p : List ℕ) (x : Reading) (fit : FitRead x) (log : LogRead f x) (low : slot < 64) (short : length p ≤ 255)
-      (here : isMember (x .station .used) slot ≡ true) where
-    window-here : windowAt (x .station) slot ≡ memberAt (x .station) slot .up
-    window-here = cond-true (isMember (x .station .used) slot) (memberAt (x .station) slot .up) freshOf here
-
-    abbrev Kept : Accepted → Type 0
-    Kept q = LogRead f (keptPiece a slot q x)
-
-    kept-log : Kept (accept (tableOf (x .station)) (memberAt (x .station) slot .up) (x .store) slot field p)
-    kept-log = subst (λ (w : Window). Kept (accept (tableOf (x .station)) w (x .store) slot field p)) window-here by-view
-      where
-        q : Accepted
-        q = accept (tableOf (x .station)) (windowAt (x .station) slot) (x .store) slot field p
-
-        by-view : Kept q
-        by-view =
-            subst (λ (u : View). Log f u (eventsIn (keptPiece a slot q x .words))) (sym (piece-view a slot q x here (fit .long)))
-            (subst (Log f (viewAfter (viewOf (x .station) (x .store)) slot q))
-            (sym
-            (events-append (x .words) (pieceEvents a (x .station) slot q)
-            ∙ ap (λ (es : List Event2). eventsIn (x .words) ++ es)
-            (piece-events a (x .station) slot q low
-            (landing f (viewOf (x .station) (x .store)) (eventsIn (x .words)) log (fit .view) slot field p short .fit))))
-            (piece-log f (viewOf (x .station) (x .store)) (eventsIn (x .words)) log (fit .view) slot field p short))
-
-  up-log : (a : Air) (slot field : ℕ) (p : List ℕ) (x : Reading) → slot < 64 → length p ≤ 255 → FitRead x → LogRead f x → LogRead f (pieceFrame a slot field p x)
-  unfolding pieceFrame
-  up-log a slot field p x low short fit log =
-      cond-keeps (LogRead f) (isMember (x .station .used) slot) _ x
-      (λ h. cond-keeps (LogRead f) (accept (tableOf (x .station)) (memberAt (x .station) slot .up) (x .store) slot field p .lost) _ _
-      (λ _. log) (λ _. kept-log a slot field p x fit log low short h))
-      (λ _. log)
-
-  frame-log : (a : Air) (g : Heard) (x : Reading) → Fine g → FitRead x → LogRead f x → LogRead f (readFrame a g x)
-  unfolding readFrame
-  frame-log a lost x k fit log = log
-  frame-log a (heard flags field p) x k fit log =
-      cond-keeps (LogRead f) (eqb (flags / 64) tUp) _ _
-      (λ _. up-log a (flags % 64) field p x (omega arith) (omega (arith, k .2)) fit log)
-      (λ _. untouched-log x _
-      (cond-keeps (Untouched x) (eqb (flags / 64) tCtrl) _ x
-      (λ _. cond-keeps (Untouched x) (eqb (length p) 0) x _ (λ _. untouched x) (λ _. control-untouched a (flags % 64) _ (length p) p x))
-      (λ _. untouched x)) log)
-
-  step-log : (a : Air) (g : Heard) (x : Reading) → Fine g → FitRead x → LogRead f x → LogRead f (frameStep a g x)
-  unfolding frameStep
-  step-log a g x k fit log = frame-log a g x k fit log
+  read-log : (x y : Reading) (h : Heard) → Fine h → FitRead x → FrameRead x y h → LogRead f x → LogRead f y
+  read-log x y h k fit (other q s) log = quiet-log (viewIn x) (viewIn y) (eventsIn (x .words)) (eventsIn (y .words)) (s .view) (s .events) log
+  read-log x y h k fit (unkept flags field p b q s) log = quiet-log (viewIn x) (viewIn y) (eventsIn (x .words)) (eventsIn (y .words)) (s .view) (s .events) log
+  read-log x y h k fit (piece flags field p b q s) log =
+      let z = piece-log f (viewIn x) (eventsIn (x .words)) log (fit .view) (flags % 64) field p (omega (arith, k .2)) in
+      subst (λ (u : View). Log f u (eventsIn (y .words))) (sym (s .view)) (subst (Log f (viewAfter (viewIn x) (flags % 64) (offeredIn x flags field p))) (sym (s .events)) z)
 
   frames-log : (a : Air) (fs : List Heard) (x : Reading) → AllFine fs → FitRead x → LogRead f x → LogRead f (readFrames a fs x)
   unfolding readFrames
   frames-log a [] x k fit log = log
-  frames-log a (g ∷ fs) x (AllFine.more h k) fit log = frames-log a fs (frameStep a g x) k (step-read-fit a g x h fit) (step-log a g x h fit log)
-
-  abbrev LogReceived : Received → Type 0
-  LogReceived r = Log f (viewOf (r .station) (r .store)) (eventsIn (r .words))
-
-  end-log : (y : Reading) (d : Ended) → LogRead f y → QuietEnd (y .station) d → LogReceived (receivedOf y d)
-  end-log y d log k =
-      quiet-log (viewOf (y .station) (y .store)) (viewOf (d .station) (y .store)) (eventsIn (y .words)) (eventsIn (receivedOf y d .words))
-      (kept-view (y .station) (d .station) (y .store) (k .0)) (append-quiet (y .words) (d .burst) (eventsIn (y .words)) refl (k .1)) log
+  frames-log a (g ∷ fs) x (AllFine.more h k) fit log =
+      frames-log a fs (frameStep a g x) k (step-read-fit a g x h fit) (read-log x (frameStep a g x) g h fit (fit-frame a g x fit) log)
 
   abbrev Told : Station → Type 0
   Told s = (i k : ℕ) → f i k ≡ handedOf (windowAt s i) k
 
-  rx-log : (s : Station) (u : Burst) (snr now : Float) (store : List ℕ) → AllFine (u .frames) → Fit (net s store) → Told s → LogReceived (ncsRx s u snr now store)
-  unfolding ncsRx
+  rx-log : (s : Station) (u : Burst) (snr now : Float) (store : List ℕ) → AllFine (u .frames) → Fit (net s store) → Told s
+      → Log f (viewOf (ncsRx s u snr now store .station) (ncsRx s u snr now store .store)) (eventsIn (ncsRx s u snr now store .words))
   rx-log s u snr now store k fit told =
-      let a = airOf s (u .head) snr now in
-      let x = firstReading (withWait s (busyWait (s .wait) (u .head) (s .settings) now)) store in
-      let y = readFrames a (u .frames) x in
-      let g : FitRead x = record { view = fit .view; long = fit .long } in
-      let log : LogRead f x = subst (Log f (viewOf s store)) (sym events-none) (record { numbers = told; whole = tt }) in
-      cond-keeps LogReceived (eqb (u .head .code) tiny) _ _
-      (λ _. end-log x (cond (eqb (u .head .hi) kIdle) (idleEnd a (u .head .extra) (x .station)) (nothingMore (x .station))) log
-      (cond-keeps (QuietEnd (x .station)) (eqb (u .head .hi) kIdle) _ _
-      (λ _. idle-kept a (u .head .extra) (x .station))
-      (λ _. (kept-self (x .station), events-none))))
-      (λ _. end-log y (replyEnd a (u .head) y) (frames-log a (u .frames) x k g log) (reply-kept a (u .head) y))
+      let c = rx-end s u snr now store in
+      let log : LogRead f (firstIn s u now store) = subst (Log f (viewOf s store)) (sym events-none) (record { numbers = told; whole = tt }) in
+      quiet-log _ _ _ _ (c .view) (c .events)
+      (frames-log (airOf s (u .head) snr now) (framesBy (parsed u)) (firstIn s u now store) (read-fine u k) (first-fit s u now store fit) log)
 
 -- ---- the calls
 

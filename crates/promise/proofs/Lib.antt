@@ -26,6 +26,7 @@ pub mod Events
 pub mod Short
 pub mod QuietRx
 pub mod Readings
+pub mod WalkFrames
 pub mod Receptions
 pub mod SignTies
 pub mod Messages

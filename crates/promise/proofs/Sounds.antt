@@ -8,41 +8,36 @@ use native.Mathlib.Omega.{arith}
 use lib.ListN.{length}
 use lib.Dec.{eqb, ltb}
 use lib.Ieee.{Float}
-use borrow.Author.Tests.{eqb-true, ltb-false, eq-eqb, ne-eqb}
+use borrow.Author.Tests.{eqb-true, ltb-false}
 use Rattle.bits.proofs.Lists.{cond-keeps, eq-or-not}
 use Rattle.level.specs.Spans.{within}
-use Rattle.wire.specs.Kinds.{tiny, kIdle, tUp, tCtrl}
-use Rattle.words.specs.Words.{Heard, lost, heard, Burst, Parsed, malformed, parsed, parse}
+use Rattle.wire.specs.Kinds.{tiny}
+use Rattle.words.specs.Words.{Heard, Burst, Parsed, malformed, parsed, parse}
 use Rattle.words.specs.Fine.{Fine, AllFine}
 use Rattle.words.proofs.Fine.{parse-fine}
 use Rattle.stream.specs.declared.window.Window.{Window}
-use Rattle.stream.specs.Window.{landOf, freshOf}
+use Rattle.stream.specs.Window.{landOf}
 use Rattle.stream.specs.Table.{Table, Accepted, accept, hasLanded}
 use Rattle.stream.proofs.Tables.{Tidy, freed-tidy}
 use Rattle.stream.proofs.Windows.{Sound, sound-fresh}
 use Rattle.stream.proofs.Accepts.{accept-cases, accept-tidy, accept-window}
 use Rattle.net.specs.declared.Station.{Station}
-use Rattle.net.specs.State.{memberAt, tableOf, withWait}
-use Rattle.net.specs.Net.{isMember}
+use Rattle.net.specs.State.{tableOf}
 use Rattle.frames.specs.declared.Air.{Air}
 use Rattle.frames.specs.Reading.{Reading}
-use Rattle.frames.specs.Pieces.{keptPiece, pieceFrame}
-use Rattle.frames.specs.Frames.{readFrame, frameStep, readFrames}
-use Rattle.rx.specs.Ending.{busyWait, idleEnd, replyEnd, nothingMore, Ended}
-use Rattle.rx.specs.Reception.{Received, airOf, firstReading, receivedOf, ncsRx}
+use Rattle.frames.specs.Frames.{frameStep, readFrames}
+use Rattle.rx.specs.Reception.{Received, airOf, ncsRx}
 use Rattle.config.specs.declared.Given.{Given}
 use Rattle.station.specs.Entries.{Outcome, receiveBy, receiveRefusal, check1, check2, check3, receiveOf, startRefusal, cellRefusal, freeOf}
-use Rattle.promise.specs.Promise.{Lent, lentTo, Net, net, Call, admission, reception, decision, sending, closing, reading, freeing, charging, signing, result, outcome, isRefused, step, after, started}
+use Rattle.promise.specs.Promise.{Lent, lentTo, Net, net, Call, admission, reception, decision, sending, closing, reading, freeing, charging, signing, result, outcome, isRefused, step, after, started, framesBy}
 use Rattle.station.specs.SignOff.{signOff, signOffRefusal, signOffOf}
 use Rattle.net.proofs.Laws.{member-lt}
 use Rattle.promise.proofs.Signs.{sign-member, signed, cleared-tidy}
 use Rattle.promise.proofs.SignTies.{window-gone, window-still}
 use Rattle.promise.proofs.Ties.{View}
-use Rattle.promise.proofs.Pieces.{windowsAfter}
-use Rattle.promise.proofs.Quiet.{windowAt, Keeps, kept-self, viewOf, kept-view}
-use Rattle.promise.proofs.Events.{events-none}
-use Rattle.promise.proofs.QuietRx.{Untouched, untouched, control-untouched, QuietEnd, idle-kept, reply-kept}
-use Rattle.promise.proofs.Readings.{piece-view, piece-long}
+use Rattle.promise.proofs.Pieces.{windowsAfter, viewAfter}
+use Rattle.promise.proofs.Quiet.{windowAt, Keeps, viewOf, kept-view}
+use Rattle.promise.proofs.WalkFrames.{viewIn, FrameRead, other, unkept, piece, step-frame, firstIn, lastIn, RxEnd, rx-end}
 use Rattle.promise.proofs.Messages.{started-tied, admission-kept, decision-kept, sending-kept, closing-kept, reading-kept, charging-kept, refusedBy, same-cond}
 
 -- one to 64 cells, all in the store, and no message in two of them; every slot's window in its bounds
@@ -62,95 +57,60 @@ accept-land t w store slot field p =
     accept-cases t w store slot field p (λ x. x .window ≡ cond (hasLanded (x .landed)) (landOf w (x .number)) w)
     (λ e. refl) (λ k e h. refl) (λ k o a q c. refl) (λ k o q. refl)
 
-pub record FitRead (x : Reading) : Type 0 where
-  pub view : FitView (viewOf (x .station) (x .store))
-  pub long : length (x .station .members) ≡ 62
-
-untouched-fit : (x y : Reading) → FitRead x → Untouched x y → FitRead y
-untouched-fit x y f u =
-    record {
-      view = subst FitView (sym (ap (viewOf (y .station)) (u .store) ∙ kept-view (x .station) (y .station) (x .store) (u .station))) (f .view);
-      long = u .station .long ∙ f .long;
-    }
-
-module _ (a : Air) (slot field : ℕ) (p : List ℕ) (x : Reading) (f : FitRead x) (short : length p ≤ 255) (here : isMember (x .station .used) slot ≡ true) where
+-- a message that lands is marked in the boat's window
+module _ (v : View) (slot field : ℕ) (p : List ℕ) (f : FitView v) (short : length p ≤ 255) where
   abbrev r : Accepted
-  r = accept (tableOf (x .station)) (memberAt (x .station) slot .up) (x .store) slot field p
+  r = accept (v .table) (v .windows slot) (v .store) slot field p
 
-  window-here : windowAt (x .station) slot ≡ memberAt (x .station) slot .up
-  window-here = ap (λ (t : Bool). cond t (memberAt (x .station) slot .up) freshOf) here
-
-  own-sound : Sound (memberAt (x .station) slot .up)
-  own-sound = subst Sound window-here (f .view .sound slot)
-
-  land-sound : Sound (cond (hasLanded (r .landed)) (landOf (memberAt (x .station) slot .up) (r .number)) (memberAt (x .station) slot .up))
+  land-sound : Sound (cond (hasLanded (r .landed)) (landOf (v .windows slot) (r .number)) (v .windows slot))
   land-sound =
-      subst Sound (accept-land (tableOf (x .station)) (memberAt (x .station) slot .up) (x .store) slot field p)
-      (accept-window (tableOf (x .station)) (memberAt (x .station) slot .up) (x .store) slot field p (f .view .tidy) short own-sound .0)
+      subst Sound (accept-land (v .table) (v .windows slot) (v .store) slot field p)
+      (accept-window (v .table) (v .windows slot) (v .store) slot field p (f .tidy) short (f .sound slot) .0)
 
-  both-true : (b : Bool) (w : Window) (k : ℕ) → Sound (cond b (landOf w k) w) → Sound (cond (b && true) (landOf w k) w)
-  both-true true w k s = s
-  both-true false w k s = s
+  after-sound : (i : ℕ) → Sound (windowsAfter (v .windows) slot (hasLanded (r .landed)) (r .number) i)
+  after-sound i = at (hasLanded (r .landed)) land-sound (eqb slot i) refl
+    where
+      at : (b : Bool) → Sound (cond b (landOf (v .windows slot) (r .number)) (v .windows slot)) → (t : Bool) → eqb slot i ≡ t → Sound (cond (b && t) (landOf (v .windows i) (r .number)) (v .windows i))
+      at true s true e = subst (λ (y : ℕ). Sound (landOf (v .windows y) (r .number))) (eqb-true slot i e) s
+      at true s false e = f .sound i
+      at false s t e = f .sound i
 
-  both-false : (b : Bool) (w : Window) (k : ℕ) → Sound w → Sound (cond (b && false) (landOf w k) w)
-  both-false true w k s = s
-  both-false false w k s = s
-
-  after-sound : (i : ℕ) → Sound (windowsAfter (windowAt (x .station)) slot (hasLanded (r .landed)) (r .number) i)
-  after-sound i =
-      ⊎-elim (λ q.
-      subst (λ (t : Bool). Sound (cond (hasLanded (r .landed) && t) (landOf (windowAt (x .station) i) (r .number)) (windowAt (x .station) i))) (sym (eq-eqb slot i (sym q)))
-      (both-true (hasLanded (r .landed)) (windowAt (x .station) i) (r .number)
-      (subst (λ (w : Window). Sound (cond (hasLanded (r .landed)) (landOf w (r .number)) w)) (sym (ap (windowAt (x .station)) q ∙ window-here)) land-sound)))
-      (λ z.
-      subst (λ (t : Bool). Sound (cond (hasLanded (r .landed) && t) (landOf (windowAt (x .station) i) (r .number)) (windowAt (x .station) i))) (sym (ne-eqb slot i (λ q. z (sym q))))
-      (both-false (hasLanded (r .landed)) (windowAt (x .station) i) (r .number) (f .view .sound i)))
-      (eq-or-not i slot)
-
-  kept-fit : FitRead (keptPiece a slot r x)
-  kept-fit =
-      record {
-        view = subst FitView (sym (piece-view a slot r x here (f .long)))
-            (record {
-              tidy = accept-tidy (tableOf (x .station)) (memberAt (x .station) slot .up) (x .store) slot field p (f .view .tidy) short;
-              sound = after-sound;
-            });
-        long = piece-long a slot r x here (f .long);
-      }
-
-piece-fit : (a : Air) (slot field : ℕ) (p : List ℕ) (x : Reading) → length p ≤ 255 → FitRead x → FitRead (pieceFrame a slot field p x)
-unfolding pieceFrame
-piece-fit a slot field p x short f =
-    cond-keeps FitRead (isMember (x .station .used) slot) _ x
-    (λ h. cond-keeps FitRead (accept (tableOf (x .station)) (memberAt (x .station) slot .up) (x .store) slot field p .lost) _ _
-    (λ _. record { view = f .view; long = f .long }) (λ _. kept-fit a slot field p x f short h))
-    (λ _. f)
+  piece-fit : FitView (viewAfter v slot r)
+  piece-fit = record { tidy = accept-tidy (v .table) (v .windows slot) (v .store) slot field p (f .tidy) short; sound = after-sound }
 
 -- ---- a reception
 
-frame-fit : (a : Air) (g : Heard) (x : Reading) → Fine g → FitRead x → FitRead (readFrame a g x)
-unfolding readFrame
-frame-fit a lost x k f = f
-frame-fit a (heard flags field p) x k f =
-    cond-keeps FitRead (eqb (flags / 64) tUp) _ _
-    (λ _. piece-fit a (flags % 64) field p x (omega (arith, k .2)) f)
-    (λ _. untouched-fit x _ f
-    (cond-keeps (Untouched x) (eqb (flags / 64) tCtrl) _ x
-    (λ _. cond-keeps (Untouched x) (eqb (length p) 0) x _ (λ _. untouched x) (λ _. control-untouched a (flags % 64) _ (length p) p x))
-    (λ _. untouched x)))
+pub record FitRead (x : Reading) : Type 0 where
+  pub view : FitView (viewIn x)
+  pub long : length (x .station .members) ≡ 62
 
-pub step-read-fit : (a : Air) (g : Heard) (x : Reading) → Fine g → FitRead x → FitRead (frameStep a g x)
-unfolding frameStep
-step-read-fit a g x k f = let z = frame-fit a g x k f in record { view = z .view; long = z .long }
+read-fit : (x y : Reading) (h : Heard) → Fine h → FitRead x → FrameRead x y h → FitRead y
+read-fit x y h k f (other q s) = record { view = subst FitView (sym (s .view)) (f .view); long = s .long }
+read-fit x y h k f (unkept flags field p b q s) = record { view = subst FitView (sym (s .view)) (f .view); long = s .long }
+read-fit x y h k f (piece flags field p b q s) =
+    record { view = subst FitView (sym (s .view)) (piece-fit (viewIn x) (flags % 64) field p (f .view) (omega (arith, k .2))); long = s .long }
+
+-- so each frame is read as WalkFrames has it
+pub fit-frame : (a : Air) (h : Heard) (x : Reading) → FitRead x → FrameRead x (frameStep a h x) h
+fit-frame a h x f = step-frame a x (f .view .tidy) (f .long) h
+
+pub step-read-fit : (a : Air) (h : Heard) (x : Reading) → Fine h → FitRead x → FitRead (frameStep a h x)
+step-read-fit a h x k f = read-fit x (frameStep a h x) h k f (fit-frame a h x f)
 
 frames-fit : (a : Air) (fs : List Heard) (x : Reading) → AllFine fs → FitRead x → FitRead (readFrames a fs x)
 unfolding readFrames
 frames-fit a [] x k f = f
-frames-fit a (g ∷ fs) x (AllFine.more h k) f = frames-fit a fs (frameStep a g x) k (step-read-fit a g x h f)
+frames-fit a (h ∷ fs) x (AllFine.more g k) f = frames-fit a fs (frameStep a h x) k (step-read-fit a h x g f)
+
+pub read-fine : (u : Burst) → AllFine (u .frames) → AllFine (framesBy (parsed u))
+read-fine u k = cond-keeps AllFine (eqb (u .head .code) tiny) [] (u .frames) (λ _. AllFine.none) (λ _. k)
+
+pub first-fit : (s : Station) (u : Burst) (now : Float) (store : List ℕ) → Fit (net s store) → FitRead (firstIn s u now store)
+first-fit s u now store f = record { view = f .view; long = f .long }
 
 -- only the store's length counts
-pub other-store : (t : Table) (store other : List ℕ) → 6400 * t .count ≤ length other → Tidy t store → Tidy t other
-other-store t store other h d =
+pub other-store : (t : Table) (store st : List ℕ) → 6400 * t .count ≤ length st → Tidy t store → Tidy t st
+other-store t store st h d =
     record {
       some = d .some;
       most = d .most;
@@ -168,23 +128,11 @@ other-store t store other h d =
 abbrev FitReceived : Received → Type 0
 FitReceived r = Fit (net (r .station) (r .store))
 
-end-fit : (y : Reading) (d : Ended) → FitRead y → QuietEnd (y .station) d → FitReceived (receivedOf y d)
-end-fit y d f k =
-    record { view = subst FitView (sym (kept-view (y .station) (d .station) (y .store) (k .0))) (f .view); long = k .0 .long ∙ f .long }
-
 rx-fit : (s : Station) (u : Burst) (snr now : Float) (store : List ℕ) → AllFine (u .frames) → Fit (net s store) → FitReceived (ncsRx s u snr now store)
-unfolding ncsRx
 rx-fit s u snr now store k f =
-    let a = airOf s (u .head) snr now in
-    let x = firstReading (withWait s (busyWait (s .wait) (u .head) (s .settings) now)) store in
-    let y = readFrames a (u .frames) x in
-    let g : FitRead x = record { view = f .view; long = f .long } in
-    cond-keeps FitReceived (eqb (u .head .code) tiny) _ _
-    (λ _. end-fit x (cond (eqb (u .head .hi) kIdle) (idleEnd a (u .head .extra) (x .station)) (nothingMore (x .station))) g
-    (cond-keeps (QuietEnd (x .station)) (eqb (u .head .hi) kIdle) _ _
-    (λ _. idle-kept a (u .head .extra) (x .station))
-    (λ _. (kept-self (x .station), events-none))))
-    (λ _. end-fit y (replyEnd a (u .head) y) (frames-fit a (u .frames) x k g) (reply-kept a (u .head) y))
+    let c = rx-end s u snr now store in
+    let g = frames-fit (airOf s (u .head) snr now) (framesBy (parsed u)) (firstIn s u now store) (read-fine u k) (first-fit s u now store f) in
+    record { view = subst FitView (sym (c .view)) (g .view); long = c .long ∙ g .long }
 
 module _ (n : Net) (words : List ℕ) (snr now : Float) (st : List ℕ) (room : ℕ) (f : Fit n) where
   abbrev FitOutcome : Outcome → Type 0
