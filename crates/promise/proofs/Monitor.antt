@@ -10,6 +10,7 @@ use mathlib.Core.List.{List, [], _∷_, _++_}
 use lib.Dec.{T, eqb, eqb-refl}
 use borrow.Author.Tests.{eqb-true}
 use Rattle.promise.specs.Promise.{TurnEvent, drew, over, poll, ack, struck, has, without, View, emptyView, begins, view, Spread, pollsTill, acksTill, OneTurn, AtEvent, TurnsHold}
+use Rattle.promise.specs.Waits.{views}
 
 abbrev pub In : ℕ → List ℕ → Type 0
 In x [] = ⊥
@@ -67,7 +68,7 @@ few left s p a (struck x ∷ es) hp ha c = go (eqb x s) c (λ d. few (without x 
 
 -- ---- the view that goes with the monitor
 
-abbrev slots : Run → List ℕ
+abbrev pub slots : Run → List ℕ
 slots rest = []
 slots (turn s p a) = s ∷ []
 
@@ -263,12 +264,94 @@ hold list left r (struck x ∷ es) v o c = (
 pub accepted : (es : List TurnEvent) → Acc [] rest es → TurnsHold emptyView es
 accepted es c = hold [] [] rest es (record { on = λ x h. absurd h; once = tt }) tt c
 
--- ---- the promise at one event of a trace
+-- ---- the turn that runs behind an accepted trace
 
-abbrev pub views : View → List TurnEvent → View
-views v [] = v
-views v (e ∷ es) = views (view v e) es
+-- as the monitor has it
+abbrev runAfter : Run → List TurnEvent → Run
+runAfter r [] = r
+runAfter r (drew l ∷ es) = runAfter r es
+runAfter r (over x ∷ es) = runAfter rest es
+runAfter rest (poll x ∷ es) = runAfter (turn x 1 0) es
+runAfter (turn s p a) (poll x ∷ es) = runAfter (turn s (suc p) a) es
+runAfter rest (ack x ∷ es) = runAfter rest es
+runAfter (turn s p a) (ack x ∷ es) = runAfter (turn s p (suc a)) es
+runAfter r (struck x ∷ es) = runAfter (runWithout x r) es
 
-pub holds-at : (v : View) (pre : List TurnEvent) (e : TurnEvent) (es : List TurnEvent) → TurnsHold v (pre ++ (e ∷ es)) → AtEvent (views v pre) e es
-holds-at v [] e es h = h .0
-holds-at v (x ∷ pre) e es h = holds-at (view v x) pre e es (h .1)
+-- the view has it
+view-run : (list left : List ℕ) (r : Run) (es : List TurnEvent) → Left list left → Acc left r es → views (seen list r) es .run ≡ slots (runAfter r es)
+view-run list left r [] v c = refl
+view-run list [] rest (drew m ∷ es) v c = view-run m m rest es (whole m (c .0)) (c .1)
+view-run list (x ∷ left) rest (drew m ∷ es) v c = absurd c
+view-run list left (turn s n a) (drew m ∷ es) v c = absurd c
+view-run list left rest (over x ∷ es) v c = absurd c
+view-run list left (turn s n a) (over x ∷ es) v c =
+    subst (λ (b : Bool). views (record { list = list; run = cond b [] (s ∷ []) }) es .run ≡ slots (runAfter rest es)) (sym (eqb-eq x s (c .0))) (view-run list left rest es v (c .1))
+view-run list [] rest (poll x ∷ es) v c = absurd c
+view-run list (y ∷ left) rest (poll x ∷ es) v c =
+    subst (λ (b : Bool). views (record { list = list; run = cond (b && true) (x ∷ []) [] }) es .run ≡ slots (runAfter (turn x 1 0) es)) (sym (head-on list left x y v (c .0)))
+    (view-run list left (turn x 1 0) es (fewer list left y v) (c .1))
+view-run list left (turn s n a) (poll x ∷ es) v c =
+    subst (λ (b : Bool). views (record { list = list; run = cond b (x ∷ s ∷ []) (s ∷ []) }) es .run ≡ slots (runAfter (turn s (suc n) a) es)) (sym (again list s n a x (c .0)))
+    (view-run list left (turn s (suc n) a) es v (c .2))
+view-run list left rest (ack x ∷ es) v c = absurd c
+view-run list left (turn s n a) (ack x ∷ es) v c = view-run list left (turn s n (suc a)) es v (c .2)
+view-run list left r (struck x ∷ es) v c =
+    subst (λ (run : List ℕ). views (record { list = without x list; run = run }) es .run ≡ slots (runAfter (runWithout x r) es)) (slots-struck x r)
+    (view-run (without x list) (without x left) (runWithout x r) es (struck-left list left x v) c)
+
+-- a turn has a poll at least
+abbrev Polled : Run → Type 0
+Polled rest = Unit {0}
+Polled (turn s p a) = 1 ≤ p
+
+polled-without : (x : ℕ) (r : Run) → Polled r → Polled (runWithout x r)
+polled-without x rest p = tt
+polled-without x (turn s n a) p = go (eqb x s)
+  where
+    go : (b : Bool) → Polled (cond b rest (turn s n a))
+    go true = tt
+    go false = p
+
+polled-after : (r : Run) (es : List TurnEvent) → Polled r → Polled (runAfter r es)
+polled-after r [] p = p
+polled-after r (drew l ∷ es) p = polled-after r es p
+polled-after r (over x ∷ es) p = polled-after rest es tt
+polled-after rest (poll x ∷ es) p = polled-after (turn x 1 0) es (omega arith)
+polled-after (turn s n a) (poll x ∷ es) p = polled-after (turn s (suc n) a) es (omega arith)
+polled-after rest (ack x ∷ es) p = polled-after rest es p
+polled-after (turn s n a) (ack x ∷ es) p = polled-after (turn s n (suc a)) es p
+polled-after r (struck x ∷ es) p = polled-after (runWithout x r) es (polled-without x r p)
+
+-- what follows an accepted trace is accepted with it
+abbrev Follows : Run → List TurnEvent → Type 0
+Follows r k = (left : List ℕ) × Acc left r k
+
+following : (left : List ℕ) (r : Run) (es k : List TurnEvent) → Acc left r (es ++ k) → Follows (runAfter r es) k
+following left r [] k c = (left, c)
+following [] rest (drew m ∷ es) k c = following m rest es k (c .1)
+following (x ∷ left) rest (drew m ∷ es) k c = absurd c
+following left (turn s n a) (drew m ∷ es) k c = absurd c
+following left rest (over x ∷ es) k c = absurd c
+following left (turn s n a) (over x ∷ es) k c = following left rest es k (c .1)
+following [] rest (poll x ∷ es) k c = absurd c
+following (y ∷ left) rest (poll x ∷ es) k c = following left (turn x 1 0) es k (c .1)
+following left (turn s n a) (poll x ∷ es) k c = following left (turn s (suc n) a) es k (c .2)
+following left rest (ack x ∷ es) k c = absurd c
+following left (turn s n a) (ack x ∷ es) k c = following left (turn s n (suc a)) es k (c .2)
+following left r (struck x ∷ es) k c = following (without x left) (runWithout x r) es k c
+
+-- two runs behind which the same may follow are of the same slot: an end of the waiting tells a turn, and a list, or five polls, tell that none runs
+same-run : (left : List ℕ) (r t : Run) → Polled t → ((k : List TurnEvent) → Acc left r k → Follows t k) → slots t ≡ slots r
+same-run left (turn s p a) rest w f = absurd (f (over s ∷ []) (refl, tt) .1)
+same-run left (turn s p a) (turn x n b) w f = let e = f (over s ∷ []) (refl, tt) .1 .0 in rw (sym e)
+same-run left rest rest w f = refl
+same-run [] rest (turn x n b) w f = absurd (f (drew [] ∷ []) (tt, tt) .1)
+same-run (y ∷ left) rest (turn x n b) w f =
+    let c = f (poll y ∷ poll y ∷ poll y ∷ poll y ∷ poll y ∷ []) (refl, (refl, omega arith, (refl, omega arith, (refl, omega arith, (refl, omega arith, tt))))) .1 in
+    absurd (let z = c .2 .2 .2 .2 .1 in omega arith)
+
+-- a trace behind which all may follow that may follow a run ends in that run, in the view too
+pub ends-in : (left : List ℕ) (r : Run) (es : List TurnEvent) → Acc [] rest es → ((k : List TurnEvent) → Acc left r k → Acc [] rest (es ++ k)) → views emptyView es .run ≡ slots r
+ends-in left r es c f =
+    view-run [] [] rest es (record { on = λ x h. absurd h; once = tt }) c
+    ∙ same-run left r (runAfter rest es) (polled-after rest es tt) (λ k h. following [] rest es k (f k h))

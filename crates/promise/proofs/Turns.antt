@@ -29,8 +29,9 @@ use Rattle.rx.specs.Reception.{ncsRx}
 use Rattle.station.specs.Entries.{Outcome, refused, done, unless, startRefusal, startOf, admitted, admitOf, receiveBy, receiveRefusal, receiveOf, nextOf, sentOf, closeOf, freeOf, readRefusal, check1, admitRefusal, nextRefusal, closeRefusal, cellRefusal}
 use Rattle.station.specs.SignOff.{noSource, strikeBy, signOff, signOffRefusal, signOffOf}
 use Rattle.dues.specs.Dues.{duesRefusal}
-use Rattle.promise.specs.Promise.{lentTo, Net, ofBurst, Call, admission, reception, decision, sending, closing, reading, freeing, charging, signing, result, outcome, step, started, TurnEvent, struck, overIf, drewIf, burstsIn, turnEvents, trace, emptyView, TurnsHold}
-use Rattle.promise.proofs.Monitor.{Run, rest, turn, runWithout, Acc, accepted}
+use Rattle.promise.specs.Promise.{lentTo, Net, ofBurst, Call, admission, reception, decision, sending, closing, reading, freeing, charging, signing, result, outcome, step, after, started, TurnEvent, struck, overIf, drewIf, burstsIn, turnEvents, trace, emptyView, TurnsHold}
+use Rattle.promise.specs.Waits.{awaited, TurnsMatch}
+use Rattle.promise.proofs.Monitor.{Run, rest, turn, runWithout, Acc, slots, accepted, ends-in}
 use Rattle.promise.proofs.TurnsWords.{Quiet, quiet-none}
 use Rattle.promise.proofs.TurnsLists.{slotsIn, Low, low-none, low-without, list-none, list-struck}
 use Rattle.promise.proofs.Signs.{sign-beside}
@@ -172,12 +173,16 @@ module _ (r : Run) (n : Net) (e : Rel r (n .station .wait .turn)) (l : Low (n .s
 
 -- ### Every list of calls
 
-calls : (cs : List Call) (n : Net) (r : Run) → Rel r (n .station .wait .turn) → Low (n .station .round .list) → Acc (slotsIn (n .station .round .list)) r (trace cs n)
-unfolding trace step
-calls [] n r e l = tt
+fine-then : {left : List ℕ} {r : Run} {s t : Station} {es ds : List TurnEvent} (f : Fine left r s es) → Fine (slotsIn (s .round .list)) (f .run) t ds → Fine left r t (es ++ ds)
+fine-then {left} {r} {s} {t} {es} {ds} f g =
+    record { run = g .run; rel = g .rel; low = g .low; keeps = λ k h. subst (Acc left r) (sym (append-assoc es ds k)) (f .keeps (ds ++ k) (g .keeps k h)) }
+
+calls : (cs : List Call) (n : Net) (r : Run) → Rel r (n .station .wait .turn) → Low (n .station .round .list) → Fine (slotsIn (n .station .round .list)) r (after cs n .station) (trace cs n)
+unfolding trace step after
+calls [] n r e l = fine-none r (n .station) e l
 calls (c ∷ cs) n r e l =
     let f = fine-call r n e l c in
-    f .keeps (trace cs (step c n)) (calls cs (step c n) (f .run) (f .rel) (f .low))
+    fine-then f (calls cs (step c n) (f .run) (f .rel) (f .low))
 
 -- ### A start
 
@@ -194,16 +199,38 @@ new-list : (g : Settings) (count : ℕ) → newStation g count .round .list ≡ 
 unfolding newStation
 new-list g count = refl
 
--- from a start that is not refused on, over every list of calls, the monitor accepts what they return
-pub followed : (s : Station) (g : Given) (store : List ℕ) → startRefusal g (length store) ≡ 0 → (cs : List Call) → Acc [] rest (trace cs (started s g store))
-followed s g store z cs =
+-- from a start that is not refused on, over every list of calls, the monitor follows the station
+follows : (s : Station) (g : Given) (store : List ℕ) → startRefusal g (length store) ≡ 0 → (cs : List Call)
+    → Fine [] rest (after cs (started s g store) .station) (trace cs (started s g store))
+follows s g store z cs =
     let n = started s g store in
     let e = start-is s g store z in
     let i : n .station .round .list ≡ 0 = ap (λ (t : Station). t .round .list) e ∙ new-list (settingsOf g) (cellCount (length store / 6400)) in
-    subst (λ (l : List ℕ). Acc l rest (trace cs n)) (list-none (n .station .round .list) i)
+    subst (λ (l : List ℕ). Fine l rest (after cs n .station) (trace cs n)) (list-none (n .station .round .list) i)
     (calls cs n rest (subst (λ (t : Station). Rel rest (t .wait .turn)) (sym e) (new-turn (settingsOf g) (cellCount (length store / 6400)))) (subst Low (sym i) low-none))
+
+-- and accepts what they return
+pub followed : (s : Station) (g : Given) (store : List ℕ) → startRefusal g (length store) ≡ 0 → (cs : List Call) → Acc [] rest (trace cs (started s g store))
+followed s g store z cs = subst (Acc [] rest) (append-nil (trace cs (started s g store))) (follows s g store z cs .keeps [] tt)
 
 -- so from the drawing up of a list on no slot begins a second turn until each other slot on it has had one, and each turn has at most five polls and four
 -- acknowledgements
 pub turns : (s : Station) (g : Given) (store : List ℕ) → startRefusal g (length store) ≡ 0 → (cs : List Call) → TurnsHold emptyView (trace cs (started s g store))
 turns s g store z cs = accepted (trace cs (started s g store)) (followed s g store z cs)
+
+-- ### The turn that runs
+
+rel-awaited : (r : Run) (t : Turn) → Rel r t → slots r ≡ awaited t
+rel-awaited rest Idle e = refl
+rel-awaited rest Sending e = refl
+rel-awaited rest (Waiting p) e = absurd e
+rel-awaited (turn x n a) Idle e = absurd e
+rel-awaited (turn x n a) Sending e = absurd e
+rel-awaited (turn x n a) (Waiting p) e = ap (λ (y : ℕ). y ∷ []) (sym (e .0))
+
+-- it is the one that the station waits for
+pub turns-match : TurnsMatch
+turns-match s g store z cs =
+    let f = follows s g store z cs in
+    ends-in (slotsIn (after cs (started s g store) .station .round .list)) (f .run) (trace cs (started s g store)) (followed s g store z cs) (f .keeps)
+    ∙ rel-awaited (f .run) (after cs (started s g store) .station .wait .turn) (f .rel)
