@@ -1,32 +1,30 @@
 -- One more piece of a cell's message, whole or in two parts in either order, joins the same bytes: each way covers the same, and the joined bytes are the message's up
 -- to the first byte that is not covered. Assumes nothing.
-use mathlib.Core.Path.{_≡_, refl, sym, ap, _∙_}
-use mathlib.Core.Bool.{true, false, cond}
+use mathlib.Core.Path.{_≡_, refl, sym, ap, _∙_, subst}
+use mathlib.Core.Bool.{true, false, _&&_}
 use mathlib.Core.List.{List, [], _∷_, _++_}
 use mathlib.Core.Logic.{_⊎_, inl, inr, ⊎-elim}
 use Prim.Native.Nat.{ℕ, _+_, _≤_, _<_}
 use native.Mathlib.Omega.{arith}
+use lib.Dec.{leb, ltb}
 use lib.ListN.{length, getD, take, drop, length-append, length-drop, List·getD-append}
-use lib.Seq.{getD-append-add, getD-take, getD-drop, length-take-le, ext-getD}
-use Rattle.bits.proofs.Lists.{cond-true, le-or-lt, never-both}
+use lib.Seq.{getD-append-add, getD-take, getD-drop, length-take-le, take-all, ext-getD}
+use borrow.Author.Tests.{ltb-true, leb-true, lt-ltb, lt-leb, ne-eqb}
+use Rattle.bits.proofs.Lists.{cond-keeps, and-true, cases, eq-or-not, le-or-lt, never-both}
+use Rattle.inbox.specs.declared.cell.Cell.{Cell}
 use Rattle.inbox.specs.declared.keep.Kept.{Kept}
 use Rattle.inbox.specs.declared.keep.Kept.the-variants.{Needless, Yes, Late, Long, NoCell, NoPlace}
-use Rattle.inbox.specs.Cells.{Held, accept}
-use Rattle.inbox.specs.Keeping.{keptOf}
-use Rattle.inbox.specs.Messages.{Piece, empty, accept-all, Covered, Cut, KeptBy, framed}
-use Rattle.inbox.proofs.Joined.{HasRoom, Inv, accept-all-inv}
+use Rattle.inbox.specs.Cells.{Held, offset, size, endAt, placeAt, accept}
+use Rattle.inbox.specs.Keeping.{shorterOf, keptOf}
+use Rattle.inbox.specs.Messages.{Piece, empty, Fits, accept-all, Covered, Cut}
+use Rattle.inbox.specs.Sizes.{numberLimit}
+use Rattle.inbox.proofs.Joined.{Room, HasRoom, Inv, accept-all-inv}
 use Rattle.inbox.proofs.Rule.{kept-room}
-use Rattle.stream.specs.declared.window.Window.{Window}
-use Rattle.stream.specs.Window.{handedOf, freshOf}
+use Rattle.inbox.proofs.Search.{place-starts}
+use Rattle.inbox.proofs.Steps.{accept-old, accept-empty}
 use Rattle.stream.specs.Table.{isLost}
-use Rattle.net.specs.State.{memberAt}
-use Rattle.net.specs.Net.{isMember}
-use Rattle.promise.specs.Promise.{Net, Sent, Book}
-use Rattle.laws.specs.Laws.{Placed, from, SameJoined, Splits, CellSplits, AllSplit}
+use Rattle.laws.specs.Laws.{Placed, from, SameJoined, Splits, AllCut}
 use Rattle.promise.proofs.Ledgers.{Cov, empty-inv}
-use Rattle.promise.proofs.Ties.{aim}
-use Rattle.promise.proofs.Quiet.{viewOf}
-use Rattle.promise.proofs.Messages.{Tied}
 
 -- ---- the joined bytes of a cell, by what is covered
 
@@ -58,22 +56,24 @@ same-joined M D E h g v w to back =
 
 -- ---- the two parts of a piece of M are pieces of M
 
+-- the bytes of a piece are M's from o on
+cut-at : (M : List ℕ) (o : ℕ) (p : List ℕ) → Cut M o p → (j : ℕ) → j < length p → getD p j 0 ≡ getD M (o + j) 0
+cut-at M o p cut j a = ap (λ (x : List ℕ). getD x j 0) (cut .same) ∙ getD-take (length p) (drop o M) j 0 a ∙ getD-drop o M j 0
+
+-- and bytes that are are cut from it
+part-is : (M x : List ℕ) (a : ℕ) → a + length x ≤ length M → ((j : ℕ) → j < length x → getD x j 0 ≡ getD M (a + j) 0) → x ≡ take (length x) (drop a M)
+part-is M x a f same =
+    let d = length-drop a M in
+    let n : length (take (length x) (drop a M)) ≡ length x = length-take-le _ _ (omega arith) in
+    ext-getD 0 x (take (length x) (drop a M)) (sym n)
+    (λ j b. same j b ∙ sym (getD-take (length x) (drop a M) j 0 b ∙ getD-drop a M j 0))
+
 module _ (M : List ℕ) (o : ℕ) (p q : List ℕ) (cut : Cut M o (p ++ q)) where
   whole-length : length (p ++ q) ≡ length p + length q
   whole-length = length-append p q
 
   whole-at : (j : ℕ) → j < length p + length q → getD (p ++ q) j 0 ≡ getD M (o + j) 0
-  whole-at j a =
-      let n = whole-length in
-      ap (λ (x : List ℕ). getD x j 0) (cut .same) ∙ getD-take (length (p ++ q)) (drop o M) j 0 (omega arith) ∙ getD-drop o M j 0
-
-  -- a part of n bytes that are M's from a on
-  part-is : (x : List ℕ) (a : ℕ) → a + length x ≤ length M → ((j : ℕ) → j < length x → getD x j 0 ≡ getD M (a + j) 0) → x ≡ take (length x) (drop a M)
-  part-is x a f same =
-      let d = length-drop a M in
-      let n : length (take (length x) (drop a M)) ≡ length x = length-take-le _ _ (omega arith) in
-      ext-getD 0 x (take (length x) (drop a M)) (sym n)
-      (λ j b. same j b ∙ sym (getD-take (length x) (drop a M) j 0 b ∙ getD-drop a M j 0))
+  whole-at j a = let n = whole-length in cut-at M o (p ++ q) cut j (omega arith)
 
   first-cut : Cut M o p
   first-cut =
@@ -83,7 +83,7 @@ module _ (M : List ℕ) (o : ℕ) (p q : List ℕ) (cut : Cut M o (p ++ q)) wher
       record {
         short = omega arith;
         fits = omega arith;
-        same = part-is p o (omega arith) (λ j a. sym (List·getD-append p q 0 j a) ∙ whole-at j (omega arith));
+        same = part-is M p o (omega arith) (λ j a. sym (List·getD-append p q 0 j a) ∙ whole-at j (omega arith));
       }
 
   second-cut : Cut M (o + length p) q
@@ -94,7 +94,7 @@ module _ (M : List ℕ) (o : ℕ) (p q : List ℕ) (cut : Cut M o (p ++ q)) wher
       record {
         short = omega arith;
         fits = omega arith;
-        same = part-is q (o + length p) (omega arith)
+        same = part-is M q (o + length p) (omega arith)
             (λ j a.
             let e : o + (length p + j) ≡ o + length p + j = omega arith in
             sym (getD-append-add p q j 0) ∙ whole-at (length p + j) (omega arith) ∙ ap (λ (x : ℕ). getD M x 0) e);
@@ -109,11 +109,6 @@ not-lost Late e = absurd (never-both true refl e)
 not-lost Long e = absurd (never-both true refl e)
 not-lost NoCell e = absurd (never-both true refl e)
 not-lost NoPlace e = absurd (never-both true refl e)
-
--- each piece is cut from M
-abbrev AllCut : List ℕ → List Piece → Type 0
-AllCut M [] = Unit {0}
-AllCut M (p ∷ ps) = Cut M (p .off) (p .bytes) × AllCut M ps
 
 has-room : (number : ℕ) (M : List ℕ) (h : Held) (ps : List Piece) → AllCut M ps → Placed number h ps → HasRoom M h ps
 has-room number M h [] c k = tt
@@ -175,28 +170,82 @@ splits number M C h v o p q cut one two turned =
       same-joined M _ _ _ _ z u (turned-one C o p q n) (one-turned C o p q n),
     )
 
--- ---- any cell that began empty
+-- ---- a cell that pieces went into since it was taken
 
-kept-room-all : (number : ℕ) (M : List ℕ) (h : Held) (ps : List Piece) → KeptBy number M h ps → HasRoom M h ps
-kept-room-all number M h [] k = tt
-kept-room-all number M h (p ∷ ps) k = (
-  k .0,
-  (
-    kept-room number (p .off) true (h .cell) (h .bytes) (p .bytes) (k .1 .0),
-    kept-room-all number M (accept h (p .off) (p .bytes)) ps (k .1 .1),
-  ),
-)
+-- each has its place when it comes, and ends at 2,048 or before
+abbrev pub Took : Held → List Piece → Type 0
+Took h [] = Unit {0}
+Took h (x ∷ xs) = (x .off + length (x .bytes) ≤ 2048) × (Room h (x .off) (x .bytes) × Took (accept h (x .off) (x .bytes)) xs)
 
-pub cell-splits : CellSplits
-cell-splits number body bs ps small room kept =
-    splits number (framed body) (λ i. Cov (λ i. false) i ⊎ Covered ps i) (accept-all (empty bs) ps)
-    (accept-all-inv (framed body) (Cov (λ i. false)) (empty bs) ps (empty-inv body bs (λ i. false) small room (λ i. refl)) (kept-room-all number (framed body) (empty bs) ps kept))
+-- the cell h is what they make of an empty one, in some bytes
+pub record Made (h : Held) (ps : List Piece) : Type 0 where
+  pub bytes : List ℕ
+  pub room : 6144 ≤ length bytes
+  pub took : Took (empty bytes) ps
+  pub is : h ≡ accept-all (empty bytes) ps
 
--- ---- any cell of a station that is tied to the book
+-- of a message longer than a cell only the first 2,048 bytes count
+cut-short : (M : List ℕ) (o : ℕ) (p : List ℕ) → o + length p ≤ 2048 → Cut M o p → Cut (take 2048 M) o p
+cut-short M o p e c =
+    ⊎-elim (λ l. subst (λ (x : List ℕ). Cut x o p) (sym (take-all 2048 M l)) c)
+    (λ l.
+    let n : length (take 2048 M) ≡ 2048 = length-take-le 2048 M (omega arith) in
+    record {
+      short = c .short;
+      fits = omega arith;
+      same = part-is (take 2048 M) p o (omega arith) (λ j a. cut-at M o p c j a ∙ sym (getD-take 2048 M (o + j) 0 (omega arith)));
+    }) (le-or-lt (length M) 2048)
 
-pub all-split : (M : Sent) → ((s k : ℕ) → length (M s k) ≤ 2046) → (n : Net) (b : Book) → Tied M n b → AllSplit M n
-all-split M small n b tied s k here low fresh room =
-    let window : handedOf (cond (isMember (n .station .used) s) (memberAt (n .station) s .up) freshOf) k ≡ false =
-    ap (λ (w : Window). handedOf w k) (cond-true (isMember (n .station .used) s) (memberAt (n .station) s .up) freshOf here) ∙ fresh in
-    let m = aim M small (viewOf (n .station) (n .store)) (b .ledger) (b .entry) (tied .tie) s k low (tied .tie .numbers s k ∙ window) room in
-    splits k (framed (M s k)) (Cov (b .ledger .covered s k)) _ (m .inv)
+-- a piece that would end past 2,048 has no place, but the empty one, which changes nothing
+past-lost : (c : Cell) → Fits c → (number o n : ℕ) → (n ≡ 0 → ⊥) → 2048 < o + n → isLost (keptOf false number o n true c) ≡ true
+past-lost c f number o n z l =
+    let j = f .joined in
+    rw (ne-eqb n 0 z, lt-leb (o + n) (c .joined) (omega arith), no-shorter, lt-ltb 2048 (o + n) l)
+    (cond-keeps (λ (k : Kept). isLost k ≡ true) (leb numberLimit number) Late Long (λ _. refl) (λ _. refl))
+  where
+    no-shorter : shorterOf c o n ≡ false
+    no-shorter =
+        ⊎-elim (λ t.
+        let u = and-true (ltb (c .joined) o && ltb (placeAt c o) 16) (leb n (size c (placeAt c o))) t in
+        let v = and-true (ltb (c .joined) o) (ltb (placeAt c o) 16) (u .0) in
+        let k : placeAt c o < 16 = ltb-true (placeAt c o) 16 (v .1) in
+        let e : endAt c (placeAt c o) ≤ 2048 = f .ends (placeAt c o) k in
+        let w : offset c (placeAt c o) ≡ o = place-starts c o k in
+        let m : n ≤ size c (placeAt c o) = leb-true n (size c (placeAt c o)) (u .1) in
+        absurd (omega arith)) (λ t. t) (cases (shorterOf c o n))
+
+accept-nothing : (h : Held) (o : ℕ) (p : List ℕ) → length p ≡ 0 → accept h o p ≡ h
+accept-nothing h o p z = ⊎-elim (λ a. accept-old (h .cell) (h .bytes) o p a) (λ a. accept-empty (h .cell) (h .bytes) o p a z) (le-or-lt (o + length p) (h .cell .joined))
+
+same-cells : (h g k : Held) → h ≡ k → g ≡ k → SameJoined h g
+same-cells h g k p q = record { end = ap (λ (x : Held). x .cell .joined) (p ∙ sym q); bytes = ap (λ (x : Held). take (x .cell .joined) (x .bytes)) (p ∙ sym q) }
+
+module _ (number : ℕ) (M : List ℕ) (h : Held) (ps : List Piece) (fits : Fits (h .cell)) (made : Made h ps) (cuts : AllCut M ps) where
+  has-room-all : (g : Held) (xs : List Piece) → AllCut M xs → Took g xs → HasRoom (take 2048 M) g xs
+  has-room-all g [] c t = tt
+  has-room-all g (x ∷ xs) c t = (cut-short M (x .off) (x .bytes) (t .0) (c .0), (t .1 .0, has-room-all (accept g (x .off) (x .bytes)) xs (c .1) (t .1 .1)))
+
+  inv : Inv (take 2048 M) (λ i. Cov (λ i. false) i ⊎ Covered ps i) h
+  inv =
+      subst (Inv (take 2048 M) (λ i. Cov (λ i. false) i ⊎ Covered ps i)) (sym (made .is))
+      (accept-all-inv (take 2048 M) (Cov (λ i. false)) (empty (made .bytes)) ps (empty-inv (take 2048 M) (made .bytes) (λ i. false) first-2048 (made .room) (λ i. refl))
+      (has-room-all (empty (made .bytes)) ps cuts (made .took)))
+    where
+      first-2048 : length (take 2048 M) ≤ 2048
+      first-2048 = ⊎-elim (λ l. let e = ap length (take-all 2048 M l) in omega arith) (λ l. let e = length-take-le 2048 M (omega arith) in omega arith) (le-or-lt (length M) 2048)
+
+  pub made-splits : Splits number M h
+  made-splits o p q cut one two turned =
+      let n = length-append p q in
+      ⊎-elim (λ z.
+      let w = accept-nothing h o (p ++ q) z in
+      let a = accept-nothing h o p (omega arith) in
+      let b = accept-nothing h (o + length p) q (omega arith) in (
+        same-cells _ _ h (ap (λ (g : Held). accept g (o + length p) q) a ∙ b) w,
+        same-cells _ _ h (ap (λ (g : Held). accept g o p) b ∙ a) w,
+      ))
+      (λ z.
+      let e : o + length (p ++ q) ≤ 2048 =
+      ⊎-elim (λ l. l) (λ l. absurd (never-both _ (past-lost (h .cell) fits number o (length (p ++ q)) z l) (one .0))) (le-or-lt (o + length (p ++ q)) 2048) in
+      splits number (take 2048 M) _ h inv o p q (cut-short M o (p ++ q) e cut) one two turned)
+      (eq-or-not (length (p ++ q)) 0)

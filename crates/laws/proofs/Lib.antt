@@ -6,6 +6,7 @@ pub mod SilentCount
 pub mod Silent
 pub mod SilentRun
 pub mod LawsParts
+pub mod LawsCells
 pub mod LawsLevels
 pub mod LawsBoats
 pub mod Laws

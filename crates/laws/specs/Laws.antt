@@ -1,12 +1,12 @@
 -- Three laws that a radio engineer can lean on, `Laws`, the last definition: they hold of the station after any calls from a start that is not refused, each call
 -- getting the store that the last one left. In order: a smoothed level lies between old and new; a piece may come in two parts; two boats' pieces may change places.
-use Prim.Native.Nat.{ℕ, _+_, _/_, _%_, _^_, _≤_, _<_}
+use Prim.Native.Nat.{ℕ, _+_, _/_, _%_, _≤_, _<_}
 use mathlib.Core.Path.{_≡_}
-use mathlib.Core.Bool.{true, false}
+use mathlib.Core.Bool.{Bool, true, false, not, cond, _&&_}
 use mathlib.Core.List.{List, [], _∷_, _++_}
 use mathlib.Core.Logic.{_⊎_}
 use lib.ListN.{length, getD, take, replicate}
-use lib.Dec.{T}
+use lib.Dec.{T, eqb}
 use lib.Ieee.{Float, binary32, fits}
 use Rattle.bits.specs.Mask.{hasBit}
 use Rattle.level.specs.declared.Level.the-variants.{Decibels}
@@ -15,27 +15,30 @@ use Rattle.rounding.specs.Between.{sized, Between}
 use Rattle.wire.specs.declared.number.Number.{Number}
 use Rattle.wire.specs.declared.number.Number.the-variants.{Is, Before}
 use Rattle.wire.specs.Numbers.{widened}
+use Rattle.words.specs.Words.{Heard, lost, heard, Burst, parsed, parse}
 use Rattle.inbox.specs.Cells.{Held, held}
 use Rattle.inbox.specs.Cells as cells
 use Rattle.inbox.specs.Keeping.{keptOf}
-use Rattle.inbox.specs.Messages.{Piece, empty, accept-all, framed, Cut, KeptBy}
+use Rattle.inbox.specs.Messages.{Piece, emptyCell, accept-all, Cut}
 use Rattle.inbox.specs.Stores.{cellOf}
 use Rattle.inbox.specs.Box.{Box, none, box-of}
+use Rattle.stream.specs.declared.window.Window.{Window}
 use Rattle.stream.specs.declared.table.Room.{Room}
 use Rattle.stream.specs.declared.table.Room.the-variants.{Own, Free, Full}
 use Rattle.stream.specs.Window.{handedOf}
-use Rattle.stream.specs.Table.{Table, accept, ownerOf, isOwn, cellAt, cellFor, placeOf, hasRoom, tableRoom, isLost, hasLanded}
+use Rattle.stream.specs.Table.{Table, accept, ownerOf, isOwn, cellAt, placeOf, tableRoom, keptFor, changes, isLost, hasLanded}
 use Rattle.net.specs.declared.Station.{Station}
-use Rattle.net.specs.State.{memberAt, tableOf}
+use Rattle.net.specs.State.{memberAt, tableOf, withWait}
 use Rattle.net.specs.Net.{isMember}
 use Rattle.frames.specs.declared.Air.{Air}
 use Rattle.frames.specs.Reading.{Reading}
 use Rattle.frames.specs.Pieces.{pieceFrame}
-use Rattle.rx.specs.Reception.{firstReading}
+use Rattle.frames.specs.Frames.{frameStep}
+use Rattle.rx.specs.Ending.{busyWait}
+use Rattle.rx.specs.Reception.{airOf, firstReading}
 use Rattle.config.specs.declared.Given.{Given}
 use Rattle.station.specs.Entries.{startRefusal}
-use Rattle.promise.specs.Promise.{Lent, Net, Call, reception, after, started, Stays, Sent, sentNow, emptyBook, CallsOk}
-use Rattle.laws.specs.Marks.{bookAfter}
+use Rattle.promise.specs.Promise.{Lent, lentTo, Net, ofBurst, InBook, brings, reads, frees, ends, changesNothing, Call, admission, reception, decision, sending, closing, reading, freeing, charging, signing, inBook, isRefused, step, after, started, isBoats, framesBy, LentOk}
 
 -- ---- a smoothed level
 
@@ -81,24 +84,86 @@ Splits number whole h =
     → SameJoined (accept-all h (from o p ∷ from (o + length p) q ∷ [])) (accept-all h (from o (p ++ q) ∷ []))
     × SameJoined (accept-all h (from (o + length p) q ∷ from o p ∷ [])) (accept-all h (from o (p ++ q) ∷ []))
 
--- so of any cell that began empty, in any bytes, and took pieces of one message alone, each cut from it and refused by no test of the kept rule
-abbrev pub CellSplits : Type 0
-CellSplits =
-    (number : ℕ) (body bs : List ℕ) (ps : List Piece) → length body ≤ 2046 → 6144 ≤ length bs → KeptBy number (framed body) (empty bs) ps
-    → Splits number (framed body) (accept-all (empty bs) ps)
+-- of each cell the pieces that went into it since it was taken, in order; of a free cell this says nothing
+abbrev pub InCells : Type 0
+InCells = ℕ → List Piece
 
--- the cell that a piece of message k of slot s would go into, as it stands: the one that is filling with the message, or a free one, which is empty
-abbrev pub cellTo : Net → ℕ → ℕ → Held
-cellTo n s k =
-    let t = tableOf (n .station) in
-    let r = tableRoom t s k in
-    held (cellFor r (cellAt t (placeOf r))) (cellOf (n .store) (placeOf r))
+-- one more, into the cell that is filling with its message, or into a free one, of which it is the first
+abbrev pub alsoIn : Room → Piece → InCells → InCells
+alsoIn (Own c) x f d = cond (eqb c d) (f d ++ (x ∷ [])) (f d)
+alsoIn (Free c) x f d = cond (eqb c d) (x ∷ []) (f d)
+alsoIn Full x f d = f d
 
--- and in the station: of every message of a boat that is not handed over and has a cell, or to which one is free
-abbrev pub AllSplit : Sent → Net → Type 0
-AllSplit M n =
-    (s k : ℕ) → isMember (n .station .used) s ≡ true → k < 2 ^ 32 → handedOf (memberAt (n .station) s .up) k ≡ false
-    → hasRoom (tableRoom (tableOf (n .station)) s k) ≡ true → Splits k (framed (M s k)) (cellTo n s k)
+-- a boat's piece as `accept` of crate stream takes it: it goes into a cell where its message is not handed over and the kept rule keeps it, as it changes something
+abbrev pub wentBy : Number → Table → Window → ℕ → ℕ → List ℕ → InCells → InCells
+wentBy Before t w slot o p f = f
+wentBy (Is k) t w slot o p f =
+    let r = tableRoom t slot k in
+    cond (not (handedOf w k) && changes (keptFor r (cellAt t (placeOf r)) k o (length p))) (alsoIn r (from o p) f) f
+
+-- a frame, by the station as it is read
+abbrev pub wentIn : Station → Heard → InCells → InCells
+wentIn s lost f = f
+wentIn s (heard flags field p) f =
+    let w = memberAt s (flags % 64) .up in
+    cond (isBoats flags (s .used)) (wentBy (widened (field / 65536 % 256) (w .next)) (tableOf s) w (flags % 64) (field % 65536) p f) f
+
+-- the frames of a reception, in order
+unfoldable pub wentAll : Air → List Heard → Reading → InCells → InCells
+wentAll a [] x f = f
+wentAll a (h ∷ hs) x f = wentAll a hs (frameStep a h x) (wentIn (x .station) h f)
+
+-- a burst, with the station as `ncsRx` has it before the first frame
+abbrev pub wentRx : Station → Burst → Float → Float → List ℕ → InCells → InCells
+wentRx s b snr now store f =
+    wentAll (airOf s (b .head) snr now) (framesBy (parsed b)) (firstReading (withWait s (busyWait (s .wait) (b .head) (s .settings) now)) store) f
+
+-- a call: a reception that is not refused brings pieces
+unfoldable pub wentWith : Call → Net → InCells → InCells
+wentWith (reception words snr now lent room numbers) n f =
+    cond (isRefused (reception words snr now lent room numbers) n) f (ofBurst (parse words) f (λ b. wentRx (n .station) b snr now (lentTo lent (n .store)) f))
+wentWith (admission packed relay now room) n f = f
+wentWith (decision now room) n f = f
+wentWith (sending now) n f = f
+wentWith (closing count) n f = f
+wentWith (reading cell lent) n f = f
+wentWith (freeing cell) n f = f
+wentWith (charging figures) n f = f
+wentWith (signing slot) n f = f
+
+-- all the calls
+unfoldable pub inCells : List Call → Net → InCells → InCells
+inCells [] n f = f
+inCells (c ∷ cs) n f = inCells cs (step c n) (wentWith c n f)
+
+-- nobody else writes the store: a reception that is not refused is lent the one handed on
+abbrev pub StoreOk : InBook → Bool → Type 0
+StoreOk (brings words numbers lent) refused = LentOk lent refused
+StoreOk (reads cell lent) refused = Unit {0}
+StoreOk (frees cell) refused = Unit {0}
+StoreOk (ends slot) refused = Unit {0}
+StoreOk changesNothing refused = Unit {0}
+
+unfoldable pub StoresOk : List Call → Net → Type 0
+StoresOk [] n = Unit {0}
+StoresOk (c ∷ cs) n = StoreOk (inBook c) (isRefused c n) × StoresOk cs (step c n)
+
+-- cell c as a piece finds it, and the pieces in it: a free one is empty, whatever its bytes are
+abbrev pub cellNow : Net → ℕ → Held
+cellNow n c = held (cond (hasBit (n .station .busy) c) (cellAt (tableOf (n .station)) c) emptyCell) (cellOf (n .store) c)
+
+abbrev pub piecesNow : Net → InCells → ℕ → List Piece
+piecesNow n f c = cond (hasBit (n .station .busy) c) (f c) []
+
+-- each piece is cut from the message
+abbrev pub AllCut : List ℕ → List Piece → Type 0
+AllCut whole [] = Unit {0}
+AllCut whole (x ∷ xs) = Cut whole (x .off) (x .bytes) × AllCut whole xs
+
+-- of every cell, and of any message, of any length, its two length bytes with it, from which all the pieces in the cell are cut. `number` is the message's, as the
+-- kept rule asks it
+abbrev pub AllSplit : Net → InCells → Type 0
+AllSplit n f = (c number : ℕ) (whole : List ℕ) → c < n .station .count → AllCut whole (piecesNow n f c) → Splits number whole (cellNow n c)
 
 -- ---- two boats' pieces in either order
 
@@ -171,11 +236,10 @@ Commutes n =
 
 -- ---- the laws
 
--- after the calls cs from n on. The levels handed in are f32; the law of parts asks item 3's premises on messages, so that all pieces of a number are of one message,
--- that of the stay that runs
+-- after the calls cs from n on. The levels handed in are f32; for the law of parts nobody else writes the store
 pub record Lawful (n : Net) (cs : List Call) : Type 0 where
   pub smooths : LevelsOk cs → Smooths (after cs n .station)
-  pub splits : (M : Stays) → ((s t k : ℕ) → length (M s t k) ≤ 2046) → CallsOk M cs n emptyBook → AllSplit (sentNow M (bookAfter M cs n emptyBook)) (after cs n)
+  pub splits : StoresOk cs n → AllSplit (after cs n) (inCells cs n (λ c. []))
   pub commutes : Commutes (after cs n)
 
 -- from a start that is not refused, of any calls

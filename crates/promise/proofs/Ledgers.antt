@@ -145,10 +145,10 @@ module _ (body : List ℕ) (f : ℕ → Bool) (h : Held) (v : Inv (framed body) 
           ap (λ (t : Bool). t && leb (2 + announced (h .bytes)) (h .cell .joined)) (le-leb _ _ two) ∙ le-leb (2 + announced (h .bytes)) (h .cell .joined) (omega arith)
 
 -- a cell that has just been taken
-pub empty-inv : (body bs : List ℕ) (f : ℕ → Bool) → length body ≤ 2046 → 6144 ≤ length bs → ((i : ℕ) → f i ≡ false) → Inv (framed body) (Cov f) (empty bs)
-empty-inv body bs f small room off = (
+pub empty-inv : (M bs : List ℕ) (f : ℕ → Bool) → length M ≤ 2048 → 6144 ≤ length bs → ((i : ℕ) → f i ≡ false) → Inv M (Cov f) (empty bs)
+empty-inv M bs f small room off = (
   record {
-    small = omega arith;
+    small = small;
     room = room;
     offs = refl;
     lens = refl;

@@ -164,17 +164,15 @@ module _ (n : Net) (words : List ℕ) (snr now : Float) (st : List ℕ) (room : 
 
 -- ---- the calls
 
-module _ (c : Call) (n : Net) (f : Fit n) where
-  quiet-fit : Keeps (n .station) (outcome c n .station) → result c n .store ≡ n .store → Fit (step c n)
-  unfolding step
-  quiet-fit k q =
-      record {
-        view = subst FitView
-            (sym
-            (ap (viewOf (outcome c n .station)) (same-cond (isRefused c n) (n .store) (result c n .store) (sym q))
-            ∙ kept-view (n .station) (outcome c n .station) (n .store) k)) (f .view);
-        long = k .long ∙ f .long;
-      }
+-- one that leaves every message and the store alone
+pub quiet-view : (c : Call) (n : Net) → Keeps (n .station) (outcome c n .station) → result c n .store ≡ n .store → viewOf (step c n .station) (step c n .store) ≡ viewOf (n .station) (n .store)
+unfolding step
+quiet-view c n k q =
+    ap (viewOf (outcome c n .station)) (same-cond (isRefused c n) (n .store) (result c n .store) (sym q)) ∙ kept-view (n .station) (outcome c n .station) (n .store) k
+
+quiet-fit : (c : Call) (n : Net) → Fit n → Keeps (n .station) (outcome c n .station) → result c n .store ≡ n .store → Fit (step c n)
+unfolding step
+quiet-fit c n f k q = record { view = subst FitView (sym (quiet-view c n k q)) (f .view); long = k .long ∙ f .long }
 
 free-fit : (s : Station) (store : List ℕ) (cell : ℕ) → Fit (net s store) → Fit (net (freeOf s cell .station) store)
 unfolding freeOf

@@ -160,7 +160,7 @@ module _ (M : Sent) (small : (s k : ℕ) → length (M s k) ≤ 2046) (v : View)
       let w = use-vacant (hasBit (v .table .busy) c) (hasBit (v .table .landed) c) (getD (v .table .owners) c 0) q in
       record {
         below = a;
-        inv = empty-inv (M s k) (cellOf (v .store) c) (l .covered s k) (small s k) (omega arith) (tie .bare s k hand nowhere);
+        inv = empty-inv (framed (M s k)) (cellOf (v .store) c) (l .covered s k) (omega (arith, small s k)) (omega arith) (tie .bare s k hand nowhere);
         others = λ d z r. nowhere d r;
         here = λ a b r. not-vacant a b (sym w ∙ r);
         unlanded = ap entryOf w;
@@ -199,8 +199,8 @@ module _ (M : Sent) (small : (s k : ℕ) → length (M s k) ≤ 2046) (v : View)
           let n = cells-are (v .table .count) (tie .tidy .most) in
           let b = w .below in
           (cellOf (v .store) c, aim-has c (omega arith) (w .filling) .inv)
-      go (Free c) w = (zs, empty-inv (M s k) zs (l .covered s k) (small s k) z (tie .bare s k hand (no-cell (w .none))))
-      go Full w = (zs, empty-inv (M s k) zs (l .covered s k) (small s k) z (tie .bare s k hand (no-cell (w .none))))
+      go (Free c) w = (zs, empty-inv (framed (M s k)) zs (l .covered s k) (omega (arith, small s k)) z (tie .bare s k hand (no-cell (w .none))))
+      go Full w = (zs, empty-inv (framed (M s k)) zs (l .covered s k) (omega (arith, small s k)) z (tie .bare s k hand (no-cell (w .none))))
 
 -- ---- a cell written anew
 
