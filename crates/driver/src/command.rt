@@ -1,13 +1,13 @@
 // The commands: what they ask of the station, and what is printed of it.
 ghost use Prim.Native.Nat.{_≤_};
-use super::action;
-use super::action::Action;
-use super::action::Control;
 use super::dump;
-use super::given;
-use super::number;
 use super::print;
 use net::Station;
+use script::action;
+use script::action::Action;
+use script::action::Control;
+use script::given;
+use script::number;
 use station::Answer;
 use station::Answered;
 use station::Heard;
@@ -44,9 +44,7 @@ fn read(s: Station, c: Control, w: u32, lent: &[u8], t: &mut [u8; 65536]) -> Con
 
 fn roster(s: Station, c: Control, t: &mut [u8; 65536]) -> Control {
     let mut k = c;
-    if !c.quiet {
-        k.end = dump::roster(s, t, c.end);
-    }
+    k.end = dump::roster(s, t, c.end);
     k
 }
 
@@ -104,26 +102,19 @@ fn malformed(s: Station) -> Answered {
     }
 }
 
-fn closed(c: Control) -> Control {
-    let mut k = c;
-    k.open = 0;
-    k.words = 0;
-    k
-}
-
 // The clock or the level from here on, if the words are one frame with no NaN in it.
 fn set(c: Control, words: &[u32], t: &mut [u8; 65536]) -> Control {
     let p = words::payload(words, 0, 8);
-    let clock = c.open == 9;
+    let clock = c.command == 9;
     let nan = if clock {
         number::nan64_at(&p, 0)
     } else {
         number::nan32_at(&p, 0)
     };
-    if (255 < flags_of(words, c.open)) | nan {
-        return print::word(t, closed(c), 3);
+    if (255 < flags_of(words, c.command)) | nan {
+        return print::word(t, action::closed(c), 3);
     }
-    let mut k = closed(c);
+    let mut k = action::closed(c);
     if clock {
         k.now = number::f64_at(&p, 0);
     } else {
@@ -157,8 +148,8 @@ pub fn receive(
 // A reception's answer printed, and the command closed.
 pub fn heard(c: Control, a: Answer, mask: u64, t: &mut [u8; 65536], out: &[u32; 8192]) -> Control {
     match a {
-        Answer::Refused(n) => print::word(t, closed(c), n as u32),
-        Answer::Words(n) => print::heard(t, closed(c), out, n, mask),
+        Answer::Refused(n) => print::word(t, action::closed(c), n as u32),
+        Answer::Words(n) => print::heard(t, action::closed(c), out, n, mask),
     }
 }
 
@@ -191,7 +182,7 @@ pub fn finish(
 ) -> Answered {
     let m = least(c.words, words.len());
     let mine = &words[..m];
-    if c.open == 3 {
+    if c.command == 3 {
         return admit(s, mine, c.now, out);
     }
     start(s, mine, lent)
@@ -200,7 +191,7 @@ pub fn finish(
 // A start that was not refused: so many cells are lent from here on.
 fn kept(c: Control, words: &[u32]) -> Control {
     let mut k = c;
-    if c.open == 8 {
+    if c.command == 8 {
         let p = words::payload(words, 0, 255);
         k.cells = given::lent_cells(&p);
     }
@@ -216,10 +207,10 @@ pub fn settled(
     out: &[u32; 8192],
 ) -> Control {
     match a {
-        Answer::Refused(n) => print::word(t, closed(c), n as u32),
+        Answer::Refused(n) => print::word(t, action::closed(c), n as u32),
         Answer::Words(n) => {
             let k = kept(c, words);
-            print::all(t, closed(k), out, n)
+            print::all(t, action::closed(k), out, n)
         }
     }
 }

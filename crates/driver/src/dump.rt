@@ -1,11 +1,11 @@
 // The roster as `drive` prints it: a line for each member, then the totals.
-use super::number::bits32;
-use super::number::bits64;
 use level::Clock;
 use level::Level;
 use net::Station;
 use net::Totals;
 use roster::Member;
+use script::number::bits32;
+use script::number::bits64;
 use stream::window;
 
 // The last `digits` digits of v behind a space.

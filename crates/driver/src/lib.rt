@@ -1,14 +1,13 @@
 // What the programs `tape` (document 01, Words) and `drive` share: words in, the station's entry points, lines out.
 ghost use Prim.Native.Nat.{_<_};
-use action::Action;
-use action::Control;
 use net::Station;
+use script::action;
+use script::action::Action;
+use script::action::Control;
+use station::Answer;
 
-pub mod action;
 pub mod command;
 pub mod dump;
-pub mod given;
-pub mod number;
 pub mod print;
 
 fn wide(x: u8) -> u32
@@ -37,35 +36,13 @@ fn push(c: Control, words: &mut [u32; 8192], w: u32) -> Control {
     k
 }
 
-fn opened(c: Control, command: u32) -> Control {
-    let mut k = c;
-    k.open = command;
-    k.words = 0;
-    k
-}
-
-// Eighths of a second.
-fn timed(c: Control, w: u32) -> Control {
-    let mut k = c;
-    k.now = (w % 268435456) as f64 / 8.0;
-    k
-}
-
-// Quarter decibels plus 800.
-fn leveled(c: Control, w: u32) -> Control {
-    let mut k = c;
-    let q = (w % 2048) as u16;
-    k.level = (q as f32 - 800.0) / 4.0;
-    k
-}
-
 // What asks nothing of the station.
 fn aside(c: Control, a: Action, w: u32, words: &mut [u32; 8192], t: &mut [u8; 65536]) -> Control {
     match a {
         Action::Push => push(c, words, w),
-        Action::Open(n) => opened(c, n),
-        Action::Time => timed(c, w),
-        Action::Level => leveled(c, w),
+        Action::Open(n) => action::opened(c, n),
+        Action::Time => action::timed(c, w),
+        Action::Level => action::leveled(c, w),
         Action::Bad => print::word(t, c, 3),
         Action::Next => c,
         Action::Sent => c,
@@ -73,6 +50,8 @@ fn aside(c: Control, a: Action, w: u32, words: &mut [u32; 8192], t: &mut [u8; 65
         Action::Read => c,
         Action::Free => c,
         Action::Roster => c,
+        Action::SignOff => c,
+        Action::Ask => c,
     }
 }
 
@@ -147,6 +126,11 @@ pub fn feed(
             let h = r.answer;
             u = r.station;
             k = print::answer(t, k, out, h);
+        } else if let Action::SignOff = a {
+            let r = station::sign_off(u, action::slot_of(w));
+            let h = r.answer;
+            u = r.station;
+            k = print::answer(t, k, out, h);
         } else if action::is_shown(a) {
             k = command::shown(u, k, a, w, lent, t);
         } else {
@@ -189,12 +173,28 @@ fn read_all(s: Station, c: Control, lent: &mut [u8; 409600], t: &mut [u8; 65536]
     k
 }
 
+// The program `tape`, or `drive`, with the settings of `tape`. Were its first start refused, that alone would be printed.
 pub fn run(drive: bool) {
     let mut lent = [0u8; 409600];
     let mut t = [0u8; 65536];
     let g = preset::tape_settings();
     let r = station::start(preset::blank(), g, &lent[..64000]);
     let s = r.station;
-    let k = read_all(s, action::first_control(drive, false), &mut lent, &mut t);
+    let a = r.answer;
+    let c = action::first_control(drive, false);
+    let k = begun(s, c, a, &mut lent, &mut t);
     text::flush(&t, k.end);
+}
+
+fn begun(
+    s: Station,
+    c: Control,
+    a: Answer,
+    lent: &mut [u8; 409600],
+    t: &mut [u8; 65536],
+) -> Control {
+    match a {
+        Answer::Refused(n) => print::word(t, c, n as u32),
+        Answer::Words(_) => read_all(s, c, lent, t),
+    }
 }

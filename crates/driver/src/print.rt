@@ -1,12 +1,9 @@
 // What the programs print: result words, masks, messages.
-use super::action::Control;
+use script::action::Control;
 use station::Answer;
 
 // A word as eight hexadecimal digits on a line.
 pub fn word(t: &mut [u8; 65536], c: Control, w: u32) -> Control {
-    if c.quiet {
-        return c;
-    }
     let mut k = c;
     let a = text::room(t, c.end);
     let b = text::put_big(t, a, w as u64, 8);
@@ -49,7 +46,7 @@ fn mask_line(t: &mut [u8; 65536], c: Control, w: u64) -> Control {
 // The n words of a reception, and in `drive` the mask.
 pub fn heard(t: &mut [u8; 65536], c: Control, out: &[u32; 8192], n: usize, mask: u64) -> Control {
     let k = all(t, c, out, n);
-    if !c.drive | c.quiet {
+    if !c.drive {
         return k;
     }
     let l = mask_line(t, k, mask / 4294967296);
@@ -72,9 +69,6 @@ fn put_bytes(t: &mut [u8; 65536], at: usize, m: &[u8]) -> usize {
 
 // A message's bytes on a line.
 pub fn message(t: &mut [u8; 65536], c: Control, m: &[u8]) -> Control {
-    if c.quiet {
-        return c;
-    }
     let mut k = c;
     let a = text::room(t, c.end);
     let b = text::put(t, a, b'R');

@@ -89,6 +89,18 @@ close-requires c κs = tt
 answer-requires-4 : tie.Need-answer-requires-4 Inv-loop μ-loop
 answer-requires-4 c κs = tt
 
+enum-told-5 : tie.Need-enum-told-5 Inv-loop μ-loop
+enum-told-5 c = search needs
+
+slot-of-requires : tie.Need-slot-of-requires Inv-loop μ-loop
+slot-of-requires c κs = tt
+
+sign-off-requires : tie.Need-sign-off-requires Inv-loop μ-loop
+sign-off-requires c κs = tt
+
+answer-requires-5 : tie.Need-answer-requires-5 Inv-loop μ-loop
+answer-requires-5 c κs = tt
+
 is-shown-requires : tie.Need-is-shown-requires Inv-loop μ-loop
 is-shown-requires c κs = tt
 
@@ -142,6 +154,10 @@ feed-spec =
     rest-of-requires-2
     close-requires
     answer-requires-4
+    enum-told-5
+    slot-of-requires
+    sign-off-requires
+    answer-requires-5
     is-shown-requires
     shown-requires
     aside-requires

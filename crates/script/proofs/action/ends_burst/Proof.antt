@@ -1,0 +1,13 @@
+-- Assumes nothing.
+use borrow.Author.Needs.{needs}
+use Rattle.script.proofs.action.ends_burst.Statement.{statement}
+use Rattle.script.proofs.action.ends_burst.Tie as tie
+
+is-end-requires : tie.Need-is-end-requires
+is-end-requires c κs = search needs
+
+returns : tie.Need-returns
+returns c = rw (c .before .is-end .ensures)
+
+pub ends-burst-spec : {M : Type 1} → statement M
+ends-burst-spec = tie.close (tie.spec is-end-requires returns)
