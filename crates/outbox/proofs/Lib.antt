@@ -1,0 +1,9 @@
+pub mod Walk
+pub mod Said
+pub mod Passes
+pub mod Places
+pub mod Sending
+pub mod Acts
+pub mod Turns
+pub mod Leaving
+pub mod Bursting

@@ -1,0 +1,4 @@
+pub mod Outbox
+pub mod Marks
+pub mod Bursts
+pub mod Senders
