@@ -56,9 +56,9 @@ checkinFrame a len p s =
 
 -- ---- C_REPORT
 
--- a leaf's report, through the relay that was polled
+-- a leaf's report, through the relay that was polled, 255 for nobody
 abbrev pub forwardedBy : Air → Bool → Member → Bool
-forwardedBy a here m = here && not (eqb (m .via) 63) && eqb (m .via) (a .polled)
+forwardedBy a here m = here && not (eqb (a .polled) 255) && not (eqb (m .via) 63) && eqb (m .via) (a .polled)
 
 abbrev pub isForwarded : Air → Station → ℕ → Bool
 isForwarded a s slot = forwardedBy a (isMember (s .used) slot) (memberAt s slot)

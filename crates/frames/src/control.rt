@@ -45,7 +45,7 @@ fn call_in(words: &[u32], at: usize, len: u8, j: usize) -> [u8; 7]
 pub fn is_forwarded(m: Member, here: bool, a: Air) -> bool
     ensures { λ r. ⌜ r ≡ forwardedBy a here m ⌝ }
 {
-    here & (m.via != 63) & (m.via == a.polled)
+    here & (a.polled != 255) & (m.via != wire::ALL) & (m.via == a.polled)
 }
 
 // The report tells of more to come.
@@ -140,7 +140,7 @@ pub fn checkin(
 {
     let call = call_in(words, at, len, 1);
     let seat = admit::seat_of(s, call);
-    let mut t = admit::admit(s, seat, call, 63, a.time, o, end);
+    let mut t = admit::admit(s, seat, call, wire::ALL, a.time, o, end);
     t.round.activity = true;
     let slot = admit::slot_of(seat);
     if slot == 255 {
@@ -160,7 +160,7 @@ fn relay_of(s: Station, slot: u8) -> u8
     ensures { λ r. ⌜ r ≡ relayOf s slot ⌝ }
 {
     let m = net::member_at(s, slot);
-    let ok = net::is_member(s.used, slot) & (m.via == 63) & roster::is_willing(m);
+    let ok = net::is_member(s.used, slot) & (m.via == wire::ALL) & roster::is_willing(m);
     if ok { slot } else { 63 }
 }
 
@@ -253,7 +253,7 @@ pub fn overheard(
 fn is_kid(m: Member, here: bool, slot: u8) -> bool
     ensures { λ r. ⌜ r ≡ kidOf here m slot ⌝ }
 {
-    here & (m.via == slot) & (m.via != 63)
+    here & (m.via == slot) & (m.via != wire::ALL)
 }
 
 fn kid_member(m: Member, ok: bool, b: u8, a: Air) -> Member

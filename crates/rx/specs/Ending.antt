@@ -1,5 +1,4 @@
 -- `ncs_rx` of ncs.rs, around the frames: the deadline that moves, K_IDLE, and the reply to a poll.
-use mathlib.Core.Path.{_≡_, refl}
 use Prim.Native.Nat.{ℕ, _+_, _*_, _/_, _%_}
 use mathlib.Core.Bool.{Bool, true, false, not, cond, _&&_, _||_}
 use mathlib.Core.List.{List, [], _∷_}
@@ -21,7 +20,7 @@ use Rattle.net.specs.declared.Turn.{Turn}
 use Rattle.net.specs.declared.Turn.the-variants.{Idle, Sending, Waiting}
 use Rattle.net.specs.declared.Wait.{Wait}
 use Rattle.net.specs.State.{memberAt, withMember, withCounted, withWait, oneReply}
-use Rattle.net.specs.Net.{plus, isMember, waitOf, idleWait, levelIn, leafWait, Said, said}
+use Rattle.net.specs.Net.{plus, isMember, waitOf, idleWait, tinyWave, leafWait, Said, said}
 use Rattle.frames.specs.declared.Air.{Air}
 use Rattle.frames.specs.declared.Rx.{Rx}
 use Rattle.frames.specs.Reading.{Reading}
@@ -85,10 +84,6 @@ idleEnd a extra s = idleBy (s .wait .turn) (extra % 64) (idleHeard a extra s)
 abbrev pub ackExtra : ℕ → ℕ → ℕ → ℕ
 ackExtra slot burst heard = slot % 64 + 64 * burst + 256 * (heard % 64)
 
--- P extra: slot 5, burst 2, bitmap 5
-pub p-ack : ackExtra 5 2 5 ≡ 1413
-p-ack = refl
-
 abbrev pub replyMember : Air → ℕ → Member → Member
 replyMember a burst m = withBurst (withMissed (receivedAt m (a .level) (m .snrdown) (a .time)) 0) ((burst + 1) % 4)
 
@@ -97,7 +92,7 @@ replyHeard a slot burst s = cond (isMember (s .used) slot) (withCounted s slot (
 
 -- the level of the acknowledgement: as the boat hears us
 abbrev pub ackLevel : Station → ℕ → ℕ
-ackLevel s slot = cond (isMember (s .used) slot) (levelIn (s .settings) (memberAt s slot .snrdown)) 0
+ackLevel s slot = cond (isMember (s .used) slot) (tinyWave (s .settings) (memberAt s slot .snrdown)) 0
 
 abbrev pub ackWords : ℕ → Station → ℕ → ℕ → ℕ → List ℕ
 ackWords kind s slot burst heard = headWord tiny kind (ackExtra slot burst heard) ∷ waveWord (ackLevel s slot) ∷ []

@@ -20,7 +20,7 @@ use Rattle.net.specs.declared.Turn.{Turn}
 use Rattle.net.specs.declared.Turn.the-variants.{Idle, Sending, Waiting}
 use Rattle.net.specs.declared.Wait.{Wait}
 use Rattle.net.specs.State.{memberAt, withMember, withWait, withTotals, withReplies, withSilent}
-use Rattle.net.specs.Net.{isMember, waitOf, idleWait, levelIn}
+use Rattle.net.specs.Net.{isMember, waitOf, idleWait, tinyWave}
 use Rattle.frames.specs.declared.Air.{Air}
 use Rattle.rx.specs.declared.ending.Awaited.{Awaited}
 use Rattle.rx.specs.declared.ending.Ending.{Ending}
@@ -79,7 +79,7 @@ endTotals t e before after =
     withSilent (cond (eqb (e .kind) 2 || e .over) (withReplies t (stop (t .replies + 1))) t) (tally (t .silent) before after)
 
 abbrev pub endLevel : Settings → Member → Bool → ℕ
-endLevel g m here = cond here (levelIn g (m .snrdown)) 0
+endLevel g m here = cond here (tinyWave g (m .snrdown)) 0
 
 abbrev pub endWords : Ending → Head → ℕ → ℕ → List ℕ
 endWords e h heard level =
