@@ -12,5 +12,6 @@ fn main() {
     short::calls();
     serial::two_bits();
     serial::eight_bits();
+    serial::pairs();
     serial::sums();
 }

@@ -26,12 +26,13 @@ fn sum(half: u8, a: u8, n: u8) -> u32
 }
 
 fn compared(half: u8, a: u8, b: u8) {
-    print::text(b"  ");
     print::number(a as u64);
     if is_less(half, b, a) {
         print::text(b" > ");
     } else if is_less(half, a, b) {
         print::text(b" < ");
+    } else if a == b {
+        print::text(b" = ");
     } else {
         print::text(b" undefined against ");
     }
@@ -39,6 +40,7 @@ fn compared(half: u8, a: u8, b: u8) {
 }
 
 fn two(a: u8, b: u8) {
+    print::text(b"  ");
     compared(2, a, b);
     print::text(b"\n");
 }
@@ -53,10 +55,12 @@ pub fn two_bits() {
     two(0, 2);
     two(1, 3);
     two(3, 1);
+    two(3, 3);
 }
 
 // a against b, and what the station makes of a while it waits for a number whose eight bits are b.
 fn eight(a: u8, b: u8) {
+    print::text(b"  ");
     compared(128, a, b);
     let next = 256 + b as u32;
     print::text(b"; on air ");
@@ -80,10 +84,18 @@ pub fn eight_bits() {
     eight(100, 255);
     eight(0, 200);
     eight(44, 200);
-    print::text(b"The same at distance 128, which it leaves undefined\n");
-    eight(128, 0);
-    eight(0, 128);
-    eight(228, 100);
+    eight(100, 100);
+}
+
+// The 128 pairs at distance 128, of which neither is less.
+pub fn pairs() {
+    print::text(b"The same, the pairs 0 and 128 to 127 and 255, which it leaves undefined\n");
+    let mut k: u8 = 0;
+    while k < 128 {
+        eight(k, k + 128);
+        eight(k + 128, k);
+        k += 1;
+    }
 }
 
 fn added(half: u8, a: u8, n: u8)
@@ -108,4 +120,26 @@ pub fn sums() {
     added(128, 255, 1);
     added(128, 100, 100);
     added(128, 200, 100);
+    added_twice(100, 100);
+}
+
+// a + n, and then + n once more, each against a.
+fn added_twice(a: u8, n: u8) {
+    let b = (sum(128, a, n) % 256) as u8;
+    let c = (sum(128, b, n) % 256) as u8;
+    print::text(b"  ");
+    print::number(a as u64);
+    print::text(b" + ");
+    print::number(n as u64);
+    print::text(b" = ");
+    compared(128, b, a);
+    print::text(b"\n  (");
+    print::number(a as u64);
+    print::text(b" + ");
+    print::number(n as u64);
+    print::text(b") + ");
+    print::number(n as u64);
+    print::text(b" = ");
+    compared(128, c, a);
+    print::text(b"\n");
 }
