@@ -5,3 +5,4 @@ pub mod Watched
 pub mod Walks
 pub mod Exact
 pub mod Cases
+pub mod Verdicts

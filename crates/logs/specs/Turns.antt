@@ -100,7 +100,22 @@ accepted es = roundOk [] es && roundsOk es
 
 -- ---- the verdict
 
+-- What a verdict says, by its cases: the number that sends the log back, 0 for none, and whether the log is accepted.
+abbrev pub numberIn : Verdict → ℕ
+numberIn (Refused n) = n
+numberIn Accepted = 0
+numberIn Rejected = 0
+
+abbrev pub isAccepted : Verdict → Bool
+isAccepted (Refused n) = false
+isAccepted Accepted = true
+isAccepted Rejected = false
+
 -- 3 for words that are no sendings, then 27 for a fault in the marks
+abbrev pub refusalOf : List ℕ → ℕ
+refusalOf ws = cond (sendingsOk ws) (cond (marksOk ws) 0 27) 3
+
+-- the contract's: its number is `refusalOf`, and it is accepted where no number sends it back and the turns keep to the lists (law `verdict-says`)
 unfoldable pub verdictOf : List ℕ → Verdict
 verdictOf ws =
     cond (sendingsOk ws) (cond (marksOk ws) (cond (accepted (entriesOf ws)) Accepted Rejected) (Refused 27)) (Refused 3)
