@@ -1,19 +1,19 @@
 -- Small wrong traces, pairings, readings and rosters, each refuted by a part of item 3's statement, over its own definitions; and two that it must let pass, with a
 -- sign-off. The runs with which a premise is broken are in Needed. Assumes nothing.
-use mathlib.Core.Path.{_≡_, refl, ap}
-use mathlib.Core.Bool.{Bool, true, false, cond}
-use mathlib.Core.List.{List, [], _∷_}
+use mathlib.Core.Path.{_≡_, refl, ap, _∙_, subst}
+use mathlib.Core.Bool.{Bool, true, false, not, _&&_}
+use mathlib.Core.List.{List, [], _∷_, _++_}
 use mathlib.Core.Option.{Option, none, some}
-use Prim.Native.Nat.{ℕ, _≤_, _<_}
+use Prim.Native.Nat.{ℕ, _+_, _%_, _≤_, _<_}
 use native.Mathlib.Omega.{arith}
-use lib.Dec.{T}
-use lib.ListN.{getD}
+use lib.ListN.{length, getD}
 use Rattle.bits.specs.Loop.{first}
 use Rattle.bits.specs.Mask.{hasBit, withBit, lowestFree}
 use Rattle.bits.specs.Stop.{stop}
+use Rattle.bits.proofs.Lists.{cond-keeps}
 use Rattle.wire.specs.Call.{digit, char, trimStart, trimEnd, unpacked}
 use Rattle.wire.specs.Numbers.{widened, widenedAt}
-use Rattle.words.specs.Words.{wordOk, payloadOk, unpack, payload, frameOf, itemAt, framesOf, headOk, parse}
+use Rattle.words.specs.Words.{Heard, lost, heard, wordOk, payloadOk, unpack, payload, frameOf, itemAt, framesOf, headOk, parse}
 use Rattle.out.specs.Encode.{pack, framesWords}
 use Rattle.inbox.specs.Cells.{seek, next, grow, settle}
 use Rattle.inbox.specs.Cells as cells
@@ -30,7 +30,9 @@ use Rattle.frames.specs.Frames.{readFrame, frameStep, readFrames}
 use Rattle.rx.specs.Ending.{replyEnd}
 use Rattle.rx.specs.Reception.{ncsRx}
 use Rattle.station.specs.Entries.{admitRefusal, admitOf, receiveRefusal, receiveOf, cellRefusal, readRefusal, readingOf}
-use Rattle.promise.specs.Promise.{handed, Net, InBook, result, step, after, leads, LinksHold, TurnEvent, drew, over, poll, ack, struck, emptyView, TurnsHold, Message, Event2, Stayed, alsoHanded, alsoStayed, emptyBook, Pairs, Rising, Once, OnceInStay, ReadsAs, AtCall}
+use Rattle.promise.specs.Promise.{handed, Net, InBook, result, step, after, leads, LinksHold, TurnEvent, drew, over, poll, ack, struck, emptyView, TurnsHold, Sent, Message, Ledger, Entered, unchanged, Event2, Stayed, cover, alsoHanded, allBelow, completes, bookPiece, isBoats, bookFrame, bookFrames, alsoStayed, emptyBook, Pairs, Rising, Once, OnceInStay, ReadsAs, AtCall}
+use Rattle.promise.proofs.Pieces.{enterBy}
+use Rattle.promise.proofs.Receptions.{allHanded, once-append}
 use Rattle.promise.proofs.Runs.{nought, one-cell, joins, hi, apart}
 
 -- ---- turns: traces of slots 0, 1 and 2
@@ -212,3 +214,43 @@ rosters g =
       nobody = λ h. apart (h 1 refl);
       fine = (refl, refl);
     }
+
+-- ---- what follows from the book alone, of any station: no message is handed over twice
+
+abbrev NotTwice : Ledger → Entered Ledger → Type 0
+NotTwice l e = Once (e .out) (l .handed) × (e .left .handed ≡ allHanded (e .out) (l .handed))
+
+first-time : (t u : Bool) → not t && u ≡ true → t ≡ false
+first-time true u q = absurd (apart q)
+first-time false u q = refl
+
+piece-once : (M : Sent) (s k o n : ℕ) (l : Ledger) → NotTwice l (bookPiece M s k o n l)
+piece-once M s k o n l =
+    cond-keeps (NotTwice l) (completes M s k l f) (enterBy true s k l f) (enterBy false s k l f)
+    (λ q. ((first-time (l .handed s k) (allBelow (2 + length (M s k)) (f s k)) q, tt), refl)) (λ _. (tt, refl))
+  where
+    f : ℕ → ℕ → ℕ → Bool
+    f = cover s k o n (l .covered)
+
+frame-once : (M : Sent) (h : Heard) (k seen : ℕ) (marked : Bool) (l : Ledger) → NotTwice l (bookFrame M h k seen marked l)
+unfolding bookFrame
+frame-once M lost k seen marked l = (tt, refl)
+frame-once M (heard flags field p) k seen marked l =
+    cond-keeps (NotTwice l) (isBoats flags seen && not marked) (bookPiece M (flags % 64) k (field % 65536) (length p) l) (unchanged l)
+    (λ _. piece-once M (flags % 64) k (field % 65536) (length p) l) (λ _. (tt, refl))
+
+pub book-once : (M : Sent) (fs : List Heard) (i : ℕ) (numbers seen : List ℕ) (mask : ℕ) (l : Ledger) → NotTwice l (bookFrames M fs i numbers seen mask l)
+unfolding bookFrames
+book-once M [] i numbers seen mask l = (tt, refl)
+book-once M (f ∷ fs) i numbers seen mask l =
+    let e = bookFrame M f (getD numbers i 0) (getD seen i 0) (hasBit mask i) l in
+    let a = frame-once M f (getD numbers i 0) (getD seen i 0) (hasBit mask i) l in
+    let b = book-once M fs (i + 1) numbers seen mask (e .left) in
+    let r = bookFrames M fs (i + 1) numbers seen mask (e .left) in (
+      once-append (e .out) (r .out) (l .handed) (a .0) (subst (Once (r .out)) (a .1) (b .0)),
+      b .1 ∙ ap (allHanded (r .out)) (a .1) ∙ all-append (e .out) (r .out) (l .handed),
+    )
+  where
+    all-append : (ms xs : List Message) (g : ℕ → ℕ → Bool) → allHanded xs (allHanded ms g) ≡ allHanded (ms ++ xs) g
+    all-append [] xs g = refl
+    all-append (m ∷ ms) xs g = all-append ms xs (alsoHanded (m .slot) (m .number) g)

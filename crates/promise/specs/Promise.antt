@@ -511,12 +511,13 @@ abbrev pub Rising : List Message → Type 0
 Rising [] = Unit {0}
 Rising (m ∷ ms) = Later m ms × Rising ms
 
--- none of the messages was handed over before, f, nor is it twice among them
+-- none of the messages was handed over before, f, nor is it twice among them. It follows from the book alone, of any station, since the book hands a message over
+-- only where it has not (`book-once` in proofs/Refuted.antt); what the station promises is `Pairs`: an event for each of them, and no other
 abbrev pub Once : List Message → (ℕ → ℕ → Bool) → Type 0
 Once [] f = Unit {0}
 Once (m ∷ ms) f = (f (m .slot) (m .number) ≡ false) × Once ms (alsoHanded (m .slot) (m .number) f)
 
--- a reception's events 2 and the messages that the book hands over in it
+-- a reception's events 2 and the messages that the book hands over in it: they pair off, of two alike the lower number first
 pub record Paired (count : ℕ) (es : List Event2) (ms : List Message) (b : Book) : Type 0 where
   pub pairs : Pairs count es ms (b .entry)
   pub rising : Rising ms
@@ -565,7 +566,7 @@ handedIn M (c ∷ cs) n b = stayed (b .stay) (bookCall (sentNow M b) c n b .out)
 unfoldable pub alsoStayed : Stayed → (ℕ → ℕ → ℕ → Bool) → ℕ → ℕ → ℕ → Bool
 alsoStayed m f s t k = cond (same (m .slot) (m .number) s k && eqb (m .stay) t) true (f s t k)
 
--- none of them was handed over before in its stay, f, nor is it twice among them
+-- none of them was handed over before in its stay, f, nor is it twice among them; as `Once`, it follows from the book
 abbrev pub OnceInStay : List Stayed → (ℕ → ℕ → ℕ → Bool) → Type 0
 OnceInStay [] f = Unit {0}
 OnceInStay (m ∷ ms) f = (f (m .slot) (m .stay) (m .number) ≡ false) × OnceInStay ms (alsoStayed m f)
