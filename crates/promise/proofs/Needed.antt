@@ -1,41 +1,40 @@
--- The premises of item 3 on messages and calls are needed: calls that break one of them alone (`otherwise`), and of which what is promised does not hold
--- (`broken`, `too-old`). Assumes nothing.
+-- The premises of item 3 on messages and calls are needed: calls from a start that break one of them alone (`otherwise`), and of which what is promised does not
+-- hold (`broken`, `too-old`). Assumes nothing.
 use mathlib.Core.Path.{_≡_, refl, sym, ap, _∙_, subst}
-use mathlib.Core.Bool.{Bool, false, _&&_}
+use mathlib.Core.Bool.{Bool, true, false, not, _&&_}
 use mathlib.Core.List.{List, [], _∷_, _++_}
 use mathlib.Core.Option.{none}
 use mathlib.Core.Logic.{⊎-elim}
-use Prim.Native.Nat.{ℕ, _+_, _*_, _/_, _%_, _≤_}
+use Prim.Native.Nat.{ℕ, zero, suc, _+_, _*_, _/_, _%_, _≤_}
 use native.Mathlib.Omega.{arith}
 use lib.Dec.{ltb, eqb}
 use lib.ListN.{length, take, replicate, getD, length-replicate}
 use Rattle.bits.specs.Loop.{first}
-use Rattle.bits.specs.Mask.{hasBit, withBit, lowestFree}
+use Rattle.bits.specs.Mask.{hasBit, withBit, withoutBit, lowestFree}
 use Rattle.bits.specs.Stop.{stop}
-use Rattle.bits.proofs.Lists.{cases, le-or-lt}
+use Rattle.bits.proofs.Lists.{cases, cond-keeps, le-or-lt}
 use Rattle.wire.specs.Call.{digit, char, trimStart, trimEnd, unpacked}
 use Rattle.wire.specs.Numbers.{widened, widenedAt}
-use Rattle.words.specs.Words.{heard, wordOk, payloadOk, unpack, payload, frameOf, itemAt, framesOf, headOk, parse}
+use Rattle.words.specs.Words.{Heard, lost, heard, wordOk, payloadOk, unpack, payload, frameOf, itemAt, framesOf, headOk, parse}
 use Rattle.out.specs.Encode.{pack, framesWords, burstWords}
 use Rattle.inbox.specs.Cells.{seek, next, grow, settle}
 use Rattle.inbox.specs.Cells as cells
 use Rattle.inbox.specs.Messages.{framed, Cut}
 use Rattle.stream.specs.Window.{slideOf, markOf, windowOf}
 use Rattle.stream.specs.Table.{ownCell, putOf, accept}
-use Rattle.roster.specs.Members.{newMember, withUp}
 use Rattle.net.specs.declared.Settings.{Settings}
-use Rattle.net.specs.State.{withUsed, withMember}
 use Rattle.net.specs.Net.{isMember, newStation}
 use Rattle.admit.specs.Admission.{findCall, seatOf, leadsTo}
 use Rattle.frames.specs.Pieces.{pieceFrame}
 use Rattle.frames.specs.Frames.{readFrame, frameStep, readFrames}
 use Rattle.rx.specs.Ending.{replyEnd}
 use Rattle.rx.specs.Reception.{ncsRx}
-use Rattle.station.specs.Entries.{admitRefusal, admitOf, receiveRefusal, receiveOf, cellRefusal, readRefusal, readingOf}
-use Rattle.promise.specs.Promise.{handed, another, Net, net, Call, reception, reading, result, step, Stays, Sent, sentNow, Ledger, Book, emptyBook, cover, alsoHanded, allBelow, bookFrame, bookFrames, eventsIn, Lowest, Pairs, Holds}
+use Rattle.station.specs.Entries.{admitRefusal, admitOf, receiveRefusal, receiveOf, cellRefusal, readRefusal, readingOf, freeOf}
+use Rattle.promise.specs.Promise.{handed, another, Net, InBook, Call, reception, reading, freeing, result, inBook, isRefused, step, after, Stays, Sent, sentNow, Ledger, Book, emptyBook, Entered, unchanged, same, cover, alsoHanded, allBelow, completes, bookPiece, isBoats, bookFrame, bookFrames, framesBy, eventsIn, Answers, answersOf, bookDone, bookCall, Lowest, Pairs, Holds}
 use Rattle.promise.proofs.Ledgers.{of-all}
 use Rattle.promise.proofs.Pieces.{enterBy}
 use Rattle.promise.proofs.Runs.{nought, one-cell, all-hi, all-empty, joins, hears, whole, apart}
+use Rattle.promise.proofs.Alike.{filled, three-cells, having, upTo, run, reached, to-129}
 
 -- ---- each after boat A was admitted to slot 0
 
@@ -110,12 +109,112 @@ broken g =
 
 -- ---- 129 below the lowest number not handed over
 
--- net and book written down: 0 to 128 were handed over before, and their cells are free
-abbrev pub old : Settings → Net
-old g =
-    net (withUsed (withMember (newStation g 1) 0 (withUp (newMember (replicate 7 32) 63 nought) (windowOf 129 0) 0)) 1)
-    (replicate 6400 7)
+-- what was handed over stays so, but for a sign-off
+abbrev GoesOn : InBook → Type 0
+GoesOn (InBook.brings words numbers lent) = Unit {0}
+GoesOn (InBook.reads cell lent) = Unit {0}
+GoesOn (InBook.frees cell) = Unit {0}
+GoesOn (InBook.ends slot) = ⊥
+GoesOn InBook.changesNothing = Unit {0}
 
+handed-also : (s k : ℕ) (f : ℕ → ℕ → Bool) (a b : ℕ) → f a b ≡ true → alsoHanded s k f a b ≡ true
+unfolding alsoHanded
+handed-also s k f a b h = cond-keeps (λ (t : Bool). t ≡ true) (same s k a b) true (f a b) (λ _. refl) (λ _. h)
+
+frame-handed : (M : Sent) (h : Heard) (k seen : ℕ) (marked : Bool) (l : Ledger) (a b : ℕ) → l .handed a b ≡ true → bookFrame M h k seen marked l .left .handed a b ≡ true
+unfolding bookFrame
+frame-handed M lost k seen marked l a b h = h
+frame-handed M (heard flags field p) k seen marked l a b h =
+    cond-keeps (λ (e : Entered Ledger). e .left .handed a b ≡ true) (isBoats flags seen && not marked) _ (unchanged l)
+    (λ _. cond-keeps (λ (e : Entered Ledger). e .left .handed a b ≡ true) (completes M (flags % 64) k l (cover (flags % 64) k (field % 65536) (length p) (l .covered))) _ _
+    (λ _. handed-also (flags % 64) k (l .handed) a b h) (λ _. h)) (λ _. h)
+
+frames-handed : (M : Sent) (fs : List Heard) (i : ℕ) (numbers seen : List ℕ) (mask : ℕ) (l : Ledger) (a b : ℕ) → l .handed a b ≡ true
+    → bookFrames M fs i numbers seen mask l .left .handed a b ≡ true
+unfolding bookFrames
+frames-handed M [] i numbers seen mask l a b h = h
+frames-handed M (f ∷ fs) i numbers seen mask l a b h = frames-handed M fs (i + 1) numbers seen mask _ a b (frame-handed M f _ _ _ l a b h)
+
+done-handed : (M : Sent) (c : InBook) (w : Answers) (b : Book) (s k : ℕ) → GoesOn c → b .ledger .handed s k ≡ true → bookDone M c w b .left .ledger .handed s k ≡ true
+done-handed M (InBook.brings words numbers lent) w b s k q h = frames-handed M (framesBy (parse words)) 0 numbers (w .seen) (w .mask) (b .ledger) s k h
+done-handed M (InBook.reads cell lent) w b s k q h = h
+done-handed M (InBook.frees cell) w b s k q h = h
+done-handed M (InBook.ends slot) w b s k q h = absurd q
+done-handed M InBook.changesNothing w b s k q h = h
+
+call-handed : (M : Sent) (c : Call) (n : Net) (b : Book) (s k : ℕ) → GoesOn (inBook c) → b .ledger .handed s k ≡ true → bookCall M c n b .left .ledger .handed s k ≡ true
+call-handed M c n b s k q h =
+    cond-keeps (λ (e : Entered Book). e .left .ledger .handed s k ≡ true) (isRefused c n) _ _ (λ _. h) (λ _. done-handed M (inBook c) (answersOf c n) b s k q h)
+
+abbrev NoEnd : List Call → Type 0
+NoEnd [] = Unit {0}
+NoEnd (c ∷ cs) = GoesOn (inBook c) × NoEnd cs
+
+-- what is promised of calls is promised of the last of them, with the book as it is then
+later : (M : Stays) (count : ℕ) (cs ds : List Call) (n : Net) (b : Book) (s k : ℕ) → NoEnd cs → Holds M count (cs ++ ds) n b
+    → (e : Book) × ((b .ledger .handed s k ≡ true → e .ledger .handed s k ≡ true) × Holds M count ds (after cs n) e)
+unfolding Holds after
+later M count [] ds n b s k q z = (b, (λ h. h, z))
+later M count (c ∷ cs) ds n b s k q z =
+    let r = later M count cs ds (step c n) (bookCall (sentNow M b) c n b .left) s k (q .1) (z .1) in
+    (r .0, (λ h. r .1 .0 (call-handed (sentNow M b) c n b s k (q .0) h), r .1 .1))
+
+-- 0 is handed over, if it was not before
+hands : (M : Sent) → M 0 0 ≡ [] → (l : Ledger) → bookPiece M 0 0 0 2 l .left .handed 0 0 ≡ true
+unfolding allBelow cover alsoHanded
+hands M e l = rw e (go (l .handed 0 0) refl)
+  where
+    go : (b : Bool) → l .handed 0 0 ≡ b → enterBy (not b && true) 0 0 l (cover 0 0 0 2 (l .covered)) .left .handed 0 0 ≡ true
+    go true h = h
+    go false h = refl
+
+abbrev once-more : Call
+once-more = hears (whole 0 ∷ []) (0 ∷ [])
+
+-- number 0, handed over before, is read as 256, which lands: an event, and no message
+last-refuted : (g : Settings) (b : Book) → b .ledger .handed 0 0 ≡ true → Holds all-empty 3 (once-more ∷ []) (having g (windowOf 129 0) 128) b → ⊥
+unfolding Holds step after result newStation first lowestFree hasBit withBit withoutBit receiveOf receiveRefusal parse headOk framesOf itemAt frameOf payload unpack payloadOk wordOk pack framesWords ncsRx readFrames frameStep readFrame pieceFrame replyEnd isMember accept widened widenedAt ownCell putOf cells.accept settle grow seek next slideOf markOf stop eventsIn bookFrames bookFrame cover alsoHanded allBelow having filled cellRefusal freeOf
+last-refuted g b h z =
+    subst (λ (t : Bool). Pairs 3 (record { slot = 0; cell = 0; number = 0 } ∷ []) (enterBy (not t && true) 0 0 (b .ledger) (cover 0 0 0 2 (b .ledger .covered)) .out ++ []) (b .entry)) h
+    (z .0 .pairs)
+
+zero-handed : (g : Settings) (b : Book) → bookCall (sentNow all-empty b) once-more (having g (upTo 127) 127) b .left .ledger .handed 0 0 ≡ true
+unfolding Holds step after result newStation first lowestFree hasBit withBit withoutBit receiveOf receiveRefusal parse headOk framesOf itemAt frameOf payload unpack payloadOk wordOk pack framesWords ncsRx readFrames frameStep readFrame pieceFrame replyEnd isMember accept widened widenedAt ownCell putOf cells.accept settle grow seek next slideOf markOf stop eventsIn bookFrames bookFrame cover alsoHanded allBelow having filled cellRefusal freeOf
+zero-handed g b = hands (sentNow all-empty b) refl (b .ledger)
+
+no-end : (n k : ℕ) → NoEnd (filled n k)
+unfolding filled
+no-end zero k = tt
+no-end (suc n) k = (tt, (tt, no-end n (k + 1)))
+
+both-none : (cs ds : List Call) → NoEnd cs → NoEnd ds → NoEnd (cs ++ ds)
+both-none [] ds p q = q
+both-none (c ∷ cs) ds p q = (p .0, both-none cs ds (p .1) q)
+
+run-no-end : NoEnd run
+run-no-end = (
+  tt,
+  both-none (filled 15 1) (filled 28 16 ++ (filled 28 44 ++ (filled 28 72 ++ filled 28 100))) (no-end 15 1)
+      (both-none (filled 28 16) (filled 28 44 ++ (filled 28 72 ++ filled 28 100)) (no-end 28 16)
+      (both-none (filled 28 44) (filled 28 72 ++ filled 28 100) (no-end 28 44) (both-none (filled 28 72) (filled 28 100) (no-end 28 72) (no-end 28 100)))),
+)
+
+-- 0 to 128 are handed over, and 0 comes once more
+abbrev pub old : List Call
+old = run ++ (once-more ∷ ((freeing 0 ∷ filled 1 128) ++ (once-more ∷ [])))
+
+pub too-old : (g : Settings) → Holds all-empty 3 old (three-cells g) emptyBook → ⊥
+unfolding Holds after filled
+too-old g h =
+    let a = later all-empty 3 run (once-more ∷ ((freeing 0 ∷ filled 1 128) ++ (once-more ∷ []))) (three-cells g) emptyBook 0 0
+    run-no-end h in
+    let z : Holds all-empty 3 (once-more ∷ ((freeing 0 ∷ filled 1 128) ++ (once-more ∷ []))) (having g (upTo 127) 127) (a .0) =
+    subst (λ (n : Net). Holds all-empty 3 (once-more ∷ ((freeing 0 ∷ filled 1 128) ++ (once-more ∷ []))) n (a .0)) (reached g) (a .1 .1) in
+    let c = later all-empty 3 (freeing 0 ∷ filled 1 128) (once-more ∷ []) (step once-more (having g (upTo 127) 127)) (bookCall (sentNow all-empty (a .0)) once-more (having g (upTo 127) 127) (a .0) .left) 0 0
+    (tt, no-end 1 128) (z .1) in
+    last-refuted g (c .0) (c .1 .0 (zero-handed g (a .0))) (subst (λ (n : Net). Holds all-empty 3 (once-more ∷ []) n (c .0)) (to-129 g) (c .1 .1))
+
+-- the book before it, as far as the premises ask for it
 abbrev pub old-book : Book
 old-book =
     record {
@@ -123,11 +222,6 @@ old-book =
       entry = λ c. none;
       stay = λ s. 0;
     }
-
--- number 0 is read as 256, which lands: an event, and no message
-pub too-old : (g : Settings) → Holds all-empty 1 (hears (whole 0 ∷ []) (0 ∷ []) ∷ []) (old g) old-book → ⊥
-unfolding Holds result newStation first lowestFree hasBit withBit receiveOf receiveRefusal parse headOk framesOf itemAt frameOf payload unpack payloadOk wordOk pack framesWords ncsRx readFrames frameStep readFrame pieceFrame replyEnd isMember accept widened widenedAt ownCell putOf cells.accept settle grow seek next slideOf markOf stop eventsIn bookFrames bookFrame cover alsoHanded allBelow
-too-old g h = h .0 .pairs
 
 -- ---- all else that the premises ask of these pieces
 -- `misnumbered` would be right with the eight bits of 1, `miscut` of messages "hh", `swapped` in the store that was handed on, `overlong` of shorter messages
