@@ -2,7 +2,7 @@
 -- stay is not to arrive: `former` breaks that premise alone, and the promise is refuted. By computation; assumes nothing.
 use mathlib.Core.Path.{_≡_, refl, ap, subst}
 use mathlib.Core.Bool.{cond}
-use mathlib.Core.List.{List, [], _∷_}
+use mathlib.Core.List.{List, [], _∷_, _++_}
 use Prim.Native.Nat.{ℕ, _≤_}
 use native.Mathlib.Omega.{arith}
 use lib.Dec.{eqb}
@@ -37,10 +37,10 @@ use Rattle.rx.specs.Reception.{ncsRx}
 use Rattle.config.specs.declared.Given.{Given}
 use Rattle.config.specs.Checks.{settingsOf}
 use Rattle.station.specs.Entries.{startRefusal, admitRefusal, admitOf, receiveRefusal, receiveOf, cellRefusal, readRefusal, readingOf}
-use Rattle.station.specs.SignOff.{bereaveAt, bereaveAll, clearAt, clearAll, unhearAt, unhearAll, strikeWait, signOff, signOffRefusal, signOffOf}
-use Rattle.promise.specs.Promise.{handed, Net, Call, admission, reading, signing, result, outcome, step, after, started, Stays, emptyBook, cover, alsoHanded, allBelow, bookFrame, bookFrames, eventsIn, answersOf, bookEnds, CallsOk, Holds, handedIn, Messages}
+use Rattle.station.specs.SignOff.{bereaveAt, bereaveAll, clearAt, clearAll, unhearAt, unhearAll, strikeWait, vacant, signOff, signOffRefusal, signOffOf}
+use Rattle.promise.specs.Promise.{handed, Net, net, Call, admission, reading, signing, result, outcome, step, after, started, Stays, emptyBook, cover, alsoHanded, allBelow, bookFrame, bookFrames, eventsIn, answersOf, bookEnds, CallsOk, Holds, handedIn, Messages}
 use Rattle.promise.proofs.Item3.{item-3}
-use Rattle.promise.proofs.Runs.{nought, one-cell, starts, joins, hears, hi, apart, near}
+use Rattle.promise.proofs.Runs.{nought, plain, one-cell, starts, joins, hears, hi, apart, near}
 
 -- every message of a first stay is "hi", and of a later one "ho"
 abbrev pub hi-then-ho : Stays
@@ -130,23 +130,44 @@ pub former-broken : (g : Settings) → Holds hi-then-ho 1 former (one-cell g) em
 unfolding Holds step after result admitOf admitRefusal newStation seatOf findCall first fold lowestFree hasBit withBit withoutBit leadsTo unpacked digit char trimStart trimEnd receiveOf receiveRefusal parse headOk framesOf itemAt frameOf payload unpack payloadOk wordOk pack framesWords ncsRx readFrames frameStep readFrame pieceFrame replyEnd isMember accept widened widenedAt ownCell putOf cells.accept settle grow seek next slideOf stop eventsIn handedIn bookFrames bookFrame cover alsoHanded allBelow readRefusal cellRefusal readingOf signOffOf signOffRefusal signOff bereaveAll bereaveAt clearAll clearAt unhearAll unhearAt bookEnds tally
 former-broken g h = let z : _≡_ {A = ℕ} 105 111 = ap (λ (l : List ℕ). getD l 1 0) (h .1 .1 .1 .1 .0 .1 (omega arith) .1) in omega arith
 
--- ---- the boats that are left
+-- ---- its cells, and the boats that are left
 
--- boat B, relayed by A in slot 0
-abbrev relayed : Call
-relayed = admission (packCall (66 ∷ 32 ∷ 32 ∷ 32 ∷ 32 ∷ 32 ∷ 32 ∷ [])) 0 nought 8192
+-- boats B, C and D, relayed by A in slot 0
+abbrev relayed : ℕ → Call
+relayed letter = admission (packCall (letter ∷ 32 ∷ 32 ∷ 32 ∷ 32 ∷ 32 ∷ 32 ∷ [])) 0 nought 8192
 
--- A signs off: B has no relay, is unheard and silent, and the total says so
+-- number 0 of A has landed, the first byte of number 1 has come, and B's number 0 has begun: three cells
+abbrev all-come : List Call
+all-come =
+    joins ∷ relayed 66 ∷ relayed 67 ∷ relayed 68
+    ∷ hears (heard 0 0 (framed []) ∷ heard 0 65536 (1 ∷ []) ∷ heard 1 0 (1 ∷ []) ∷ []) (0 ∷ 1 ∷ 0 ∷ []) ∷ []
+
+abbrev all-here : Settings → Station
+all-here g = after all-come (net (newStation g 3) (replicate 19200 7)) .station
+
+abbrev one-left : Settings → Station
+one-left g = after (all-come ++ (signing 0 ∷ [])) (net (newStation g 3) (replicate 19200 7)) .station
+
+-- A signs off: its cells, the landed and the filling one, are free; the three have no relay, are unheard and silent, and the total says so
 pub record LeftRun (g : Settings) : Type 0 where
-  pub before : memberAt (after (joins ∷ relayed ∷ []) (one-cell g) .station) 1 .via ≡ 0
-  pub relay : memberAt (after (joins ∷ relayed ∷ signing 0 ∷ []) (one-cell g) .station) 1 .via ≡ 63
-  pub level : memberAt (after (joins ∷ relayed ∷ signing 0 ∷ []) (one-cell g) .station) 1 .snrup ≡ Unheard
-  pub missed : memberAt (after (joins ∷ relayed ∷ signing 0 ∷ []) (one-cell g) .station) 1 .missed ≡ g .misslimit
-  pub waits : after (joins ∷ relayed ∷ signing 0 ∷ []) (one-cell g) .station .round .toack ≡ 2
+  pub cells : (all-here g .busy ≡ 7) × (all-here g .landed ≡ 1)
+  pub freed : (one-left g .busy ≡ 4) × (one-left g .landed ≡ 0)
+  pub relays : (memberAt (all-here g) 1 .via ≡ 0) × (memberAt (all-here g) 2 .via ≡ 0) × (memberAt (all-here g) 3 .via ≡ 0)
+  pub none : (memberAt (one-left g) 1 .via ≡ 63) × (memberAt (one-left g) 2 .via ≡ 63) × (memberAt (one-left g) 3 .via ≡ 63)
+  pub level : (memberAt (one-left g) 1 .snrup ≡ Unheard) × (memberAt (one-left g) 3 .snrup ≡ Unheard)
+  pub missed : (memberAt (one-left g) 1 .missed ≡ g .misslimit) × (memberAt (one-left g) 3 .missed ≡ g .misslimit)
+  pub waits : one-left g .round .toack ≡ 14
+  pub gone : (one-left g .used ≡ 14) × (memberAt (one-left g) 0 ≡ vacant)
 
 pub left-run : (g : Settings) → LeftRun g
-unfolding step after result admitOf admitRefusal newStation seatOf findCall first fold lowestFree hasBit withBit withoutBit leadsTo unpacked digit char trimStart trimEnd isMember signOffOf signOffRefusal signOff bereaveAll bereaveAt clearAll clearAt unhearAll unhearAt tally
-left-run g = record { before = refl; relay = refl; level = refl; missed = refl; waits = refl }
+unfolding step after result admitOf admitRefusal newStation seatOf findCall first fold lowestFree hasBit withBit withoutBit leadsTo unpacked digit char trimStart trimEnd receiveOf receiveRefusal parse headOk framesOf itemAt frameOf payload unpack payloadOk wordOk pack framesWords ncsRx readFrames frameStep readFrame pieceFrame replyEnd isMember accept widened widenedAt ownCell putOf cells.accept settle grow seek next slideOf stop signOffOf signOffRefusal signOff bereaveAll bereaveAt clearAll clearAt unhearAll unhearAt tally
+left-run g =
+    record { cells = (refl, refl); freed = (refl, refl); relays = (refl, refl, refl); none = (refl, refl, refl); level = (refl, refl); missed = (refl, refl); waits = refl; gone = (refl, refl) }
+
+-- the total of silent boats, with a miss limit of 1
+pub three-silent : (all-here (settingsOf plain) .totals .silent ≡ 0) × (one-left (settingsOf plain) .totals .silent ≡ 3)
+unfolding step after result admitOf admitRefusal newStation seatOf findCall first fold lowestFree hasBit withBit withoutBit leadsTo unpacked digit char trimStart trimEnd receiveOf receiveRefusal parse headOk framesOf itemAt frameOf payload unpack payloadOk wordOk pack framesWords ncsRx readFrames frameStep readFrame pieceFrame replyEnd isMember accept widened widenedAt ownCell putOf cells.accept settle grow seek next slideOf stop signOffOf signOffRefusal signOff bereaveAll bereaveAt clearAll clearAt unhearAll unhearAt tally
+three-silent = (refl, refl)
 
 -- its own turn ends with no deadline, and one that relays for it goes on with no source
 abbrev asked : ℕ → ℕ → Wait
