@@ -121,16 +121,16 @@ get-front [] r j h = absurd (omega arith)
 get-front (x ∷ l) r zero h = refl
 get-front (x ∷ l) r (suc j) h = get-front l r j (omega arith)
 
-get-last : (l : List ℕ) (u : ℕ) → getD (l ++ (u ∷ [])) (length l) 0 ≡ u
+pub get-last : (l : List ℕ) (u : ℕ) → getD (l ++ (u ∷ [])) (length l) 0 ≡ u
 get-last [] u = refl
 get-last (x ∷ l) u = get-last l u
 
 module _ (a : Air) where
-  step-seen : (f : Heard) (x : Reading) → frameStep a f x .seen ≡ x .seen ++ (x .station .used ∷ [])
+  pub step-seen : (f : Heard) (x : Reading) → frameStep a f x .seen ≡ x .seen ++ (x .station .used ∷ [])
   unfolding frameStep
   step-seen f x = ap (λ (l : List ℕ). l ++ (x .station .used ∷ [])) (frame-runs a f x .seen)
 
-  step-frame : (f : Heard) (x : Reading) → frameStep a f x .frame ≡ x .frame + 1
+  pub step-frame : (f : Heard) (x : Reading) → frameStep a f x .frame ≡ x .frame + 1
   unfolding frameStep
   step-frame f x = ap (λ (n : ℕ). n + 1) (frame-runs a f x .frame)
 
@@ -138,7 +138,7 @@ module _ (a : Air) where
   unfolding readFrames
   step-count f x = chain-count (frames-walk all a tt tt (x .station) (f ∷ []) x start)
 
-  step-other : (f : Heard) (x : Reading) (j : ℕ) → (j ≡ x .frame → ⊥) → hasBit (frameStep a f x .unkept) j ≡ hasBit (x .unkept) j
+  pub step-other : (f : Heard) (x : Reading) (j : ℕ) → (j ≡ x .frame → ⊥) → hasBit (frameStep a f x .unkept) j ≡ hasBit (x .unkept) j
   unfolding frameStep
   step-other f x j z = frame-runs a f x .other j z
 
@@ -152,7 +152,7 @@ module _ (a : Air) where
         clear = λ j h. step-other f x j (λ e. omega arith) ∙ r .clear j (omega arith);
       }
 
-  seen-stays : (fs : List Heard) (x : Reading) (j : ℕ) → j < length (x .seen) → getD (readFrames a fs x .seen) j 0 ≡ getD (x .seen) j 0
+  pub seen-stays : (fs : List Heard) (x : Reading) (j : ℕ) → j < length (x .seen) → getD (readFrames a fs x .seen) j 0 ≡ getD (x .seen) j 0
   unfolding readFrames
   seen-stays [] x j h = refl
   seen-stays (f ∷ fs) x j h =
@@ -162,7 +162,7 @@ module _ (a : Air) where
       ∙ ap (λ (l : List ℕ). getD l j 0) (step-seen f x)
       ∙ get-front (x .seen) (x .station .used ∷ []) j h
 
-  mask-stays : (fs : List Heard) (x : Reading) (j : ℕ) → j < x .frame → hasBit (readFrames a fs x .unkept) j ≡ hasBit (x .unkept) j
+  pub mask-stays : (fs : List Heard) (x : Reading) (j : ℕ) → j < x .frame → hasBit (readFrames a fs x .unkept) j ≡ hasBit (x .unkept) j
   unfolding readFrames
   mask-stays [] x j h = refl
   mask-stays (f ∷ fs) x j h =

@@ -1,0 +1,4 @@
+pub mod Runs
+pub mod Tiles
+pub mod Room
+pub mod Sending
