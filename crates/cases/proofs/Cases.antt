@@ -6,11 +6,11 @@ use Rattle.wire.specs.Call.{digit, char, unpacked, trimStart, trimEnd}
 use Rattle.wire.specs.Numbers.{widened, widenedAt}
 use Rattle.cases.specs.Table.{Case, cases}
 
-abbrev given : List Case → List ℕ
+abbrev given : List Case → List (List ℕ)
 given [] = []
 given (c ∷ cs) = c .gives ∷ given cs
 
-abbrev said : List Case → List ℕ
+abbrev said : List Case → List (List ℕ)
 said [] = []
 said (c ∷ cs) = c .says ∷ said cs
 

@@ -1,38 +1,41 @@
--- Document 01, 'Edges, P proved': each case as what a definition gives and what the document says, all as numbers.
+-- Document 01, 'Edges, P proved': each case as what a definition gives and what the document says, as a list of numbers: one number, no number for none, or the
+-- seven bytes of a call.
 use mathlib.Core.List.{List, [], _∷_}
-use Prim.Native.Nat.{ℕ, _+_}
-use Rattle.wire.specs.declared.number.Number.{Number}
-use Rattle.wire.specs.declared.number.Number.the-variants.{Is, Before}
+use mathlib.Core.Option.{Option, none, some}
+use Prim.Native.Nat.{ℕ}
+use lib.ListN.{replicate}
 use Rattle.wire.specs.Call.{packed, unpacked, pad}
-use Rattle.wire.specs.Numbers.{widened}
+use Rattle.wire.specs.Numbers.{valueOf, widened}
 use Rattle.bursts.specs.Bursts.{pollExtra}
 use Rattle.rx.specs.Ending.{ackExtra}
 
 pub record Case : Type 0 where
-  pub gives : ℕ
-  pub says : ℕ
+  pub gives : List ℕ
+  pub says : List ℕ
 
-abbrev pub case : ℕ → ℕ → Case
+abbrev pub case : List ℕ → List ℕ → Case
 case gives says = record { gives = gives; says = says }
 
--- a number as it is, and none as 2^32, which is no number
-abbrev pub numberOr : Number → ℕ
-numberOr (Is n) = n
-numberOr Before = 4294967296
+abbrev pub one : ℕ → List ℕ
+one n = n ∷ []
 
--- P calls: empty, `0`, `A`, seven `/`, and what 114415582592 reads as; P numbers: next 200, s 10 and so on; P extra
+abbrev pub oneOrNone : Option ℕ → List ℕ
+oneOrNone none = []
+oneOrNone (some n) = one n
+
+-- P calls: empty, `0`, `A`, seven `/`, and 114415582592 reads empty, which is seven spaces; P numbers: next 200, s 10 and so on; P extra
 unfoldable pub cases : List Case
 cases =
-    case (packed (pad 7 [])) 0
-    ∷ case (packed (pad 7 (48 ∷ []))) 3010936384
-    ∷ case (packed (pad 7 (65 ∷ []))) 33120300224
-    ∷ case (packed (47 ∷ 47 ∷ 47 ∷ 47 ∷ 47 ∷ 47 ∷ 47 ∷ [])) 114415582591
-    ∷ case (packed (unpacked 114415582592)) 0
-    ∷ case (numberOr (widened 10 200)) 266
-    ∷ case (numberOr (widened 171 300)) 427
-    ∷ case (numberOr (widened 172 300)) 172
-    ∷ case (numberOr (widened 128 0)) 4294967296
-    ∷ case (pollExtra 5 63 3 2) 2245
-    ∷ case (pollExtra 5 9 3 2) 12869
-    ∷ case (ackExtra 5 2 5) 1413
+    case (one (packed (pad 7 []))) (one 0)
+    ∷ case (one (packed (pad 7 (48 ∷ [])))) (one 3010936384)
+    ∷ case (one (packed (pad 7 (65 ∷ [])))) (one 33120300224)
+    ∷ case (one (packed (replicate 7 47))) (one 114415582591)
+    ∷ case (unpacked 114415582592) (replicate 7 32)
+    ∷ case (oneOrNone (valueOf (widened 10 200))) (one 266)
+    ∷ case (oneOrNone (valueOf (widened 171 300))) (one 427)
+    ∷ case (oneOrNone (valueOf (widened 172 300))) (one 172)
+    ∷ case (oneOrNone (valueOf (widened 128 0))) []
+    ∷ case (one (pollExtra 5 63 3 2)) (one 2245)
+    ∷ case (one (pollExtra 5 9 3 2)) (one 12869)
+    ∷ case (one (ackExtra 5 2 5)) (one 1413)
     ∷ []
