@@ -42,6 +42,15 @@ refused n s store = record { refusal = n; station = s; store = store; words = []
 abbrev pub done : Station → List ℕ → List ℕ → Outcome
 done s store words = record { refusal = 0; station = s; store = store; words = words; mask = 0 }
 
+-- What an answer says, by its cases: document 01's number that sends the call back, 0 for none, and how many words were written.
+abbrev pub numberIn : Answer → ℕ
+numberIn (Refused n) = n
+numberIn (Words n) = 0
+
+abbrev pub wordsIn : Answer → ℕ
+wordsIn (Refused n) = 0
+wordsIn (Words n) = n
+
 -- how many words a call says that it wrote: all of them where they fit, and 8,192 are room for all (`AllFit` of laws)
 abbrev pub answerOf : Outcome → ℕ → Answer
 answerOf x room = cond (eqb (x .refusal) 0) (Words (after room 0 (length (x .words)))) (Refused (x .refusal))

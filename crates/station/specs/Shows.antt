@@ -8,13 +8,13 @@ use Rattle.wire.specs.Fields.{snrFromQ}
 use Rattle.roster.specs.Relays.{heardAt}
 use Rattle.net.specs.declared.Station.{Station}
 use Rattle.net.specs.State.{memberAt}
-use Rattle.net.specs.Net.{isMember, levelIn}
+use Rattle.net.specs.Net.{isMember, capFor}
 use Rattle.station.specs.declared.show.Entry.{Entry}
 
 -- `here` is false where the slot has no member
 unfoldable pub entryOf : Station → ℕ → Entry
 entryOf s slot =
-    record { here = isMember (s .used) slot; call = memberAt s slot .call; via = memberAt s slot .via; snrup = memberAt s slot .snrup; snrdown = memberAt s slot .snrdown; cap = levelIn (s .settings) (memberAt s slot .snrup); lastheard = memberAt s slot .lastheard; missed = memberAt s slot .missed; bytesin = memberAt s slot .bytesin; hascaps = memberAt s slot .hascaps; caps = memberAt s slot .caps; hasversion = memberAt s slot .hasversion; version = memberAt s slot .version }
+    record { here = isMember (s .used) slot; call = memberAt s slot .call; via = memberAt s slot .via; snrup = memberAt s slot .snrup; snrdown = memberAt s slot .snrdown; cap = capFor (s .settings) (memberAt s slot); lastheard = memberAt s slot .lastheard; missed = memberAt s slot .missed; bytesin = memberAt s slot .bytesin; hascaps = memberAt s slot .hascaps; caps = memberAt s slot .caps; hasversion = memberAt s slot .hasversion; version = memberAt s slot .version }
 
 -- the level at which the boat in slot r hears the one in slot a
 unfoldable pub hearsOf : Station → ℕ → ℕ → Level

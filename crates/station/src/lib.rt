@@ -91,7 +91,7 @@ pub fn start(s: Station, g: Given, lent: &[u8]) -> Answered
 fn relay_refusal(used: u64, relay: u8, rest: u8) -> u8
     ensures { λ r. ⌜ r ≡ checkRelay used relay rest ⌝ }
 {
-    if relay == 63 {
+    if relay == wire::ALL {
         return rest;
     }
     if 61 < relay {

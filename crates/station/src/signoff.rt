@@ -18,7 +18,7 @@ use roster::Member;
 fn vacant() -> Member
     ensures { λ r. ⌜ r ≡ vacant ⌝ }
 {
-    roster::new_member([32u8; 7], 63, 0.0)
+    roster::new_member([32u8; 7], wire::ALL, 0.0)
 }
 
 // A boat goes on without the slot, and without its relay where that was the slot.
@@ -84,7 +84,7 @@ fn strike_reply(r: Reply, slot: u8, w: Wait) -> Wait
     if r.relayfor == slot {
         let n = Reply {
             slot: r.slot,
-            relayfor: 63,
+            relayfor: wire::ALL,
             tries: r.tries,
             turnbursts: r.turnbursts,
         };
