@@ -30,7 +30,7 @@ use Rattle.net.specs.State.{memberAt, withWait, withRound, withRxsent, withRxdi
 use Rattle.net.specs.Net.{isMember, idleWait, Said, said, onTxDone}
 use Rattle.admit.specs.Admission.{seatOf, isFull, viaFor}
 use Rattle.bursts.specs.Rows.{ackRows, treeRows, listRows, leastReach, leastDirect}
-use Rattle.bursts.specs.Bursts.{tinyWords, pollBurst, acked, movedIn, ackedOrMoved, acksBurst, beaconPayload, beaconRows, beaconAcks, beaconOf, listSent, rxListBurst, sends, tellAt, tellAll, listTold, listWords}
+use Rattle.bursts.specs.Bursts.{tinyWords, pollBurst, acked, movedIn, ackedOrMoved, acksBurst, beaconPayload, beaconRows, beaconAcks, beaconOf, listSent, rxListBurst, sends, tellAt, tellAll, listTold, listWords, acksLevel}
 use Rattle.bursts.specs.Reroute.{sourceFor, rerouteOf}
 use Rattle.next.specs.declared.Act.{Act}
 use Rattle.next.specs.declared.Act.the-variants as act
@@ -131,8 +131,8 @@ told-acks s l =
     let a = chunkWords cAcks 18 (ackRows s (acked s) 62) in
     let t = chunkWords cTree 20 (treeRows s (ackedOrMoved s) (movedIn s)) in
     told-burst s (acksBurst s)
-    (burst-other (leastReach s (ackedOrMoved s)) (a ++ t) (acks-frames s (links-same s _ _ l))
-    (other-burst (leastReach s (ackedOrMoved s)) (a ++ t)
+    (burst-other (acksLevel s) (a ++ t) (acks-frames s (links-same s _ _ l))
+    (other-burst (acksLevel s) (a ++ t)
     (quiet-both a t (quiet-chunk-words cAcks 18 (ackRows s (acked s) 62)) (quiet-chunk-words cTree 20 (treeRows s (ackedOrMoved s) (movedIn s)))))) refl l
 
 told-beacon : (s : Station) (now : Float) → Sendable (s .settings) → Told s (spoke (beaconOf s now))

@@ -1,16 +1,17 @@
 -- The payloads that the station sends are bytes: rows of the frames, and the beacon's own. Assumes nothing.
 use mathlib.Core.Path.{_≡_, refl, sym, _∙_, subst}
 use mathlib.Core.Logic.{_⊎_, ⊎-elim}
-use Prim.Native.Nat.{ℕ, zero, suc, _+_, _*_, _/_, _%_, _≤_, _<_}
+use Prim.Native.Nat.{ℕ, zero, suc, _+_, _-_, _*_, _/_, _%_, _^_, _≤_, _<_}
 use native.Mathlib.Omega.{arith}
 use mathlib.Core.Bool.{Bool, true, false, not, cond, _||_}
 use mathlib.Core.List.{List, [], _++_}
 use lib.Dec.{eqb}
 use lib.ListN.{length, getD, length-append}
 use lib.Ieee.{Float, nan, inf, fin}
+use Rattle.level.specs.Order.{isNan}
 use Rattle.rounding.specs.Round.{announced}
 use Rattle.bits.specs.Loop.{fold}
-use Rattle.bits.specs.Mask.{hasBit, minusOf}
+use Rattle.bits.specs.Mask.{hasBit, bothOf, minusOf}
 use Rattle.bits.proofs.Laws.{has-both, has-either}
 use Rattle.bits.proofs.Lists.{cond-keeps, and-true, or-elim}
 use Rattle.wire.specs.Call.{bytesOf, packed}
@@ -22,11 +23,11 @@ use Rattle.stream.specs.Window.{bitmapOf}
 use Rattle.net.specs.declared.Station.{Station}
 use Rattle.net.specs.declared.Settings.{Settings}
 use Rattle.net.specs.State.{memberAt}
-use Rattle.net.specs.Net.{isMember, times, slotLen}
+use Rattle.net.specs.Net.{isMember, membersIn, times, slotLen}
 use Rattle.net.proofs.Laws.{index-is, member-lt, member-is}
 use Rattle.roster.specs.Members.{noMember}
 use Rattle.bursts.specs.Rows.{seated, rowIf, rowsOn, rowsOf, ackRow, ackAt, ackRows, treeRow, treeAt, treeRows, listRow, listAt, listRows}
-use Rattle.bursts.specs.Bursts.{acked, movedIn, ackedOrMoved, thousand, firstMs, lenMs, twoBytes, timing, namePayload, beaconPayload, beaconRows, beaconAcks}
+use Rattle.bursts.specs.Bursts.{acked, movedIn, ackedOrMoved, thousand, firstMs, orOne, lenMs, twoBytes, timing, namePayload, beaconPayload, beaconRows, beaconAcks}
 use Rattle.promise.specs.Promise.{LinksHold}
 use Rattle.laws.proofs.Dues.{relay-is}
 use Rattle.laws.proofs.LogsWords.{Frames, frames-both, frames-ctrl, frames-rows}
@@ -86,11 +87,15 @@ list-rows s = rows (listAt s) (listRow s) 3 (λ i bs h e. list-row s i h)
 
 -- ---- the tree: a member's relay is none or a member
 
+member-used : (m used i : ℕ) → hasBit (bothOf m (membersIn used)) i ≡ true → hasBit used i ≡ true
+member-used m used i e =
+    and-true (hasBit used i) (hasBit (2 ^ 62 - 1) i) (sym (has-both used (2 ^ 62 - 1) i) ∙ and-true (hasBit m i) (hasBit (membersIn used) i) (sym (has-both m (membersIn used) i) ∙ e) .1) .0
+
 moved-used : (s : Station) (i : ℕ) → hasBit (ackedOrMoved s) i ≡ true → hasBit (s .used) i ≡ true
 moved-used s i e =
     or-elim (hasBit (acked s) i) (hasBit (movedIn s) i) (sym (has-either (acked s) (movedIn s) i) ∙ e)
-    (λ q. and-true (hasBit (s .round .toack) i) (hasBit (s .used) i) (sym (has-both (s .round .toack) (s .used) i) ∙ q) .1)
-    (λ q. and-true (hasBit (s .round .treenews) i) (hasBit (s .used) i) (sym (has-both (s .round .treenews) (s .used) i) ∙ q) .1)
+    (λ q. member-used (s .round .toack) (s .used) i q)
+    (λ q. member-used (s .round .treenews) (s .used) i q)
 
 via-byte : (s : Station) → LinksHold s → (i : ℕ) → i < 62 → hasBit (s .used) i ≡ true → seated s i .via < 256
 via-byte s l i h e =
@@ -140,8 +145,10 @@ announced-most (fin false m e) = omega arith
 
 len-most : (g : Settings) → lenMs g ≤ 65535
 len-most g =
-    let n = announced (times (slotLen g) thousand) in
-    cond-keeps (λ (x : ℕ). x ≤ 65535) (eqb n 0) 1 n (λ _. omega arith) (λ _. announced-most (times (slotLen g) thousand))
+    let x = times (slotLen g) thousand in
+    let n = announced x in
+    cond-keeps (λ (k : ℕ). k ≤ 65535) (isNan x) 0 (orOne n) (λ _. omega arith)
+    (λ _. cond-keeps (λ (k : ℕ). k ≤ 65535) (eqb n 0) 1 n (λ _. omega arith) (λ _. announced-most x))
 
 two-bytes : (n : ℕ) → n ≤ 65535 → Bytes (twoBytes n)
 two-bytes n h = Bytes.more {b = n % 256} (omega arith) (Bytes.more {b = n / 256} (omega arith) Bytes.none)

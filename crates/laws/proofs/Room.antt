@@ -1,10 +1,10 @@
 -- The words of a call fit the output that it must be lent: a reception has 64 frames, each with 127 events at most, and two words of reply; what an admission
 -- and a next decision have at most is said in promise's proofs/Short.antt. Assumes nothing.
-use mathlib.Core.Path.{_≡_, refl, ap, _∙_}
+use mathlib.Core.Path.{_≡_, refl, sym, ap, _∙_}
 use Prim.Native.Nat.{ℕ, zero, suc, _+_, _*_, _/_, _%_, _≤_}
 use native.Mathlib.Nat.{zero-add}
 use native.Mathlib.Omega.{arith}
-use mathlib.Core.Bool.{Bool, true, false, cond}
+use mathlib.Core.Bool.{Bool, true, false, cond, false≢true}
 use mathlib.Core.List.{List, [], _∷_, _++_}
 use lib.Dec.{eqb, ltb, leb}
 use lib.Ieee.{Float}
@@ -37,7 +37,7 @@ use Rattle.frames.specs.Frames.{controlBy, readFrame, frameStep, readFrames}
 use Rattle.rx.specs.Ending.{Ended, busyWait, nothingMore, idleHeard, idleBy, idleEnd, answerBy, goesOn, isReply, replyBy, replyEnd}
 use Rattle.rx.specs.Reception.{Received, airOf, firstReading, ncsRx}
 use Rattle.station.specs.declared.Answer.the-variants.{Refused, Words}
-use Rattle.station.specs.Entries.{Outcome, refused, done, unless, check4, admitRefusal, admitOf, admitted, receiveBy, receiveRefusal, receiveOf, nextRefusal, nextOf}
+use Rattle.station.specs.Entries.{Outcome, answerOf, numberIn, wordsIn, refused, done, unless, check4, admitRefusal, admitOf, admitted, receiveBy, receiveRefusal, receiveOf, nextRefusal, nextOf}
 use Rattle.next.specs.Next.{ncsNext}
 use Rattle.promise.proofs.Short.{short-admit, short-next}
 use Rattle.laws.specs.Room.{Fits, AllFit}
@@ -184,20 +184,36 @@ rx-most s b level now store k =
 
 -- ---- every call
 
-fits : (o : Outcome) (room : ℕ) → length (o .words) ≤ 8192 → length (o .words) ≤ room → Fits o room
-fits o room h k =
+-- a refused call has no words
+abbrev Silent : Outcome → Type 0
+Silent o = eqb (o .refusal) 0 ≡ false → length (o .words) ≡ 0
+
+number-by : (t : Bool) (n k : ℕ) → eqb n 0 ≡ t → numberIn (cond t (Words k) (Refused n)) ≡ n
+number-by true n k e = sym (eqb-true n 0 e)
+number-by false n k e = refl
+
+written-by : (t : Bool) (n k : ℕ) → (t ≡ false → k ≡ 0) → wordsIn (cond t (Words k) (Refused n)) ≡ k
+written-by true n k f = refl
+written-by false n k f = sym (f refl)
+
+fits : (o : Outcome) (room : ℕ) → length (o .words) ≤ 8192 → length (o .words) ≤ room → Silent o → Fits o room
+fits o room h k f =
+    let e : answerOf o room ≡ cond (eqb (o .refusal) 0) (Words (length (o .words))) (Refused (o .refusal)) =
+    ap (λ (n : ℕ). cond (eqb (o .refusal) 0) (Words n) (Refused (o .refusal))) (after-room room 0 (length (o .words)) (omega arith) ∙ zero-add (length (o .words))) in
     record {
       most = omega arith;
       fit = k;
-      answer = ap (λ (n : ℕ). cond (eqb (o .refusal) 0) (Words n) (Refused (o .refusal))) (after-room room 0 (length (o .words)) (omega arith) ∙ zero-add (length (o .words)));
+      answer = e;
+      number = ap numberIn e ∙ number-by (eqb (o .refusal) 0) (o .refusal) (length (o .words)) refl;
+      written = ap wordsIn e ∙ written-by (eqb (o .refusal) 0) (o .refusal) (length (o .words)) f;
       output = λ out e. sets-eq (o .words) out 0 (omega arith) ∙ ap (λ (n : ℕ). o .words ++ drop n out) (zero-add (length (o .words)));
     }
 
 -- refused, it has no words; and where it is not, the output has 8,192 words
-fits-unless : (n : ℕ) (s : Station) (store : List ℕ) (o : Outcome) (room : ℕ) → (n ≡ 0 → 8192 ≤ room) → length (o .words) ≤ 8192 → Fits (unless n s store o) room
-fits-unless n s store o room k h =
+fits-unless : (n : ℕ) (s : Station) (store : List ℕ) (o : Outcome) (room : ℕ) → (n ≡ 0 → 8192 ≤ room) → length (o .words) ≤ 8192 → Silent o → Fits (unless n s store o) room
+fits-unless n s store o room k h f =
     cond-keeps (λ (x : Outcome). Fits x room) (eqb n 0) o (refused n s store)
-    (λ q. fits o room h (omega (arith, k (eqb-true n 0 q)))) (λ _. fits (refused n s store) room (omega arith) (omega arith))
+    (λ q. fits o room h (omega (arith, k (eqb-true n 0 q))) f) (λ _. fits (refused n s store) room (omega arith) (omega arith) (λ _. refl))
 
 checked : (room rest : ℕ) → check4 room rest ≡ 0 → 8192 ≤ room
 checked room rest = by (ltb room 8192) refl
@@ -210,6 +226,10 @@ receive-most : (ws : List ℕ) (w : Parsed Burst) → parse ws ≡ w → (s : St
 receive-most ws malformed q s snr now store = omega arith
 receive-most ws (parsed b) q s snr now store = omega (arith, rx-most s b snr now store (parse-fine ws b q))
 
+receive-silent : (w : Parsed Burst) (s : Station) (snr now : Float) (store : List ℕ) → Silent (receiveBy w s snr now store)
+receive-silent malformed s snr now store e = refl
+receive-silent (parsed b) s snr now store e = absurd (false≢true (sym e))
+
 pub all-fit : AllFit
 unfolding admitOf admitRefusal receiveOf receiveRefusal nextOf nextRefusal
 all-fit =
@@ -219,10 +239,10 @@ all-fit =
           let seat = seatOf s call in
           let via = viaFor s seat relay in
           fits-unless (admitRefusal room now (s .used) relay (isFull seat)) s [] (done (admitted s call relay now .station) [] (admitted s call relay now .words)) room
-          (checked room _) (omega (arith, short-admit seat s call via now .most));
+          (checked room _) (omega (arith, short-admit seat s call via now .most)) (λ e. absurd (false≢true (sym e)));
       reception = λ s words snr now store room.
           fits-unless (receiveRefusal room (length store) (s .count) now snr (parse words)) s store (receiveBy (parse words) s snr now store) room (checked room _)
-          (receive-most words (parse words) refl s snr now store);
+          (receive-most words (parse words) refl s snr now store) (receive-silent (parse words) s snr now store);
       decision = λ s now room.
-          fits-unless (nextRefusal now room) s [] (done (ncsNext s now .station) [] (ncsNext s now .words)) room (checked room _) (omega (arith, short-next s now .most));
+          fits-unless (nextRefusal now room) s [] (done (ncsNext s now .station) [] (ncsNext s now .words)) room (checked room _) (omega (arith, short-next s now .most)) (λ e. absurd (false≢true (sym e)));
     }

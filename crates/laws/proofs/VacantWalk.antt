@@ -3,7 +3,7 @@ use mathlib.Core.Path.{_≡_, refl, ap, _∙_, subst}
 use mathlib.Core.Logic.{_⊎_, inl, inr, ⊎-elim}
 use Prim.Native.Nat.{ℕ, zero, suc, _+_, _*_, _%_, _≤_, _<_}
 use native.Mathlib.Omega.{arith}
-use mathlib.Core.Bool.{Bool, true, false, not, _&&_, _||_}
+use mathlib.Core.Bool.{Bool, true, false, not, cond, _&&_, _||_}
 use mathlib.Core.List.{List, [], _∷_}
 use lib.Dec.{eqb, ltb}
 use lib.ListN.{length, getD, replicate, length-replicate, getD-replicate}
@@ -83,7 +83,11 @@ module _ (i : ℕ) (low : i < 62) where
 
   source-not : (s : Station) (slot : ℕ) → hasBit (s .used) i ≡ false → sourceFor s slot ≡ i → ⊥
   unfolding sourceFor relaySrcFor
-  source-not s slot f e = source-by s slot f (first (isSource (s .hears) (withoutBit (needsOf s) slot) (ableOf s) (triedOf s) slot (s .settings .relaysnr)) 62 0) refl e
+  source-not s slot f e = at (ltb slot 62) e
+    where
+      at : (b : Bool) → cond b (slotOr63 (first (isSource (s .hears) (withoutBit (needsOf s) slot) (ableOf s) (triedOf s) slot (s .settings .relaysnr)) 62 0)) 63 ≡ i → ⊥
+      at true q = source-by s slot f _ refl q
+      at false q = omega arith
 
   -- nor is it on a list drawn up
   unlisted : (s : Station) (n : ℕ) → hasBit (s .used) i ≡ false → hasBit (listFor s n) i ≡ false

@@ -1,16 +1,15 @@
 -- The station's own logs pass the turn check: `OwnLogs`, the last definition, is a statement over every list of calls from a start that is not refused.
 use Prim.Native.Nat.{ℕ, _+_, _<_}
 use mathlib.Core.Path.{_≡_}
-use mathlib.Core.Bool.{cond}
+use mathlib.Core.Bool.{true, cond}
 use mathlib.Core.List.{List, [], _∷_, _++_}
 use lib.ListN.{length}
 use Rattle.words.specs.Fine.{Bytes}
 use Rattle.net.specs.declared.Station.{Station}
 use Rattle.config.specs.declared.Given.{Given}
 use Rattle.station.specs.Entries.{startRefusal}
-use Rattle.logs.specs.declared.Verdict.the-variants.{Accepted}
 use Rattle.logs.specs.Reading.{sentIn}
-use Rattle.logs.specs.Turns.{verdictOf}
+use Rattle.logs.specs.Turns.{isAccepted, verdictOf}
 use Rattle.promise.specs.Promise.{TurnEvent, drew, over, poll, ack, struck, Net, Call, signing, result, outcome, isRefused, step, started}
 
 -- a word 6 for each slot
@@ -49,4 +48,4 @@ NoSignOff (c ∷ cs) = ((slot : ℕ) → c ≡ signing slot → ⊥) × NoSignOf
 abbrev pub OwnLogs : Type 0
 OwnLogs =
     (s : Station) (g : Given) (store : List ℕ) → startRefusal g (length store) ≡ 0 → Bytes (g .settings .name) → g .settings .windowslots < 256
-    → (cs : List Call) → NoSignOff cs → verdictOf (logFrom cs (started s g store)) ≡ Accepted
+    → (cs : List Call) → NoSignOff cs → isAccepted (verdictOf (logFrom cs (started s g store))) ≡ true

@@ -10,14 +10,16 @@ use lib.ListN.{length, drop}
 use lib.Seq.{sets}
 use Rattle.net.specs.declared.Station.{Station}
 use Rattle.station.specs.declared.Answer.the-variants.{Refused, Words}
-use Rattle.station.specs.Entries.{Outcome, answerOf, admitOf, receiveOf, nextOf}
+use Rattle.station.specs.Entries.{Outcome, answerOf, numberIn, wordsIn, admitOf, receiveOf, nextOf}
 
--- a call that was lent an output of `room` words: its words are 8,192 at most and have room; it answers how many they are, or its refusal; and the output has
+-- a call that was lent an output of `room` words: its words are 8,192 at most and have room; it answers how many they are, or its refusal, by the cases of `Answer` document 01's number and the count; and the output has
 -- them all at its beginning, and behind them what it had
 pub record Fits (o : Outcome) (room : ℕ) : Type 0 where
   pub most : length (o .words) ≤ 8192
   pub fit : length (o .words) ≤ room
   pub answer : answerOf o room ≡ cond (eqb (o .refusal) 0) (Words (length (o .words))) (Refused (o .refusal))
+  pub number : numberIn (answerOf o room) ≡ o .refusal
+  pub written : wordsIn (answerOf o room) ≡ length (o .words)
   pub output : (out : List ℕ) → length out ≡ room → sets out 0 (o .words) ≡ o .words ++ drop (length (o .words)) out
 
 -- the calls that are lent an output, with any arguments

@@ -28,7 +28,7 @@ use Rattle.admit.specs.declared.Seat.{Seat}
 use Rattle.admit.specs.declared.Seat.the-variants.{Known, Free, Full}
 use Rattle.admit.specs.Admission.{admitBy}
 use Rattle.bursts.specs.Rows.{seated, ackAt, ackRow, ackRows, treeAt, treeRow, treeRows, listAt, listRow, listRows, leastReach, leastDirect}
-use Rattle.bursts.specs.Bursts.{headWords, tinyWords, pollBurst, acked, movedIn, ackedOrMoved, acksBurst, namePayload, beaconPayload, beaconRows, beaconAcks, beaconOf, listSent, rxListBurst}
+use Rattle.bursts.specs.Bursts.{headWords, tinyWords, pollBurst, acked, movedIn, ackedOrMoved, acksBurst, namePayload, beaconPayload, beaconRows, beaconAcks, beaconOf, listSent, rxListBurst, acksLevel}
 use Rattle.bursts.specs.Reroute.{floorOf, promoteWith, promoteAt, promoteAll, leavesOf, newRelay, mustMove, moveAt, moveAll, rerouteOf}
 use Rattle.bursts.proofs.Filling.{rows-most}
 use Rattle.bursts.proofs.Waiting.{beacon-most}
@@ -114,7 +114,7 @@ unfolding acksBurst
 short-acks s =
     let a = ackRows s (acked s) 62 in
     let t = treeRows s (ackedOrMoved s) (movedIn s) in
-    short-burst 0 0 0 (leastReach s (ackedOrMoved s)) (chunkWords cAcks 18 a ++ chunkWords cTree 20 t)
+    short-burst 0 0 0 (acksLevel s) (chunkWords cAcks 18 a ++ chunkWords cTree 20 t)
     (short-less (omega arith) (short-both
     (short-rows cAcks 18 21 a (omega arith) (omega (arith, rows-most (ackAt (acked s) 62) (ackRow s) 6 (λ i. refl) [])))
     (short-rows cTree 20 7 t (omega arith) (omega (arith, rows-most (treeAt s (ackedOrMoved s) (movedIn s)) (treeRow s) 2 (λ i. refl) [])))))

@@ -24,9 +24,9 @@ use Rattle.net.specs.declared.Reply.{Reply}
 use Rattle.net.specs.declared.Turn.{Turn}
 use Rattle.net.specs.declared.Turn.the-variants.{Idle, Sending, Waiting}
 use Rattle.net.specs.State.{memberAt, withWait, withRound, withRxsent, withRxdirty, oneList}
-use Rattle.net.specs.Net.{isMember, idleWait, Said, said}
+use Rattle.net.specs.Net.{isMember, idleWait, Said, said, membersIn}
 use Rattle.bursts.specs.Rows.{ackRows, treeRows, listRows, leastReach, leastDirect}
-use Rattle.bursts.specs.Bursts.{acked, movedIn, ackedOrMoved, acksBurst, beaconPayload, beaconAcks, beaconRows, beaconOf, listSent, rxListBurst, sends, tellAt, tellAll, listTold, listWords}
+use Rattle.bursts.specs.Bursts.{acked, movedIn, ackedOrMoved, acksBurst, beaconPayload, beaconAcks, beaconRows, beaconOf, listSent, rxListBurst, sends, tellAt, tellAll, listTold, listWords, acksLevel}
 use Rattle.bursts.specs.Reroute.{sourceFor, rerouteOf}
 use Rattle.bursts.proofs.Masks.{mask-past}
 use Rattle.next.specs.declared.Act.{Act}
@@ -152,7 +152,7 @@ fine-draw s now t =
 acks-other : (s : Station) → burstsIn (acksBurst s .words) ≡ []
 unfolding acksBurst
 acks-other s =
-    w.other-burst (leastReach s (ackedOrMoved s)) (chunkWords cAcks 18 (ackRows s (acked s) 62) ++ chunkWords cTree 20 (treeRows s (ackedOrMoved s) (movedIn s)))
+    w.other-burst (acksLevel s) (chunkWords cAcks 18 (ackRows s (acked s) 62) ++ chunkWords cTree 20 (treeRows s (ackedOrMoved s) (movedIn s)))
     (w.quiet-both (chunkWords cAcks 18 (ackRows s (acked s) 62)) (chunkWords cTree 20 (treeRows s (ackedOrMoved s) (movedIn s)))
     (w.quiet-chunk-words cAcks 18 (ackRows s (acked s) 62)) (w.quiet-chunk-words cTree 20 (treeRows s (ackedOrMoved s) (movedIn s))))
 
@@ -235,7 +235,7 @@ draws-by false false false e q = let z : _≡_ {A = ℕ} 0 1 = cc in absurd (ome
 draws-none : (r : Round) (used : ℕ) (now : Float) → actOf r used now ≡ act.Draw → r .list ≡ 0
 unfolding actOf
 draws-none r used now q =
-    eqb-true (r .list) 0 (draws-by (le (r .nextbeacon) now) (not (eqb (r .toack) 0) || not (eqb (r .treenews) 0)) (eqb (r .list) 0) (eqb used 0) q)
+    eqb-true (r .list) 0 (draws-by (le (r .nextbeacon) now) (not (eqb (r .toack) 0) || not (eqb (r .treenews) 0)) (eqb (r .list) 0) (eqb (membersIn used) 0) q)
 
 act-by : (a : Act) (s : Station) (now : Float) → actOf (s .round) (s .used) now ≡ a → Rel rest (s .wait .turn) → Low (s .round .list)
     → Stage (slotsIn (s .round .list)) rest (actBy a s now)

@@ -32,7 +32,7 @@ use Rattle.net.specs.declared.Turn.{Turn}
 use Rattle.net.specs.declared.Turn.the-variants.{Idle, Sending, Waiting}
 use Rattle.net.specs.declared.Wait.{Wait}
 use Rattle.net.specs.State.{indexOf, memberAt, withMember, withMembers, withCounted, withWait, withRound, withTotals, withRxsent, withRxdirty, alsoAck, alsoNews}
-use Rattle.net.specs.Net.{isMember, idleWait, Said, said}
+use Rattle.net.specs.Net.{isMember, idleWait, Said, said, membersIn}
 use Rattle.net.proofs.Laws.{index-lt, index-is, member-lt, member-is}
 use Rattle.bursts.specs.Rows.{seated}
 use Rattle.bursts.specs.Bursts.{acked, beyond, acksBurst, beaconOf, tellAt, tellAll, listSent, listTold, rxListBurst}
@@ -66,7 +66,7 @@ one-more s old c here i l h =
 fewer : (s : Station) → Within s (s .round .toack) (beyond 9 (acked s))
 fewer s i l h =
     let b = and-true (hasBit (acked s) i) _ (sym (beyond-has 9 (acked s) i (omega arith)) ∙ h) .0 in
-    inl (and-true (hasBit (s .round .toack) i) (hasBit (s .used) i) (sym (has-both (s .round .toack) (s .used) i) ∙ b) .0)
+    inl (and-true (hasBit (s .round .toack) i) (hasBit (membersIn (s .used)) i) (sym (has-both (s .round .toack) (membersIn (s .used)) i) ∙ b) .0)
 
 -- what is due of a reply is due of the running turn's
 abbrev Runs : Due → Turn → Type 0
