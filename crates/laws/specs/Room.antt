@@ -12,8 +12,8 @@ use Rattle.net.specs.declared.Station.{Station}
 use Rattle.station.specs.declared.Answer.the-variants.{Refused, Words}
 use Rattle.station.specs.Entries.{Outcome, answerOf, numberIn, wordsIn, admitOf, receiveOf, nextOf}
 
--- a call that was lent an output of `room` words: its words are 8,192 at most and have room; it answers how many they are, or its refusal, by the cases of `Answer` document 01's number and the count; and the output has
--- them all at its beginning, and behind them what it had
+-- a call that was lent an output of `room` words: its words are 8,192 at most and have room; it answers how many they are, or its refusal, and by the cases of
+-- `Answer` that is document 01's number and the count; and the output has them all at its beginning, and behind them what it had
 pub record Fits (o : Outcome) (room : ℕ) : Type 0 where
   pub most : length (o .words) ≤ 8192
   pub fit : length (o .words) ≤ room
