@@ -39,7 +39,7 @@ use Rattle.station.specs.SignOff.{vacant, leave, untried, bereft, bereaveAt, be
 use Rattle.promise.specs.Promise.{Net, net, admission, signing, result, outcome, isRefused, step, after, started, leads, LinksHold}
 use Rattle.promise.proofs.Links.{links}
 use Rattle.laws.specs.RoundTrip.{Unnamed, RoundTrip}
-use Rattle.laws.proofs.Vacant.{Apart, BlankIn}
+use Rattle.laws.specs.FreeSlots.{Apart, BlankIn}
 use Rattle.laws.proofs.VacantSign.{AllKeep}
 use Rattle.laws.proofs.VacantWalk.{runs-kept}
 

@@ -28,24 +28,7 @@ use Rattle.net.specs.declared.Wait.{Wait}
 use Rattle.net.specs.State.{indexOf, memberAt, withMembers, withMember, withUsed, withWait, withHears, withTable, tableOf}
 use Rattle.net.specs.Net.{isMember}
 use Rattle.net.proofs.Laws.{index-is, member-lt, member-has}
-use Rattle.station.specs.SignOff.{vacant}
-
--- slot i is neither polled nor relayed for
-abbrev pub Apart : ℕ → Turn → Type 0
-Apart i Idle = Unit {0}
-Apart i Sending = Unit {0}
-Apart i (Waiting r) = (r .slot ≡ i → ⊥) × (r .relayfor ≡ i → ⊥)
-
--- nothing is left of a boat in slot i
-pub record Blank (i : ℕ) (ms : List Member) (hears : List ℕ) (acks news round : ℕ) (now : Turn) (busy : ℕ) (owners : List ℕ) : Type 0 where
-  pub member : getD ms i noMember ≡ vacant
-  pub row : (j : ℕ) → j < 62 → getD hears (i * 62 + j) 0 ≡ 63
-  pub toack : hasBit acks i ≡ false
-  pub treenews : hasBit news i ≡ false
-  pub list : hasBit round i ≡ false
-  pub tried : (j : ℕ) → hasBit (getD ms j noMember .tried) i ≡ false
-  pub turn : Apart i now
-  pub cells : (c : ℕ) → hasBit busy c ≡ true → getD owners c 0 / 4294967296 ≡ i → ⊥
+use Rattle.laws.specs.FreeSlots.{Apart, Blank, BlankIn}
 
 -- where the slot has no boat; and the arrays are as long as they are, and no cell behind the 64 is taken
 pub record Kept (i used : ℕ) (ms : List Member) (hears : List ℕ) (toack treenews list : ℕ) (turn : Turn) (busy : ℕ) (owners : List ℕ) : Type 0 where
@@ -57,9 +40,6 @@ pub record Kept (i used : ℕ) (ms : List Member) (hears : List ℕ) (toack tree
 
 abbrev pub Keeps : ℕ → Station → Type 0
 Keeps i s = Kept i (s .used) (s .members) (s .hears) (s .round .toack) (s .round .treenews) (s .round .list) (s .wait .turn) (s .busy) (s .owners)
-
-abbrev pub BlankIn : ℕ → Station → Type 0
-BlankIn i s = Blank i (s .members) (s .hears) (s .round .toack) (s .round .treenews) (s .round .list) (s .wait .turn) (s .busy) (s .owners)
 
 -- a slot with a boat is another one
 pub differ : (used i j : ℕ) → hasBit used j ≡ true → hasBit used i ≡ false → j ≡ i → ⊥

@@ -5,3 +5,4 @@ pub mod Laws
 pub mod Logs
 pub mod Room
 pub mod RoundTrip
+pub mod FreeSlots
