@@ -8,6 +8,7 @@ pub mod WalkCalls
 pub mod Trees
 pub mod Rosters
 pub mod Links
+pub mod Shapes
 pub mod Chains
 pub mod Monitor
 pub mod TurnsWords
