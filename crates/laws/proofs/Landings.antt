@@ -14,9 +14,8 @@ use borrow.Author.Tests.{eqb-true, eq-eqb, ne-eqb}
 use Rattle.bits.specs.Mask.{hasBit, withBit}
 use Rattle.bits.proofs.Laws.{with-same}
 use Rattle.bits.proofs.Lists.{cond-keeps, cond-true, cases, eq-or-not, never-both}
-use Rattle.words.specs.Words.{Heard, Burst, Parsed, malformed, parsed, parse}
+use Rattle.words.specs.Words.{Heard, Burst, parsed}
 use Rattle.words.specs.Fine.{Fine, AllFine}
-use Rattle.words.proofs.Fine.{parse-fine}
 use Rattle.inbox.specs.declared.keep.Kept.the-variants.{Yes}
 use Rattle.inbox.proofs.Rule.{yes-is}
 use Rattle.stream.specs.declared.window.Window.{Window}
@@ -36,7 +35,7 @@ use Rattle.frames.specs.declared.Air.{Air}
 use Rattle.frames.specs.Reading.{Reading}
 use Rattle.frames.specs.Frames.{frameStep, readFrames}
 use Rattle.rx.specs.Reception.{airOf, ncsRx}
-use Rattle.station.specs.Entries.{Outcome, receiveBy, receiveRefusal, receiveOf, cellRefusal, freeOf}
+use Rattle.station.specs.Entries.{Outcome, receiveOf, cellRefusal, freeOf}
 use Rattle.promise.specs.Promise.{lentTo, Net, net, Call, admission, reception, decision, sending, closing, reading, freeing, charging, signing, result, inBook, outcome, step, after, alsoHanded, framesBy, Event2, eventsIn, answersOf}
 use Rattle.laws.specs.Marks.{alsoLanded, landedBy, landedIn}
 use Rattle.promise.proofs.Ledgers.{handed-other}
@@ -47,8 +46,9 @@ use Rattle.promise.proofs.Events.{events-none}
 use Rattle.promise.proofs.WalkFrames.{viewIn, offeredIn, FrameRead, other, unkept, piece, firstIn, rx-end}
 use Rattle.promise.proofs.Signs.{sign-member}
 use Rattle.promise.proofs.SignTies.{window-gone, window-still}
-use Rattle.promise.proofs.Messages.{admission-kept, decision-kept, sending-kept, closing-kept, reading-kept, charging-kept, refusedBy}
-use Rattle.promise.proofs.Sounds.{FitView, Fit, FitRead, accept-land, fit-frame, step-read-fit, read-fine, first-fit, other-store, room-of, step-fit}
+use Rattle.promise.proofs.Messages.{admission-kept, decision-kept, sending-kept, closing-kept, reading-kept, charging-kept}
+use Rattle.promise.proofs.Outcomes.{refusedBy, receive-cases}
+use Rattle.promise.proofs.Sounds.{FitView, Fit, FitRead, accept-land, fit-frame, step-read-fit, read-fine, first-fit, lent-fit, step-fit}
 
 -- ---- the cell of a landed message
 
@@ -247,22 +247,12 @@ module _ (f : ℕ → ℕ → Bool) (n : Net) (fit : Fit n) (told : Told f (n .s
   abbrev TellsAll : Outcome → Type 0
   TellsAll o = (i k : ℕ) → alsoLanded (eventsIn (o .words)) (o .station .owners) f i k ≡ handedOf (windowAt (o .station) i) k
 
-  module _ (words : List ℕ) (snr now : Float) (st : List ℕ) (room : ℕ) where
-    nothing-told : (i k : ℕ) → alsoLanded (eventsIn []) (n .station .owners) f i k ≡ handedOf (windowAt (n .station) i) k
-    nothing-told i k = ap (λ (es : List Event2). alsoLanded es (n .station .owners) f i k) events-none ∙ told i k
+  nothing-told : (i k : ℕ) → alsoLanded (eventsIn []) (n .station .owners) f i k ≡ handedOf (windowAt (n .station) i) k
+  nothing-told i k = ap (λ (es : List Event2). alsoLanded es (n .station .owners) f i k) events-none ∙ told i k
 
-    receive-log : (w : Parsed Burst) → parse words ≡ w → 6400 * n .station .count ≤ length st → TellsAll (receiveBy w (n .station) snr now st)
-    receive-log malformed q h = nothing-told
-    receive-log (parsed u) q h =
-        rx-log f (n .station) u snr now st (parse-fine words u q .frames)
-        (record { view = record { tidy = other-store (tableOf (n .station)) (n .store) st h (fit .view .tidy); sound = fit .view .sound }; long = fit .long }) told .numbers
-
-    received-told : TellsAll (receiveOf (n .station) words snr now st room)
-    unfolding receiveOf
-    received-told =
-        cond-keeps TellsAll (eqb (receiveRefusal room (length st) (n .station .count) now snr (parse words)) 0) _ _
-        (λ q. receive-log (parse words) refl (room-of n words snr now st room fit (eqb-true _ 0 q)))
-        (λ q. nothing-told)
+  received-told : (words : List ℕ) (snr now : Float) (st : List ℕ) (room : ℕ) → TellsAll (receiveOf (n .station) words snr now st room)
+  received-told words snr now st room =
+      receive-cases (λ w o. TellsAll o) (n .station) words snr now st room (λ w m q. nothing-told) (λ u g l. rx-log f (n .station) u snr now st (g .frames) (lent-fit n st l fit) told .numbers)
 
   kept-told : (c : Call) → Keeps (n .station) (outcome c n .station) → Told f (outcome c n .station)
   kept-told c k i j = told i j ∙ ap (λ (w : Window). handedOf w j) (sym (k .windows i))

@@ -16,9 +16,8 @@ use Rattle.bits.proofs.Lists.{cond-keeps, cond-true, and-true, eq-or-not, never
 use Rattle.wire.specs.declared.number.Number.{Number}
 use Rattle.wire.specs.Kinds.{tUp}
 use Rattle.wire.specs.Numbers.{widened}
-use Rattle.words.specs.Words.{Heard, lost, heard, Burst, Parsed, malformed, parsed, parse}
-use Rattle.words.specs.Fine.{Fine, AllFine}
-use Rattle.words.proofs.Fine.{parse-fine}
+use Rattle.words.specs.Words.{Heard, lost, heard, Burst, Parsed, parsed, parse}
+use Rattle.words.specs.Fine.{Fine, AllFine, FineBurst}
 use Rattle.inbox.specs.declared.cell.Cell.{Cell}
 use Rattle.inbox.specs.declared.keep.Kept.{Kept}
 use Rattle.inbox.specs.declared.keep.Kept.the-variants.{Yes}
@@ -48,16 +47,17 @@ use Rattle.frames.specs.declared.Air.{Air}
 use Rattle.frames.specs.Reading.{Reading}
 use Rattle.frames.specs.Frames.{frameStep, readFrames}
 use Rattle.rx.specs.Reception.{airOf, ncsRx}
-use Rattle.station.specs.Entries.{Outcome, refused, receiveBy, receiveRefusal, receiveOf, cellRefusal, freeOf, startRefusal}
+use Rattle.station.specs.Entries.{Outcome, refused, receivedAs, receiveOf, cellRefusal, freeOf, startRefusal}
 use Rattle.station.specs.SignOff.{signOff, signOffRefusal, signOffOf, isCellOf, clearAll}
 use Rattle.config.specs.declared.Given.{Given}
-use Rattle.promise.specs.Promise.{Lent, handed, another, lentTo, Net, net, ofBurst, Call, admission, reception, decision, sending, closing, reading, freeing, charging, signing, result, inBook, isRefused, step, after, started, isBoats, framesBy, LentOk}
+use Rattle.promise.specs.Promise.{lentTo, Net, net, ofBurst, Call, admission, reception, decision, sending, closing, reading, freeing, charging, signing, result, inBook, isRefused, step, after, started, isBoats, framesBy}
 use Rattle.laws.specs.Laws.{from, InCells, alsoIn, wentBy, wentIn, wentAll, wentRx, wentWith, inCells, StoreOk, StoresOk, AllCut, Splits, AllSplit}
 use Rattle.promise.proofs.Ties.{View, heldAt}
 use Rattle.promise.proofs.Pieces.{viewAfter}
 use Rattle.promise.proofs.Quiet.{windowAt, viewOf}
 use Rattle.promise.proofs.WalkFrames.{viewIn, isPiece, offeredIn, FrameRead, other, unkept, piece, firstIn, rx-end}
-use Rattle.promise.proofs.Messages.{admission-kept, decision-kept, sending-kept, closing-kept, reading-kept, charging-kept, refusedBy, same-cond}
+use Rattle.promise.proofs.Messages.{admission-kept, decision-kept, sending-kept, closing-kept, reading-kept, charging-kept, same-cond}
+use Rattle.promise.proofs.Outcomes.{refusedBy, receive-cases, lent-is}
 use Rattle.promise.proofs.Signs.{sign-beside, Cleared, cleared}
 use Rattle.promise.proofs.Sounds.{Fit, FitRead, fit-frame, step-read-fit, read-fine, first-fit, quiet-view, step-fit, runs-fit}
 use Rattle.promise.proofs.Turns.{start-is}
@@ -245,7 +245,7 @@ module _ (f : InCells) (n : Net) (fit : Fit n) (d : TracedIn f (viewOf (n .stati
       still j b = kept (ltb j 64 && isCellOf (tableOf (n .station)) slot j) (hasBit (n .station .busy) j) (sym (k .busy j) ∙ b)
 
   -- a reception, lent the store handed on
-  module _ (words : List ℕ) (snr now : Float) (st : List ℕ) (room : ℕ) where
+  module _ (words : List ℕ) (snr now : Float) (st : List ℕ) where
     abbrev Rx : Parsed Burst → Outcome → Type 0
     Rx w o =
         (refusedBy o ≡ false → n .store ≡ st)
@@ -254,22 +254,13 @@ module _ (f : InCells) (n : Net) (fit : Fit n) (d : TracedIn f (viewOf (n .stati
     refused-traced : (w : Parsed Burst) (m : ℕ) → eqb m 0 ≡ false → Rx w (refused m (n .station) st)
     refused-traced w m q same = rw q d
 
-    rx-by : (w : Parsed Burst) → parse words ≡ w → Rx w (receiveBy w (n .station) snr now st)
-    rx-by malformed q = refused-traced malformed 3 refl
-    rx-by (parsed u) q = λ same.
+    done-traced : (u : Burst) → FineBurst u → Rx (parsed u) (receivedAs (ncsRx (n .station) u snr now st))
+    done-traced u g same =
         subst (λ (store : List ℕ). TracedIn (wentRx (n .station) u snr now store f) (viewOf (ncsRx (n .station) u snr now store .station) (ncsRx (n .station) u snr now store .store))) (same refl)
-        (rx-traced (n .station) u snr now (n .store) f (parse-fine words u q .frames) (record { view = fit .view; long = fit .long }) d)
+        (rx-traced (n .station) u snr now (n .store) f (g .frames) (record { view = fit .view; long = fit .long }) d)
 
-    received-traced : Rx (parse words) (receiveOf (n .station) words snr now st room)
-    unfolding receiveOf
-    received-traced =
-        cond-keeps (Rx (parse words)) (eqb (receiveRefusal room (length st) (n .station .count) now snr (parse words)) 0) _ _
-        (λ _. rx-by (parse words) refl)
-        (λ q. refused-traced (parse words) (receiveRefusal room (length st) (n .station .count) now snr (parse words)) q)
-
-  lent-is : (lent : Lent) (t : Bool) → LentOk lent t → t ≡ false → n .store ≡ lentTo lent (n .store)
-  lent-is handed t k q = refl
-  lent-is (another st) t k q = absurd (never-both t k q)
+    received-traced : (room : ℕ) → Rx (parse words) (receiveOf (n .station) words snr now st room)
+    received-traced room = receive-cases Rx (n .station) words snr now st room refused-traced (λ u g l. done-traced u g)
 
   -- one that leaves cells and store alone
   quiet-traced : (c : Call) → viewOf (step c n .station) (step c n .store) ≡ viewOf (n .station) (n .store) → TracedIn f (viewOf (step c n .station) (step c n .store))
@@ -283,7 +274,7 @@ module _ (f : InCells) (n : Net) (fit : Fit n) (d : TracedIn f (viewOf (n .stati
   unfolding step result wentWith
   call-traced (admission packed relay now room) ok = quiet-traced (admission packed relay now room) (quiet-view (admission packed relay now room) n (admission-kept (n .station) packed relay now room) refl)
   call-traced (reception words snr now lent room numbers) ok =
-      received-traced words snr now (lentTo lent (n .store)) room (lent-is lent (isRefused (reception words snr now lent room numbers) n) ok)
+      received-traced words snr now (lentTo lent (n .store)) room (lent-is (n .store) lent (isRefused (reception words snr now lent room numbers) n) ok)
   call-traced (decision now room) ok = quiet-traced (decision now room) (quiet-view (decision now room) n (decision-kept (n .station) now room) refl)
   call-traced (sending now) ok = quiet-traced (sending now) (quiet-view (sending now) n (sending-kept (n .station) now) refl)
   call-traced (closing count) ok = quiet-traced (closing count) (quiet-view (closing count) n (closing-kept (n .station) count) refl)

@@ -29,6 +29,7 @@ pub mod QuietRx
 pub mod Readings
 pub mod WalkFrames
 pub mod Receptions
+pub mod Outcomes
 pub mod SignTies
 pub mod Messages
 pub mod Sounds

@@ -15,8 +15,7 @@ use Rattle.bits.proofs.Laws.{has-none, without-same, without-other}
 use Rattle.bits.proofs.Lists.{cond-keeps, cond-true, cond-false, eq-or-not, never-both}
 use Rattle.wire.specs.Kinds.{tiny, kIdle}
 use Rattle.wire.specs.Call.{unpackCall}
-use Rattle.words.specs.Words.{Burst, Parsed, malformed, parsed, parse}
-use Rattle.words.proofs.Fine.{parse-fine}
+use Rattle.words.specs.Words.{Burst, Parsed, parsed, parse}
 use Rattle.stream.specs.declared.window.Window.{Window}
 use Rattle.stream.specs.Window.{handedOf, freshOf}
 use Rattle.stream.specs.Table.{Table, freedTable, cellCount}
@@ -39,10 +38,11 @@ use Rattle.rx.specs.Ending.{busyWait, idleEnd, replyEnd, nothingMore, Ended}
 use Rattle.rx.specs.Reception.{Received, airOf, firstReading, receivedOf, ncsRx}
 use Rattle.config.specs.declared.Given.{Given}
 use Rattle.config.specs.Checks.{settingsOk, settingsOf}
-use Rattle.station.specs.Entries.{Outcome, refused, done, unless, admitted, receivedAs, receiveBy, receiveRefusal, receiveOf, admitRefusal, admitOf, nextRefusal, nextOf, sentOf, check1, closeRefusal, closeOf, startRefusal, startOf, cellRefusal, check22, readRefusal, readingOf, freeOf}
+use Rattle.station.specs.Entries.{Outcome, refused, done, unless, admitted, receivedAs, receiveOf, admitRefusal, admitOf, nextRefusal, nextOf, sentOf, check1, closeRefusal, closeOf, startRefusal, startOf, cellRefusal, check22, readRefusal, readingOf, freeOf}
 use Rattle.station.specs.SignOff.{signOff, signOffRefusal, signOffOf}
 use Rattle.dues.specs.Dues.{duesRefusal}
-use Rattle.promise.specs.Promise.{Lent, handed, another, lentTo, Net, net, ofBurst, InBook, Call, admission, reception, decision, sending, closing, reading, freeing, charging, signing, result, inBook, outcome, isRefused, step, started, Stays, Sent, sentNow, Message, Ledger, Book, emptyBook, same, alsoHanded, Entered, unchanged, bookFrames, framesBy, Event2, eventsIn, enter, enterAll, answersOf, bookEnds, bookDone, bookCall, FramesOk, LentOk, CallOk, CallsOk, Once, Paired, ReadsAs, AtCall, Holds, Stayed, stayed, handedIn, alsoStayed, OnceInStay, Messages}
+use Rattle.promise.specs.Promise.{Lent, lentTo, Net, net, ofBurst, InBook, Call, admission, reception, decision, sending, closing, reading, freeing, charging, signing, result, inBook, outcome, isRefused, step, started, Stays, Sent, sentNow, Message, Ledger, Book, emptyBook, same, alsoHanded, Entered, unchanged, bookFrames, framesBy, Event2, eventsIn, enter, enterAll, answersOf, bookEnds, bookDone, bookCall, FramesOk, LentOk, CallOk, CallsOk, Once, Paired, ReadsAs, AtCall, Holds, Stayed, stayed, handedIn, alsoStayed, OnceInStay, Messages}
+use Rattle.promise.proofs.Outcomes.{refusedBy, receive-cases, lent-is}
 use Rattle.promise.proofs.Ledgers.{none-below, same-true}
 use Rattle.promise.proofs.Ties.{View, Use, Vacant, Comes, useOf, useAt, heldAt, FineAt, entryOf, Tie, not-vacant, not-whole, use-vacant}
 use Rattle.promise.proofs.Quiet.{windowIn, Keeps, kept-self, viewOf, kept-view}
@@ -301,9 +301,6 @@ module _ (M : Sent) (n : Net) (b : Book) (tied : Tied M n b) (cell : ℕ) (is : 
             (eq-or-not d cell);
       }
 
-abbrev pub refusedBy : Outcome → Bool
-refusedBy o = cond (eqb (o .refusal) 0) false true
-
 module _ (M : Sent) (n : Net) (b : Book) (tied : Tied M n b) (cell : ℕ) where
   abbrev freedBook : Book
   freedBook = record { ledger = b .ledger; entry = enter cell none (b .entry); stay = b .stay }
@@ -493,27 +490,15 @@ module _ (M : Sent) (small : (s k : ℕ) → length (M s k) ≤ 2046) (n : Net) 
           after = z .got .after;
         }
 
-    rx-by : (w : Parsed Burst) → parse words ≡ w → Rx w (receiveBy w (n .station) snr now st)
-    rx-by malformed q = refused-good malformed 3 refl
-    rx-by (parsed u) q = done-good u (parse-fine words u q .count)
-
     rx-good : (room : ℕ) → Rx (parse words) (receiveOf (n .station) words snr now st room)
-    unfolding receiveOf
-    rx-good room =
-        cond-keeps (Rx (parse words)) (eqb (receiveRefusal room (length st) (n .station .count) now snr (parse words)) 0) _ _
-        (λ _. rx-by (parse words) refl)
-        (λ q. refused-good (parse words) (receiveRefusal room (length st) (n .station .count) now snr (parse words)) q)
-
-  lent-is : (lent : Lent) (t : Bool) → LentOk lent t → t ≡ false → n .store ≡ lentTo lent (n .store)
-  lent-is handed t k q = refl
-  lent-is (another other) t k q = absurd (never-both t k q)
+    rx-good room = receive-cases Rx (n .station) words snr now st room refused-good (λ u f l. done-good u (f .count))
 
   pub reception-good : (words : List ℕ) (lent : Lent) (room : ℕ)
       → CallOk M (inBook (reception words snr now lent room numbers)) (answersOf (reception words snr now lent room numbers) n) b
       → CallGood M (reception words snr now lent room numbers) n b
   unfolding step result
   reception-good words lent room ok =
-      let g = rx-good (lentTo lent (n .store)) words room (lent-is lent (isRefused (reception words snr now lent room numbers) n) (ok .0)) (ok .1) in
+      let g = rx-good (lentTo lent (n .store)) words room (lent-is (n .store) lent (isRefused (reception words snr now lent room numbers) n) (ok .0)) (ok .1) in
       record {
         tied = g .next;
         at = g .paired;

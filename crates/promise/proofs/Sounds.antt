@@ -12,9 +12,8 @@ use borrow.Author.Tests.{eqb-true, ltb-false}
 use Rattle.bits.proofs.Lists.{cond-keeps, eq-or-not}
 use Rattle.level.specs.Spans.{within}
 use Rattle.wire.specs.Kinds.{tiny}
-use Rattle.words.specs.Words.{Heard, Burst, Parsed, malformed, parsed, parse}
+use Rattle.words.specs.Words.{Heard, Burst, parsed}
 use Rattle.words.specs.Fine.{Fine, AllFine}
-use Rattle.words.proofs.Fine.{parse-fine}
 use Rattle.stream.specs.declared.window.Window.{Window}
 use Rattle.stream.specs.Window.{landOf}
 use Rattle.stream.specs.Table.{Table, Accepted, accept, hasLanded}
@@ -28,7 +27,7 @@ use Rattle.frames.specs.Reading.{Reading}
 use Rattle.frames.specs.Frames.{frameStep, readFrames}
 use Rattle.rx.specs.Reception.{Received, airOf, ncsRx}
 use Rattle.config.specs.declared.Given.{Given}
-use Rattle.station.specs.Entries.{Outcome, receiveBy, receiveRefusal, check1, check2, check3, receiveOf, startRefusal, cellRefusal, freeOf}
+use Rattle.station.specs.Entries.{Outcome, receiveOf, startRefusal, cellRefusal, freeOf}
 use Rattle.promise.specs.Promise.{Lent, lentTo, Net, net, Call, admission, reception, decision, sending, closing, reading, freeing, charging, signing, result, outcome, isRefused, step, after, started, framesBy}
 use Rattle.station.specs.SignOff.{signOff, signOffRefusal, signOffOf}
 use Rattle.net.proofs.Laws.{member-lt}
@@ -38,7 +37,8 @@ use Rattle.promise.proofs.Ties.{View}
 use Rattle.promise.proofs.Pieces.{windowsAfter, viewAfter}
 use Rattle.promise.proofs.Quiet.{windowAt, Keeps, viewOf, kept-view}
 use Rattle.promise.proofs.WalkFrames.{viewIn, FrameRead, other, unkept, piece, step-frame, firstIn, lastIn, RxEnd, rx-end}
-use Rattle.promise.proofs.Messages.{started-tied, admission-kept, decision-kept, sending-kept, closing-kept, reading-kept, charging-kept, refusedBy, same-cond}
+use Rattle.promise.proofs.Messages.{started-tied, admission-kept, decision-kept, sending-kept, closing-kept, reading-kept, charging-kept, same-cond}
+use Rattle.promise.proofs.Outcomes.{refusedBy, receive-cases}
 
 -- one to 64 cells, all in the store, and no message in two of them; every slot's window in its bounds
 pub record FitView (v : View) : Type 0 where
@@ -109,7 +109,7 @@ pub first-fit : (s : Station) (u : Burst) (now : Float) (store : List ℕ) → F
 first-fit s u now store f = record { view = f .view; long = f .long }
 
 -- only the store's length counts
-pub other-store : (t : Table) (store st : List ℕ) → 6400 * t .count ≤ length st → Tidy t store → Tidy t st
+other-store : (t : Table) (store st : List ℕ) → 6400 * t .count ≤ length st → Tidy t store → Tidy t st
 other-store t store st h d =
     record {
       some = d .some;
@@ -134,33 +134,16 @@ rx-fit s u snr now store k f =
     let g = frames-fit (airOf s (u .head) snr now) (framesBy (parsed u)) (firstIn s u now store) (read-fine u k) (first-fit s u now store f) in
     record { view = subst FitView (sym (c .view)) (g .view); long = c .long ∙ g .long }
 
-module _ (n : Net) (words : List ℕ) (snr now : Float) (st : List ℕ) (room : ℕ) (f : Fit n) where
-  abbrev FitOutcome : Outcome → Type 0
-  FitOutcome o = Fit (net (o .station) (cond (refusedBy o) (n .store) (o .store)))
+-- lent any store for all the cells
+pub lent-fit : (n : Net) (st : List ℕ) → 6400 * n .station .count ≤ length st → Fit n → Fit (net (n .station) st)
+lent-fit n st l f = record { view = record { tidy = other-store (tableOf (n .station)) (n .store) st l (f .view .tidy); sound = f .view .sound }; long = f .long }
 
-  -- a reception that is not refused was lent a store for all the cells
-  pub room-of : receiveRefusal room (length st) (n .station .count) now snr (parse words) ≡ 0 → 6400 * n .station .count ≤ length st
-  unfolding receiveRefusal
-  room-of = at (ltb room 8192) (ltb (length st / 6400) (n .station .count)) refl
-    where
-      at : (x y : Bool) → ltb (length st / 6400) (n .station .count) ≡ y → _≡_ {A = ℕ} (cond x 4 (cond y 7 (check1 now (check2 snr (check3 (parse words) 0))))) 0
-          → 6400 * n .station .count ≤ length st
-      at true y q e = absurd (omega arith)
-      at false true q e = absurd (omega arith)
-      at false false q e = let r = ltb-false (length st / 6400) (n .station .count) q in omega arith
-
-  receive-by : (w : Parsed Burst) → parse words ≡ w → 6400 * n .station .count ≤ length st → FitOutcome (receiveBy w (n .station) snr now st)
-  receive-by malformed q h = record { view = f .view; long = f .long }
-  receive-by (parsed u) q h =
-      rx-fit (n .station) u snr now st (parse-fine words u q .frames)
-      (record { view = record { tidy = other-store (tableOf (n .station)) (n .store) st h (f .view .tidy); sound = f .view .sound }; long = f .long })
-
-  receive-fit : FitOutcome (receiveOf (n .station) words snr now st room)
-  unfolding receiveOf
-  receive-fit =
-      cond-keeps FitOutcome (eqb (receiveRefusal room (length st) (n .station .count) now snr (parse words)) 0) _ _
-      (λ q. receive-by (parse words) refl (room-of (eqb-true _ 0 q)))
-      (λ q. subst (λ (t : Bool). Fit (net (n .station) (cond (cond t false true) (n .store) st))) (sym q) (record { view = f .view; long = f .long }))
+receive-fit : (n : Net) (words : List ℕ) (snr now : Float) (st : List ℕ) (room : ℕ) → Fit n
+    → Fit (net (receiveOf (n .station) words snr now st room .station) (cond (refusedBy (receiveOf (n .station) words snr now st room)) (n .store) (receiveOf (n .station) words snr now st room .store)))
+receive-fit n words snr now st room f =
+    receive-cases (λ w o. Fit (net (o .station) (cond (refusedBy o) (n .store) (o .store)))) (n .station) words snr now st room
+    (λ w m q. rw q (record { view = f .view; long = f .long }))
+    (λ u g l. rx-fit (n .station) u snr now st (g .frames) (lent-fit n st l f))
 
 -- ---- the calls
 
