@@ -1,7 +1,7 @@
--- One frame of a reception, read: a boat's piece does what the book says of it, and any other frame leaves every message alone. Assumes nothing.
-use mathlib.Core.Path.{_≡_, refl, sym, ap, _∙_, subst}
-use mathlib.Core.Bool.{Bool, true, false, not, cond, _&&_}
-use mathlib.Core.Option.{Option, none, some}
+-- The station and the events after a kept piece; what a frame leaves of a reception's running values, and every call of the number of cells. Assumes nothing.
+use mathlib.Core.Path.{_≡_, refl, sym, ap, _∙_}
+use mathlib.Core.Bool.{Bool, true, false, cond, _&&_}
+use mathlib.Core.Option.{none, some}
 use mathlib.Core.List.{List, [], _∷_, _++_}
 use mathlib.Core.Logic.{⊎-elim}
 use Prim.Native.Nat.{ℕ, _/_, _%_, _≤_, _<_}
@@ -11,7 +11,7 @@ use lib.Seq.{getD-set-same, getD-set-other}
 use lib.Dec.{eqb}
 use borrow.Author.Tests.{eq-eqb, ne-eqb}
 use Rattle.bits.specs.Mask.{hasBit}
-use Rattle.bits.proofs.Laws.{with-same, with-other}
+use Rattle.bits.proofs.Laws.{with-other}
 use Rattle.bits.proofs.Lists.{cond-keeps, le-or-lt, eq-or-not}
 use Rattle.wire.specs.Kinds.{tUp, tCtrl}
 use Rattle.words.specs.Words.{Heard, lost, heard}
@@ -28,13 +28,12 @@ use Rattle.net.specs.Net.{isMember}
 use Rattle.net.proofs.Laws.{index-lt, index-is, member-lt, member-none}
 use Rattle.frames.specs.declared.Air.{Air}
 use Rattle.frames.specs.Reading.{Reading}
-use Rattle.frames.specs.Pieces.{isAsideLeaf, heardMember, sizeOf, pieceMember, isRelayed, pieceEvents, trafficIf, relayIf, unkeptAt, keptPiece, takenPiece, pieceFrame}
-use Rattle.frames.specs.Frames.{readFrame, controlFrame}
-use Rattle.promise.specs.Promise.{Sent, Message, Ledger, Entered, unchanged, bookPiece, bookFrame, Event2, eventsIn, PieceOk, FrameOk}
-use Rattle.promise.proofs.Ties.{View, Tie}
-use Rattle.promise.proofs.Pieces.{alsoOne, Joint, windowsAfter, viewAfter, eventFor, Good, piece-good}
+use Rattle.frames.specs.Pieces.{isAsideLeaf, heardMember, sizeOf, pieceMember, isRelayed, pieceEvents, trafficIf, relayIf, keptPiece, pieceFrame}
+use Rattle.frames.specs.Frames.{readFrame}
+use Rattle.promise.specs.Promise.{Event2, eventsIn}
+use Rattle.promise.proofs.Pieces.{alsoOne, windowsAfter, viewAfter, eventFor}
 use Rattle.promise.proofs.Quiet.{windowIn, windowAt, Keeps, kept-self, viewOf, view-is, kept-view}
-use Rattle.promise.proofs.Events.{events-none, events-append, relayed-word, message-word}
+use Rattle.promise.proofs.Events.{events-none, relayed-word, message-word}
 use Rattle.promise.proofs.Signs.{sign-beside, cleared}
 use Rattle.promise.proofs.Walk.{Change, others, turned, over, hears, written, counted, promoted, moved, entered, piece, landed, freed, signsOff, Chain, chain-keeps}
 use Rattle.promise.proofs.WalkCalls.{all}
@@ -142,121 +141,6 @@ piece-events a s slot r low fit = at (hasLanded (r .landed)) refl
         cond-keeps (λ (ws : List ℕ). eventsIn ws ≡ one ∷ []) (isRelayed a s slot r) (eventWord 4 slot (a .polled) ∷ word) word
         (λ _. relayed-word slot (a .polled) word ∙ said (fit q)) (λ _. said (fit q))
     at false q = events-none
-
-joint-fit : (M : Sent) (l : Ledger) (v : View) (l′ : Ledger) (slot : ℕ) (r : Accepted) (out : List Message) (e : ℕ → Option Message)
-    → Joint M l v l′ (eventFor slot r) out e → hasLanded (r .landed) ≡ true → r .cell < 64
-joint-fit M l v l′ slot r out e j q =
-    go out (subst (λ (b : Bool). Joint M l v l′ (cond b (some (record { slot = slot; cell = r .cell; number = r .number % 256 })) none) out e) q j)
-  where
-    go : (o : List Message) → Joint M l v l′ (some (record { slot = slot; cell = r .cell; number = r .number % 256 })) o e → r .cell < 64
-    go [] j = absurd j
-    go (m ∷ []) j = j .fit
-    go (m ∷ n ∷ ms) j = absurd j
-
--- ---- one frame
-
--- what reading a frame comes to: from x to y, with the entry n in the book
-pub record Read (M : Sent) (l : Ledger) (e : ℕ → Option Message) (x y : Reading) (n : Entered Ledger) : Type 0 where
-  pub event : Option Event2
-  pub joint : Joint M l (viewOf (y .station) (y .store)) (n .left) event (n .out) e
-  pub events : eventsIn (y .words) ≡ eventsIn (x .words) ++ alsoOne event []
-  pub long : length (y .station .members) ≡ 62
-
-module _ (M : Sent) (small : (s k : ℕ) → length (M s k) ≤ 2046) (a : Air) (x : Reading) (l : Ledger) (e : ℕ → Option Message)
-    (tie : Tie M (viewOf (x .station) (x .store)) l e) (long : length (x .station .members) ≡ 62) where
-  quiet-read : (y : Reading) → Untouched x y → Read M l e x y (unchanged l)
-  quiet-read y u =
-      record {
-        event = none;
-        joint = record {
-          tie = subst (λ (v : View). Tie M v l e)
-              (sym (ap (viewOf (y .station)) (u .store) ∙ kept-view (x .station) (y .station) (x .store) (u .station))) tie;
-          handed = refl;
-        };
-        events = u .events;
-        long = u .station .long ∙ long;
-      }
-
-  module _ (slot field k : ℕ) (p : List ℕ) (low : slot < 64) (here : isMember (x .station .used) slot ≡ true) (ok : PieceOk M l slot k field p) where
-    abbrev r : Accepted
-    r = accept (tableOf (x .station)) (memberAt (x .station) slot .up) (x .store) slot field p
-
-    window-here : windowAt (x .station) slot ≡ memberAt (x .station) slot .up
-    window-here = ap (λ (t : Bool). cond t (memberAt (x .station) slot .up) freshOf) here
-
-    good : Good M l e (viewOf (x .station) (x .store)) slot r (cond (r .lost) (unchanged l) (bookPiece M slot k (field % 65536) (length p) l))
-    good =
-        subst (λ (w : Window).
-        let q = accept (tableOf (x .station)) w (x .store) slot field p in
-        Good M l e (viewOf (x .station) (x .store)) slot q (cond (q .lost) (unchanged l) (bookPiece M slot k (field % 65536) (length p) l)))
-        window-here (piece-good M small (viewOf (x .station) (x .store)) l e tie slot k field p ok)
-
-    kept-read : r .lost ≡ false → Read M l e x (keptPiece a slot r x) (bookPiece M slot k (field % 65536) (length p) l)
-    kept-read q =
-        let g : Good M l e (viewOf (x .station) (x .store)) slot r (bookPiece M slot k (field % 65536) (length p) l) =
-        subst (λ (b : Bool). Good M l e (viewOf (x .station) (x .store)) slot r (cond b (unchanged l) (bookPiece M slot k (field % 65536) (length p) l))) q good in
-        record {
-          event = eventFor slot r;
-          joint = subst (λ (v : View). Joint M l v (bookPiece M slot k (field % 65536) (length p) l .left) (eventFor slot r) (bookPiece M slot k (field % 65536) (length p) l .out) e)
-              (sym (piece-view a slot r x here long)) g;
-          events = events-append (x .words) (pieceEvents a (x .station) slot r)
-              ∙ ap (λ (es : List Event2). eventsIn (x .words) ++ es)
-              (piece-events a (x .station) slot r low (joint-fit M l _ _ slot r (bookPiece M slot k (field % 65536) (length p) l .out) e g));
-          long = piece-long a slot r x here long;
-        }
-
-    -- marked or not, by whether it was kept
-    taken-read : x .frame < 64 → hasBit (x .unkept) (x .frame) ≡ false
-        → Read M l e x (takenPiece a slot r x) (cond (not (hasBit (takenPiece a slot r x .unkept) (x .frame))) (bookPiece M slot k (field % 65536) (length p) l) (unchanged l))
-    taken-read few clear =
-        cond-keeps (λ (y : Reading). Read M l e x y (cond (not (hasBit (y .unkept) (x .frame))) (bookPiece M slot k (field % 65536) (length p) l) (unchanged l)))
-        (r .lost) (unkeptAt x) (keptPiece a slot r x)
-        (λ q.
-        subst (λ (t : Bool). Read M l e x (unkeptAt x) (cond (not t) (bookPiece M slot k (field % 65536) (length p) l) (unchanged l)))
-        (sym (with-same (x .unkept) (x .frame) few))
-        (record { event = none; joint = record { tie = tie; handed = refl }; events = untouched x .events; long = long }))
-        (λ q.
-        subst (λ (t : Bool). Read M l e x (keptPiece a slot r x) (cond (not t) (bookPiece M slot k (field % 65536) (length p) l) (unchanged l)))
-        (sym clear) (kept-read q))
-
-  -- the frame f, whose number is k; u and b are the book's answers for it
-  module _ (k : ℕ) (few : x .frame < 64) (clear : hasBit (x .unkept) (x .frame) ≡ false) where
-    control-read : (slot : ℕ) (p : List ℕ) → Untouched x (controlFrame a slot p x)
-    control-read slot p =
-        cond-keeps (Untouched x) (eqb (length p) 0) x _ (λ _. untouched x) (λ _. control-untouched a slot (getD p 0 0) (length p) p x)
-
-    abbrev entry : ℕ → ℕ → List ℕ → Bool → Bool → Reading → Entered Ledger
-    entry flags field p up member y =
-        cond (up && member && not (hasBit (y .unkept) (x .frame))) (bookPiece M (flags % 64) k (field % 65536) (length p) l) (unchanged l)
-
-    up-read : (flags field : ℕ) (p : List ℕ) → (isMember (x .station .used) (flags % 64) ≡ true → PieceOk M l (flags % 64) k field p)
-        → Read M l e x (pieceFrame a (flags % 64) field p x) (entry flags field p true (isMember (x .station .used) (flags % 64)) (pieceFrame a (flags % 64) field p x))
-    unfolding pieceFrame
-    up-read flags field p ok = at (isMember (x .station .used) (flags % 64)) refl
-      where
-        q : Accepted
-        q = accept (tableOf (x .station)) (memberAt (x .station) (flags % 64) .up) (x .store) (flags % 64) field p
-
-        at : (b : Bool) → isMember (x .station .used) (flags % 64) ≡ b
-            → Read M l e x (cond b (takenPiece a (flags % 64) q x) x) (entry flags field p true b (cond b (takenPiece a (flags % 64) q x) x))
-        at true h = taken-read (flags % 64) field k p (omega arith) h (ok h) few clear
-        at false h = quiet-read x (untouched x)
-
-    pub frame-read : (f : Heard) → FrameOk M l f k (x .station .used)
-        → Read M l e x (readFrame a f x) (bookFrame M f k (x .station .used) (hasBit (readFrame a f x .unkept) (x .frame)) l)
-    unfolding readFrame bookFrame
-    frame-read lost ok = quiet-read x (untouched x)
-    frame-read (heard flags field p) ok = at (eqb (flags / 64) tUp) refl
-      where
-        member : Bool
-        member = isMember (x .station .used) (flags % 64)
-
-        result : Bool → Reading
-        result b = cond b (pieceFrame a (flags % 64) field p x) (cond (eqb (flags / 64) tCtrl) (controlFrame a (flags % 64) p x) x)
-
-        at : (b : Bool) → eqb (flags / 64) tUp ≡ b → Read M l e x (result b) (entry flags field p b member (result b))
-        at true h = up-read flags field p (λ m. ok (ap (λ (t : Bool). t && member) h ∙ m))
-        at false h = quiet-read _ (cond-keeps (Untouched x) (eqb (flags / 64) tCtrl) _ x (λ _. control-read (flags % 64) p) (λ _. untouched x))
 
 -- ---- the running values: frame, members seen, and the marks of the other frames; and how many cells there are
 

@@ -1,6 +1,6 @@
 -- The frames of a reception, one after the other: its events 2 and the messages handed over pair off. Assumes nothing.
 use mathlib.Core.Path.{_≡_, refl, sym, ap, _∙_, subst}
-use mathlib.Core.Bool.{Bool, true, false}
+use mathlib.Core.Bool.{Bool, true, false, not, cond}
 use mathlib.Core.Option.{Option, none, some}
 use mathlib.Core.List.{List, [], _∷_, _++_, append-assoc}
 use mathlib.Core.Logic.{⊎-elim}
@@ -8,18 +8,20 @@ use Prim.Native.Nat.{ℕ, zero, suc, _+_, _%_, _≤_, _<_}
 use native.Mathlib.Omega.{arith}
 use lib.ListN.{length, getD, length-append}
 use Rattle.bits.specs.Mask.{hasBit}
+use Rattle.bits.proofs.Laws.{with-same}
 use Rattle.bits.proofs.Lists.{le-or-lt, never-both}
-use Rattle.words.specs.Words.{Heard}
+use Rattle.words.specs.Words.{Heard, lost, heard}
 use Rattle.frames.specs.declared.Air.{Air}
 use Rattle.frames.specs.Reading.{Reading}
-use Rattle.frames.specs.Frames.{readFrame, frameStep, readFrames}
-use Rattle.promise.specs.Promise.{Sent, Message, Ledger, Entered, same, alsoHanded, bookFrame, bookFrames, Event2, eventsIn, enter, enterAll, FrameOk, FramesOk, Pairs, Later, Rising, Once}
+use Rattle.frames.specs.Frames.{frameStep, readFrames}
+use Rattle.promise.specs.Promise.{Sent, Message, Ledger, Entered, unchanged, same, alsoHanded, bookPiece, isBoats, bookFrame, bookFrames, Event2, eventsIn, enter, enterAll, FrameOk, FramesOk, Pairs, Later, Rising, Once}
 use Rattle.promise.proofs.Ledgers.{same-true, same-self, handed-self, handed-other}
 use Rattle.promise.proofs.Ties.{View, Tie}
-use Rattle.promise.proofs.Pieces.{alsoOne, Joint}
+use Rattle.promise.proofs.Pieces.{alsoOne, Joint, eventFor, Good, piece-good}
 use Rattle.promise.proofs.Quiet.{viewOf}
 use Rattle.promise.proofs.QuietRx.{untouched}
-use Rattle.promise.proofs.Readings.{Read, frame-runs, frame-read, chain-count}
+use Rattle.promise.proofs.Readings.{frame-runs, chain-count}
+use Rattle.promise.proofs.WalkFrames.{viewIn, offeredIn, isPiece, Seen, FrameRead, other, unkept, piece, step-reads}
 use Rattle.promise.proofs.Walk.{start}
 use Rattle.promise.proofs.WalkRx.{frames-walk}
 use Rattle.promise.proofs.WalkCalls.{all}
@@ -104,6 +106,53 @@ combine M l e (some v) (m ∷ []) v₁ l₁ j es ms v₂ l₂ x =
         absurd (never-both (same (m .slot) (m .number) (x .slot) (x .number))
         (ap (λ (y : ℕ). same (m .slot) (m .number) y (x .number)) (sym p) ∙ ap (same (m .slot) (m .number) (m .slot)) (sym z) ∙ same-self (m .slot) (m .number)) (b .1)))
         (λ a. a) (le-or-lt (x .number) (m .number))
+
+-- ---- one frame, with the book's answers for it
+
+-- from x to y, with the entry n in the book
+pub record Read (M : Sent) (l : Ledger) (e : ℕ → Option Message) (x y : Reading) (n : Entered Ledger) : Type 0 where
+  pub event : Option Event2
+  pub joint : Joint M l (viewIn y) (n .left) event (n .out) e
+  pub events : eventsIn (y .words) ≡ eventsIn (x .words) ++ alsoOne event []
+  pub long : length (y .station .members) ≡ 62
+
+book-other : (M : Sent) (h : Heard) (k used : ℕ) (marked : Bool) (l : Ledger) → isPiece h used ≡ false → bookFrame M h k used marked l ≡ unchanged l
+unfolding bookFrame
+book-other M lost k used marked l q = refl
+book-other M (heard flags field p) k used marked l q = rw q refl
+
+book-by : (M : Sent) (flags field : ℕ) (p : List ℕ) (k used : ℕ) (marked : Bool) (l : Ledger) → isBoats flags used ≡ true
+    → bookFrame M (heard flags field p) k used marked l ≡ cond (not marked) (bookPiece M (flags % 64) k (field % 65536) (length p) l) (unchanged l)
+unfolding bookFrame
+book-by M flags field p k used marked l q = rw q refl
+
+module _ (M : Sent) (small : (s k : ℕ) → length (M s k) ≤ 2046) (x y : Reading) (l : Ledger) (e : ℕ → Option Message) (tie : Tie M (viewIn x) l e)
+    (k : ℕ) (few : x .frame < 64) (clear : hasBit (x .unkept) (x .frame) ≡ false) where
+  still-read : (m : ℕ) → Seen x y (viewIn x) [] m → Read M l e x y (unchanged l)
+  still-read m s = record { event = none; joint = record { tie = subst (λ (v : View). Tie M v l e) (sym (s .view)) tie; handed = refl }; events = s .events; long = s .long }
+
+  book-read : (h : Heard) → FrameOk M l h k (x .station .used) → FrameRead x y h → Read M l e x y (bookFrame M h k (x .station .used) (hasBit (y .unkept) (x .frame)) l)
+  book-read h ok (other q s) = subst (Read M l e x y) (sym (book-other M h k (x .station .used) (hasBit (y .unkept) (x .frame)) l q)) (still-read (x .unkept) s)
+  book-read h ok (unkept flags field p b q s) =
+      let marked : hasBit (y .unkept) (x .frame) ≡ true = ap (λ (m : ℕ). hasBit m (x .frame)) (s .mask) ∙ with-same (x .unkept) (x .frame) few in
+      subst (Read M l e x y)
+      (sym
+      (book-by M flags field p k (x .station .used) (hasBit (y .unkept) (x .frame)) l b
+      ∙ ap (λ (t : Bool). cond (not t) (bookPiece M (flags % 64) k (field % 65536) (length p) l) (unchanged l)) marked)) (still-read _ s)
+  book-read h ok (piece flags field p b q s) =
+      let bare : hasBit (y .unkept) (x .frame) ≡ false = ap (λ (m : ℕ). hasBit m (x .frame)) (s .mask) ∙ clear in
+      let n = bookPiece M (flags % 64) k (field % 65536) (length p) l in
+      let r = offeredIn x flags field p in
+      let g : Good M l e (viewIn x) (flags % 64) r n =
+      subst (λ (t : Bool). Good M l e (viewIn x) (flags % 64) r (cond t (unchanged l) n)) q (piece-good M small (viewIn x) l e tie (flags % 64) k field p (ok b)) in
+      subst (Read M l e x y)
+      (sym (book-by M flags field p k (x .station .used) (hasBit (y .unkept) (x .frame)) l b ∙ ap (λ (t : Bool). cond (not t) n (unchanged l)) bare))
+      (record {
+        event = eventFor (flags % 64) r;
+        joint = subst (λ (v : View). Joint M l v (n .left) (eventFor (flags % 64) r) (n .out) e) (sym (s .view)) g;
+        events = s .events;
+        long = s .long;
+      })
 
 -- ---- the running values
 
@@ -193,15 +242,12 @@ module _ (M : Sent) (small : (s k : ℕ) → length (M s k) ≤ 2046) (a : Air) 
   step-read : (f : Heard) (x : Reading) (i : ℕ) (l : Ledger) (e : ℕ → Option Message) → Ready x i → i < 64 → Tie M (viewOf (x .station) (x .store)) l e
       → length (x .station .members) ≡ 62 → (u : ℕ) (b : Bool) → x .station .used ≡ u → hasBit (frameStep a f x .unkept) i ≡ b → FrameOk M l f (getD numbers i 0) u
       → Read M l e x (frameStep a f x) (bookFrame M f (getD numbers i 0) u b l)
-  unfolding frameStep
   step-read f x i l e r few tie long u b p q ok =
-      let g = frame-read M small a x l e tie long (getD numbers i 0) (subst (λ (y : ℕ). y < 64) (sym (r .frame)) few)
-      (r .clear (x .frame) (subst (λ (y : ℕ). i ≤ y) (sym (r .frame)) (omega arith))) f (subst (FrameOk M l f (getD numbers i 0)) (sym p) ok) in
-      let t : hasBit (readFrame a f x .unkept) (x .frame) ≡ b = ap (hasBit (readFrame a f x .unkept)) (r .frame) ∙ q in
-      let w : Read M l e x (readFrame a f x) (bookFrame M f (getD numbers i 0) u b l) =
-      subst (λ (y : ℕ). Read M l e x (readFrame a f x) (bookFrame M f (getD numbers i 0) y b l)) p
-      (subst (λ (y : Bool). Read M l e x (readFrame a f x) (bookFrame M f (getD numbers i 0) (x .station .used) y l)) t g) in
-      record { event = w .event; joint = w .joint; events = w .events; long = w .long }
+      let g = book-read M small x (frameStep a f x) l e tie (getD numbers i 0) (subst (λ (y : ℕ). y < 64) (sym (r .frame)) few)
+      (r .clear (x .frame) (subst (λ (y : ℕ). i ≤ y) (sym (r .frame)) (omega arith))) f (subst (FrameOk M l f (getD numbers i 0)) (sym p) ok) (step-reads a x (tie .tidy) long f) in
+      let t : hasBit (frameStep a f x .unkept) (x .frame) ≡ b = ap (hasBit (frameStep a f x .unkept)) (r .frame) ∙ q in
+      subst (λ (y : ℕ). Read M l e x (frameStep a f x) (bookFrame M f (getD numbers i 0) y b l)) p
+      (subst (λ (y : Bool). Read M l e x (frameStep a f x) (bookFrame M f (getD numbers i 0) (x .station .used) y l)) t g)
 
   pub frames-read : (fs : List Heard) (x : Reading) (i : ℕ) (l : Ledger) (e : ℕ → Option Message) → Ready x i → i + length fs ≤ 64
       → Tie M (viewOf (x .station) (x .store)) l e → length (x .station .members) ≡ 62

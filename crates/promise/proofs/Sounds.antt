@@ -36,7 +36,7 @@ use Rattle.promise.proofs.SignTies.{window-gone, window-still}
 use Rattle.promise.proofs.Ties.{View}
 use Rattle.promise.proofs.Pieces.{windowsAfter, viewAfter}
 use Rattle.promise.proofs.Quiet.{windowAt, Keeps, viewOf, kept-view}
-use Rattle.promise.proofs.WalkFrames.{viewIn, FrameRead, other, unkept, piece, step-frame, firstIn, lastIn, RxEnd, rx-end}
+use Rattle.promise.proofs.WalkFrames.{viewIn, FrameRead, other, unkept, piece, step-reads, firstIn, lastIn, RxEnd, rx-end}
 use Rattle.promise.proofs.Messages.{started-tied, admission-kept, decision-kept, sending-kept, closing-kept, reading-kept, charging-kept, same-cond}
 use Rattle.promise.proofs.Outcomes.{refusedBy, receive-cases}
 
@@ -92,7 +92,7 @@ read-fit x y h k f (piece flags field p b q s) =
 
 -- so each frame is read as WalkFrames has it
 pub fit-frame : (a : Air) (h : Heard) (x : Reading) → FitRead x → FrameRead x (frameStep a h x) h
-fit-frame a h x f = step-frame a x (f .view .tidy) (f .long) h
+fit-frame a h x f = step-reads a x (f .view .tidy) (f .long) h
 
 pub step-read-fit : (a : Air) (h : Heard) (x : Reading) → Fine h → FitRead x → FitRead (frameStep a h x)
 step-read-fit a h x k f = read-fit x (frameStep a h x) h k f (fit-frame a h x f)

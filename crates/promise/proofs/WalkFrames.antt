@@ -1,6 +1,6 @@
 -- What reading a frame comes to, of cells, store, windows and events 2: it leaves them alone, or a boat's piece is offered to its cell, and is kept or not. A property of
 -- these is proved by these three clauses, and holds then of every frame and of every reception. Assumes nothing.
-use mathlib.Core.Path.{_≡_, refl, sym, ap, _∙_, subst}
+use mathlib.Core.Path.{_≡_, refl, ap, _∙_, subst}
 use mathlib.Core.Bool.{Bool, true, false, cond, _&&_}
 use mathlib.Core.List.{List, [], _∷_, _++_}
 use Prim.Native.Nat.{ℕ, _/_, _%_, _<_}
@@ -8,7 +8,8 @@ use native.Mathlib.Omega.{arith}
 use lib.ListN.{length, getD}
 use lib.Dec.{eqb}
 use lib.Ieee.{Float}
-use Rattle.bits.proofs.Lists.{cond-keeps, cond-true, never-both}
+use Rattle.bits.specs.Mask.{withBit}
+use Rattle.bits.proofs.Lists.{cond-keeps, cond-true}
 use Rattle.wire.specs.Kinds.{tiny, kIdle, tUp, tCtrl}
 use Rattle.words.specs.Words.{Heard, lost, heard, Burst, parsed}
 use Rattle.stream.specs.declared.window.Window.{Window}
@@ -46,18 +47,20 @@ abbrev pub isPiece : Heard → ℕ → Bool
 isPiece lost used = false
 isPiece (heard flags field p) used = isBoats flags used
 
--- from x to y these are the view v, the events and more of them; and the roster stays as long
-pub record Seen (x y : Reading) (v : View) (es : List Event2) : Type 0 where
+-- from x to y: the view is v then, these events 2 are new, and m is the mask; the roster stays as long
+pub record Seen (x y : Reading) (v : View) (es : List Event2) (m : ℕ) : Type 0 where
   pub view : viewIn y ≡ v
   pub events : eventsIn (y .words) ≡ eventsIn (x .words) ++ es
   pub long : length (y .station .members) ≡ 62
+  pub mask : y .unkept ≡ m
 
 pub data FrameRead (x y : Reading) : Heard → Type 0 where
-  other : {h : Heard} → isPiece h (x .station .used) ≡ false → Seen x y (viewIn x) [] → FrameRead x y h
-  unkept : (flags field : ℕ) (p : List ℕ) → isBoats flags (x .station .used) ≡ true → offeredIn x flags field p .lost ≡ true → Seen x y (viewIn x) []
+  other : {h : Heard} → isPiece h (x .station .used) ≡ false → Seen x y (viewIn x) [] (x .unkept) → FrameRead x y h
+  unkept : (flags field : ℕ) (p : List ℕ) → isBoats flags (x .station .used) ≡ true → offeredIn x flags field p .lost ≡ true → Seen x y (viewIn x) [] (withBit (x .unkept) (x .frame))
       → FrameRead x y (heard flags field p)
   piece : (flags field : ℕ) (p : List ℕ) → isBoats flags (x .station .used) ≡ true → offeredIn x flags field p .lost ≡ false
-      → Seen x y (viewAfter (viewIn x) (flags % 64) (offeredIn x flags field p)) (alsoOne (eventFor (flags % 64) (offeredIn x flags field p)) []) → FrameRead x y (heard flags field p)
+      → Seen x y (viewAfter (viewIn x) (flags % 64) (offeredIn x flags field p)) (alsoOne (eventFor (flags % 64) (offeredIn x flags field p)) []) (x .unkept)
+      → FrameRead x y (heard flags field p)
 
 -- a landed message's cell is one of 64
 landed-fit : (t : Table) (w : Window) (store : List ℕ) (slot field : ℕ) (p : List ℕ) → Tidy t store
@@ -67,22 +70,23 @@ landed-fit t w store slot field p tidy =
     (λ e h. omega arith) (λ k e g h. omega arith) (λ k o a q c h. place-in t store tidy slot k .0) (λ k o q h. place-in t store tidy slot k .0)
 
 module _ (a : Air) (x : Reading) (tidy : Tidy (tableOf (x .station)) (x .store)) (long : length (x .station .members) ≡ 62) where
-  untouched-seen : (y : Reading) → Untouched x y → Seen x y (viewIn x) []
+  untouched-seen : (y : Reading) → Untouched x y → Seen x y (viewIn x) [] (x .unkept)
   untouched-seen y u =
-      record { view = ap (viewOf (y .station)) (u .store) ∙ kept-view (x .station) (y .station) (x .store) (u .station); events = u .events; long = u .station .long ∙ long }
+      record { view = ap (viewOf (y .station)) (u .store) ∙ kept-view (x .station) (y .station) (x .store) (u .station); events = u .events; long = u .station .long ∙ long; mask = u .unkept }
 
   module _ (flags field : ℕ) (p : List ℕ) (boat : isBoats flags (x .station .used) ≡ true) (here : isMember (x .station .used) (flags % 64) ≡ true) where
     window-here : windowAt (x .station) (flags % 64) ≡ memberAt (x .station) (flags % 64) .up
     window-here = cond-true (isMember (x .station .used) (flags % 64)) (memberAt (x .station) (flags % 64) .up) freshOf here
 
     kept-seen : (r : Accepted) → (hasLanded (r .landed) ≡ true → r .cell < 64)
-        → Seen x (keptPiece a (flags % 64) r x) (viewAfter (viewIn x) (flags % 64) r) (alsoOne (eventFor (flags % 64) r) [])
+        → Seen x (keptPiece a (flags % 64) r x) (viewAfter (viewIn x) (flags % 64) r) (alsoOne (eventFor (flags % 64) r) []) (x .unkept)
     kept-seen r fit =
         record {
           view = piece-view a (flags % 64) r x here long;
           events = events-append (x .words) (pieceEvents a (x .station) (flags % 64) r)
               ∙ ap (λ (es : List Event2). eventsIn (x .words) ++ es) (piece-events a (x .station) (flags % 64) r (omega arith) fit);
           long = piece-long a (flags % 64) r x here long;
+          mask = refl;
         }
 
     taken-read : FrameRead x (takenPiece a (flags % 64) (accept (tableOf (x .station)) (memberAt (x .station) (flags % 64) .up) (x .store) (flags % 64) field p) x) (heard flags field p)
@@ -95,7 +99,7 @@ module _ (a : Air) (x : Reading) (tidy : Tidy (tableOf (x .station)) (x .store))
         by-view : FrameRead x (takenPiece a (flags % 64) r x) (heard flags field p)
         by-view =
             cond-keeps (λ (y : Reading). FrameRead x y (heard flags field p)) (r .lost) (unkeptAt x) (keptPiece a (flags % 64) r x)
-            (λ q. unkept flags field p boat q (record { view = refl; events = untouched x .events; long = long }))
+            (λ q. unkept flags field p boat q (record { view = refl; events = untouched x .events; long = long; mask = refl }))
             (λ q. piece flags field p boat q (kept-seen r (landed-fit (tableOf (x .station)) (windowAt (x .station) (flags % 64)) (x .store) (flags % 64) field p tidy)))
 
   frame-read : (h : Heard) → FrameRead x (readFrame a h x) h
@@ -118,14 +122,18 @@ module _ (a : Air) (x : Reading) (tidy : Tidy (tableOf (x .station)) (x .store))
       go false e member m = other (ap (λ (t : Bool). t && isMember (x .station .used) (flags % 64)) e) (untouched-seen _ control)
 
   -- the same, on to the next frame
-  again : (y z : Reading) (h : Heard) → viewIn z ≡ viewIn y → z .words ≡ y .words → length (z .station .members) ≡ length (y .station .members) → FrameRead x y h → FrameRead x z h
-  again y z h v w n (other q s) = other q (record { view = v ∙ s .view; events = ap eventsIn w ∙ s .events; long = n ∙ s .long })
-  again y z h v w n (unkept flags field p b q s) = unkept flags field p b q (record { view = v ∙ s .view; events = ap eventsIn w ∙ s .events; long = n ∙ s .long })
-  again y z h v w n (piece flags field p b q s) = piece flags field p b q (record { view = v ∙ s .view; events = ap eventsIn w ∙ s .events; long = n ∙ s .long })
+  next-seen : (y z : Reading) (v : View) (es : List Event2) (m : ℕ) → viewIn z ≡ viewIn y → z .words ≡ y .words → z .station ≡ y .station → z .unkept ≡ y .unkept → Seen x y v es m → Seen x z v es m
+  next-seen y z v es m p w t u s =
+      record { view = p ∙ s .view; events = ap eventsIn w ∙ s .events; long = ap (λ (q : Station). length (q .members)) t ∙ s .long; mask = u ∙ s .mask }
 
-  pub step-frame : (h : Heard) → FrameRead x (frameStep a h x) h
+  again : (y z : Reading) (h : Heard) → viewIn z ≡ viewIn y → z .words ≡ y .words → z .station ≡ y .station → z .unkept ≡ y .unkept → FrameRead x y h → FrameRead x z h
+  again y z h p w t u (other q s) = other q (next-seen y z _ _ _ p w t u s)
+  again y z h p w t u (unkept flags field c b q s) = unkept flags field c b q (next-seen y z _ _ _ p w t u s)
+  again y z h p w t u (piece flags field c b q s) = piece flags field c b q (next-seen y z _ _ _ p w t u s)
+
+  pub step-reads : (h : Heard) → FrameRead x (frameStep a h x) h
   unfolding frameStep
-  step-frame h = again (readFrame a h x) _ h refl refl refl (frame-read h)
+  step-reads h = again (readFrame a h x) _ h refl refl refl refl (frame-read h)
 
 -- ---- a reception
 
