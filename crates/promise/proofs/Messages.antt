@@ -4,7 +4,7 @@ use mathlib.Core.Bool.{Bool, true, false, cond, _&&_, _||_}
 use mathlib.Core.Option.{Option, none}
 use mathlib.Core.List.{List, [], _∷_, _++_, append-nil}
 use mathlib.Core.Logic.{⊎-elim}
-use Prim.Native.Nat.{ℕ, suc, _*_, _/_, _≤_, _<_}
+use Prim.Native.Nat.{ℕ, suc, _+_, _*_, _/_, _≤_, _<_}
 use native.Mathlib.Omega.{arith}
 use lib.ListN.{length, getD, replicate, length-replicate}
 use lib.Dec.{eqb, ltb, leb}
@@ -13,9 +13,9 @@ use borrow.Author.Tests.{eqb-true, ltb-false, eq-eqb, ne-eqb, le-ltb, lt-leb}
 use Rattle.bits.specs.Mask.{hasBit}
 use Rattle.bits.proofs.Laws.{has-none, without-same, without-other}
 use Rattle.bits.proofs.Lists.{cond-keeps, cond-true, cond-false, eq-or-not, never-both}
-use Rattle.wire.specs.Kinds.{tiny, kIdle}
+use Rattle.wire.specs.Kinds.{tiny}
 use Rattle.wire.specs.Call.{unpackCall}
-use Rattle.words.specs.Words.{Burst, Parsed, parsed, parse}
+use Rattle.words.specs.Words.{Heard, Burst, Parsed, parsed, parse}
 use Rattle.stream.specs.declared.window.Window.{Window}
 use Rattle.stream.specs.Window.{handedOf, freshOf}
 use Rattle.stream.specs.Table.{Table, freedTable, cellCount}
@@ -26,22 +26,18 @@ use Rattle.roster.specs.Members.{newMember}
 use Rattle.level.specs.Consts.{nought}
 use Rattle.net.specs.declared.Station.{Station}
 use Rattle.net.specs.declared.Settings.{Settings}
-use Rattle.net.specs.State.{tableOf, withTable, withWait}
+use Rattle.net.specs.State.{tableOf, withTable}
 use Rattle.net.specs.Net.{isMember, newStation, blankCall, onTxDone}
 use Rattle.net.proofs.Laws.{member-lt}
 use Rattle.admit.specs.Admission.{seatOf, isFull, viaFor}
 use Rattle.next.specs.Next.{ncsNext}
-use Rattle.frames.specs.Reading.{Reading}
-use Rattle.frames.specs.Frames.{readFrames}
-use Rattle.frames.specs.declared.Air.{Air}
-use Rattle.rx.specs.Ending.{busyWait, idleEnd, replyEnd, nothingMore, Ended}
-use Rattle.rx.specs.Reception.{Received, airOf, firstReading, receivedOf, ncsRx}
+use Rattle.rx.specs.Reception.{Received, airOf, ncsRx}
 use Rattle.config.specs.declared.Given.{Given}
 use Rattle.config.specs.Checks.{settingsOk, settingsOf}
 use Rattle.station.specs.Entries.{Outcome, refused, done, unless, admitted, receivedAs, receiveOf, admitRefusal, admitOf, nextRefusal, nextOf, sentOf, check1, closeRefusal, closeOf, startRefusal, startOf, cellRefusal, check22, readRefusal, readingOf, freeOf}
 use Rattle.station.specs.SignOff.{signOff, signOffRefusal, signOffOf}
 use Rattle.dues.specs.Dues.{duesRefusal}
-use Rattle.promise.specs.Promise.{Lent, lentTo, Net, net, ofBurst, InBook, Call, admission, reception, decision, sending, closing, reading, freeing, charging, signing, result, inBook, outcome, isRefused, step, started, Stays, Sent, sentNow, Message, Ledger, Book, emptyBook, same, alsoHanded, Entered, unchanged, bookFrames, framesBy, Event2, eventsIn, enter, enterAll, answersOf, bookEnds, bookDone, bookCall, FramesOk, LentOk, CallOk, CallsOk, Once, Paired, ReadsAs, AtCall, Holds, Stayed, stayed, handedIn, alsoStayed, OnceInStay, Messages}
+use Rattle.promise.specs.Promise.{Lent, lentTo, Net, net, ofBurst, InBook, Call, admission, reception, decision, sending, closing, reading, freeing, charging, signing, result, inBook, outcome, isRefused, step, started, Stays, Sent, sentNow, Message, Ledger, Book, emptyBook, same, alsoHanded, Entered, unchanged, bookFrames, framesBy, Event2, eventsIn, enter, enterAll, answersOf, bookEnds, bookDone, bookCall, FramesOk, CallOk, CallsOk, Once, Paired, ReadsAs, AtCall, Holds, Stayed, stayed, handedIn, alsoStayed, OnceInStay, Messages}
 use Rattle.promise.proofs.Outcomes.{refusedBy, receive-cases, lent-is}
 use Rattle.promise.proofs.Ledgers.{none-below, same-true}
 use Rattle.promise.proofs.Ties.{View, Use, Vacant, Comes, useOf, useAt, heldAt, FineAt, entryOf, Tie, not-vacant, not-whole, use-vacant}
@@ -49,13 +45,13 @@ use Rattle.promise.proofs.Quiet.{windowIn, Keeps, kept-self, viewOf, ke
 use Rattle.promise.proofs.QuietWalk.{uncelled, keeps}
 use Rattle.promise.proofs.WalkCalls.{all, admission-walk, decision-walk, sending-walk, closing-walk, step-walk}
 use Rattle.promise.proofs.Readings.{chain-count}
-use Rattle.promise.proofs.Events.{events-none, append-quiet}
+use Rattle.promise.proofs.Events.{events-none}
 use Rattle.promise.proofs.Short.{short-admit, short-next}
-use Rattle.promise.proofs.QuietRx.{QuietEnd, idle-kept, reply-kept}
 use Rattle.promise.proofs.Signs.{sign-member, signed}
 use Rattle.promise.proofs.SignTies.{ends-here, ends-there, stay-here, stay-there, sign-tie}
-use Rattle.promise.proofs.Receptions.{allHanded, Ready, frames-read}
+use Rattle.promise.proofs.Receptions.{allHanded, frames-read}
 use Rattle.promise.proofs.Receptions as receptions
+use Rattle.promise.proofs.WalkFrames.{firstIn, lastIn, rx-end}
 
 -- what is handed from call to call, tied to the book
 pub record Tied (M : Sent) (n : Net) (b : Book) : Type 0 where
@@ -359,74 +355,35 @@ record RxDone (M : Sent) (count : ℕ) (l : Ledger) (e : ℕ → Option Message)
   pub got : receptions.Received M count (eventsIn (r .words)) (h .out) (viewOf (r .station) (r .store)) (h .left) (l .handed) e
   pub long : length (r .station .members) ≡ 62
 
--- its end leaves every message alone
-finish : (M : Sent) (count : ℕ) (l : Ledger) (e : ℕ → Option Message) (y : Reading) (h : Entered Ledger) (es : List Event2)
-    → receptions.Received M count es (h .out) (viewOf (y .station) (y .store)) (h .left) (l .handed) e → eventsIn (y .words) ≡ es → length (y .station .members) ≡ 62
-    → (d : Ended) → QuietEnd (y .station) d → RxDone M count l e (receivedOf y d) h
-finish M count l e y h es g q long d k =
-    let w : eventsIn (y .words ++ d .burst) ≡ es = append-quiet (y .words) (d .burst) es q (k .1) ∙ append-nil es in
-    record {
-      got = subst (λ (x : List Event2). receptions.Received M count x (h .out) (viewOf (d .station) (y .store)) (h .left) (l .handed) e) (sym w)
-          (subst (λ (v : View). receptions.Received M count es (h .out) v (h .left) (l .handed) e) (sym (kept-view (y .station) (d .station) (y .store) (k .0))) g);
-      long = k .0 .long ∙ long;
-    }
-
 module _ (M : Sent) (small : (s k : ℕ) → length (M s k) ≤ 2046) (n : Net) (b : Book) (tied : Tied M n b) (numbers : List ℕ) (snr now : Float) where
   module _ (u : Burst) (few : length (u .frames) ≤ 64) where
-    abbrev air : Air
-    air = airOf (n .station) (u .head) snr now
+    abbrev frames : List Heard
+    frames = framesBy (parsed u)
 
-    abbrev first : Reading
-    first = firstReading (withWait (n .station) (busyWait (n .station .wait) (u .head) (n .station .settings) now)) (n .store)
+    abbrev booked : List ℕ → ℕ → Entered Ledger
+    booked seen mask = bookFrames M frames 0 numbers seen mask (b .ledger)
 
-    abbrev last : Reading
-    last = readFrames air (u .frames) first
+    few-read : 0 + length frames ≤ 64
+    few-read = cond-keeps (λ (fs : List Heard). 0 + length fs ≤ 64) (eqb (u .head .code) tiny) [] (u .frames) (λ _. omega arith) (λ _. omega arith)
 
-    ready : Ready first 0
-    ready = record { frame = refl; seen = refl; clear = λ j h. has-none j }
-
-    full-done : FramesOk M (u .frames) 0 numbers (last .seen) (last .unkept) (b .ledger)
-        → RxDone M (n .station .count) (b .ledger) (b .entry) (receivedOf last (replyEnd air (u .head) last)) (bookFrames M (u .frames) 0 numbers (last .seen) (last .unkept) (b .ledger))
-    full-done ok =
-        let z = frames-read M small air numbers (u .frames) first 0 (b .ledger) (b .entry) ready (omega arith) (tied .tie) (tied .long) ok in
-        finish M (n .station .count) (b .ledger) (b .entry) last (bookFrames M (u .frames) 0 numbers (last .seen) (last .unkept) (b .ledger)) (z .events) (z .got)
-        (z .words ∙ ap (λ (x : List Event2). x ++ z .events) events-none) (z .long)
-        (replyEnd air (u .head) last) (reply-kept air (u .head) last)
-
-    tiny-done : (h : Entered Ledger) → h .left ≡ b .ledger → h .out ≡ []
-        → RxDone M (n .station .count) (b .ledger) (b .entry) (receivedOf first (cond (eqb (u .head .hi) kIdle) (idleEnd air (u .head .extra) (first .station)) (nothingMore (first .station)))) h
-    tiny-done h p q =
-        finish M (n .station .count) (b .ledger) (b .entry) first h []
-        (subst (λ (ms : List Message). receptions.Received M (n .station .count) [] ms (viewOf (first .station) (first .store)) (h .left) (b .ledger .handed) (b .entry)) (sym q)
-        (subst (λ (l : Ledger). receptions.Received M (n .station .count) [] [] (viewOf (first .station) (first .store)) l (b .ledger .handed) (b .entry)) (sym p)
-        (record { tie = tied .tie; pairs = tt; rising = tt; once = tt; after = refl })))
-        events-none (tied .long)
-        (cond (eqb (u .head .hi) kIdle) (idleEnd air (u .head .extra) (first .station)) (nothingMore (first .station)))
-        (cond-keeps (QuietEnd (first .station)) (eqb (u .head .hi) kIdle) _ _
-        (λ _. idle-kept air (u .head .extra) (first .station))
-        (λ _. (kept-self (first .station), events-none)))
-
-    rx-done : FramesOk M (framesBy (parsed u)) 0 numbers (ncsRx (n .station) u snr now (n .store) .seen) (ncsRx (n .station) u snr now (n .store) .unkept) (b .ledger)
-        → RxDone M (n .station .count) (b .ledger) (b .entry) (ncsRx (n .station) u snr now (n .store))
-        (bookFrames M (framesBy (parsed u)) 0 numbers (ncsRx (n .station) u snr now (n .store) .seen) (ncsRx (n .station) u snr now (n .store) .unkept) (b .ledger))
-    unfolding ncsRx
-    rx-done = at (eqb (u .head .code) tiny)
-      where
-        r : Bool → Received
-        r t =
-            cond t (receivedOf first (cond (eqb (u .head .hi) kIdle) (idleEnd air (u .head .extra) (first .station)) (nothingMore (first .station))))
-            (receivedOf last (replyEnd air (u .head) last))
-
-        none-read : (seen : List ℕ) (mask : ℕ) → bookFrames M [] 0 numbers seen mask (b .ledger) ≡ unchanged (b .ledger)
-        none-read seen mask = unfold bookFrames in refl
-
-        at : (t : Bool) → FramesOk M (cond t [] (u .frames)) 0 numbers (r t .seen) (r t .unkept) (b .ledger)
-            → RxDone M (n .station .count) (b .ledger) (b .entry) (r t) (bookFrames M (cond t [] (u .frames)) 0 numbers (r t .seen) (r t .unkept) (b .ledger))
-        at true ok =
-            tiny-done (bookFrames M [] 0 numbers (r true .seen) (r true .unkept) (b .ledger))
-            (ap (λ (h : Entered Ledger). h .left) (none-read (r true .seen) (r true .unkept)))
-            (ap (λ (h : Entered Ledger). h .out) (none-read (r true .seen) (r true .unkept)))
-        at false ok = full-done ok
+    rx-done : FramesOk M frames 0 numbers (ncsRx (n .station) u snr now (n .store) .seen) (ncsRx (n .station) u snr now (n .store) .unkept) (b .ledger)
+        → RxDone M (n .station .count) (b .ledger) (b .entry) (ncsRx (n .station) u snr now (n .store)) (booked (ncsRx (n .station) u snr now (n .store) .seen) (ncsRx (n .station) u snr now (n .store) .unkept))
+    rx-done ok =
+        let r = ncsRx (n .station) u snr now (n .store) in
+        let c = rx-end (n .station) u snr now (n .store) in
+        let y = lastIn (n .station) u snr now (n .store) in
+        let h = booked (y .seen) (y .unkept) in
+        let z = frames-read M small (airOf (n .station) (u .head) snr now) numbers frames (firstIn (n .station) u now (n .store)) 0 (b .ledger) (b .entry)
+        (record { frame = refl; seen = refl; clear = λ j l. has-none j }) few-read (tied .tie) (tied .long)
+        (subst (λ (s : List ℕ). FramesOk M frames 0 numbers s (y .unkept) (b .ledger)) (c .seen) (subst (λ (m : ℕ). FramesOk M frames 0 numbers (r .seen) m (b .ledger)) (c .mask) ok)) in
+        let w : eventsIn (r .words) ≡ z .events = c .events ∙ append-nil (eventsIn (y .words)) ∙ z .words ∙ ap (λ (x : List Event2). x ++ z .events) events-none in
+        subst (λ (s : List ℕ). RxDone M (n .station .count) (b .ledger) (b .entry) r (booked s (r .unkept))) (sym (c .seen))
+        (subst (λ (m : ℕ). RxDone M (n .station .count) (b .ledger) (b .entry) r (booked (y .seen) m)) (sym (c .mask))
+        (record {
+          got = subst (λ (es : List Event2). receptions.Received M (n .station .count) es (h .out) (viewOf (r .station) (r .store)) (h .left) (b .ledger .handed) (b .entry)) (sym w)
+              (subst (λ (v : View). receptions.Received M (n .station .count) (z .events) (h .out) v (h .left) (b .ledger .handed) (b .entry)) (sym (c .view)) (z .got));
+          long = c .long ∙ z .long;
+        }))
 
   -- the same in the store that was lent, which is the one handed on
   lent-done : (u : Burst) → length (u .frames) ≤ 64 → (st : List ℕ) → n .store ≡ st

@@ -145,11 +145,13 @@ firstIn s u now store = firstReading (withWait s (busyWait (s .wait) (u .head) (
 abbrev pub lastIn : Station → Burst → Float → Float → List ℕ → Reading
 lastIn s u snr now store = readFrames (airOf s (u .head) snr now) (framesBy (parsed u)) (firstIn s u now store)
 
--- its end leaves cells, store and windows alone, and returns no event 2
+-- its end leaves cells, store and windows alone, returns no event 2, and the mask and the members seen are those of the frames
 pub record RxEnd (y : Reading) (r : Received) : Type 0 where
   pub view : viewOf (r .station) (r .store) ≡ viewIn y
   pub events : eventsIn (r .words) ≡ eventsIn (y .words) ++ []
   pub long : length (r .station .members) ≡ length (y .station .members)
+  pub seen : r .seen ≡ y .seen
+  pub mask : r .unkept ≡ y .unkept
 
 ended : (y : Reading) (d : Ended) → QuietEnd (y .station) d → RxEnd y (receivedOf y d)
 ended y d k =
@@ -157,6 +159,8 @@ ended y d k =
       view = kept-view (y .station) (d .station) (y .store) (k .0);
       events = append-quiet (y .words) (d .burst) (eventsIn (y .words)) refl (k .1);
       long = k .0 .long;
+      seen = refl;
+      mask = refl;
     }
 
 pub rx-end : (s : Station) (u : Burst) (snr now : Float) (store : List ℕ) → RxEnd (lastIn s u snr now store) (ncsRx s u snr now store)
