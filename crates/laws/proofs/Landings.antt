@@ -27,7 +27,6 @@ use Rattle.stream.proofs.Rooms.{RoomIs}
 use Rattle.stream.proofs.Tables.{Tidy, table-room, place-in, kept-other}
 use Rattle.stream.proofs.Accepts.{leftAs, answerOf, cellIn, heldAfter, putAs, accept-cases, accept-window}
 use Rattle.net.specs.declared.Station.{Station}
-use Rattle.net.specs.State.{tableOf}
 use Rattle.net.proofs.Laws.{member-lt}
 use Rattle.stream.proofs.Windows.{fresh-none}
 use Rattle.station.specs.SignOff.{signOff, signOffRefusal, signOffOf}

@@ -1,6 +1,6 @@
 -- A cell is what the pieces that went into it since it was taken make of an empty one: so after any calls from a start, nobody else writing the store. Assumes nothing.
 use mathlib.Core.Path.{_≡_, refl, sym, ap, _∙_, subst}
-use mathlib.Core.Bool.{Bool, true, false, not, cond, _&&_}
+use mathlib.Core.Bool.{Bool, true, false, cond, _&&_}
 use mathlib.Core.List.{List, [], _∷_, _++_}
 use mathlib.Core.Logic.{inl, ⊎-elim}
 use Prim.Native.Nat.{ℕ, _+_, _*_, _/_, _%_, _≤_, _<_}
@@ -9,7 +9,7 @@ use lib.Dec.{eqb, ltb}
 use lib.Ieee.{Float}
 use lib.ListN.{length, getD}
 use lib.Seq.{getD-set-same}
-use borrow.Author.Tests.{eqb-true, eq-eqb, ne-eqb}
+use borrow.Author.Tests.{eq-eqb, ne-eqb}
 use Rattle.bits.specs.Mask.{hasBit, withoutBit}
 use Rattle.bits.proofs.Laws.{has-none, without-same, without-other}
 use Rattle.bits.proofs.Lists.{cond-keeps, cond-true, and-true, eq-or-not, never-both}
@@ -19,12 +19,11 @@ use Rattle.wire.specs.Numbers.{widened}
 use Rattle.words.specs.Words.{Heard, lost, heard, Burst, Parsed, parsed, parse}
 use Rattle.words.specs.Fine.{Fine, AllFine, FineBurst}
 use Rattle.inbox.specs.declared.cell.Cell.{Cell}
-use Rattle.inbox.specs.declared.keep.Kept.{Kept}
 use Rattle.inbox.specs.declared.keep.Kept.the-variants.{Yes}
 use Rattle.inbox.specs.Cells.{Held, held, accept}
 use Rattle.inbox.specs.Keeping.{keptOf}
 use Rattle.inbox.specs.Messages.{Piece, emptyCell, empty, accept-all}
-use Rattle.inbox.specs.Stores.{cellOf, inCell}
+use Rattle.inbox.specs.Stores.{cellOf}
 use Rattle.inbox.proofs.Apart.{in-same, in-other}
 use Rattle.inbox.proofs.Joined as joined
 use Rattle.inbox.proofs.Rule.{yes-is, kept-room}
@@ -32,8 +31,8 @@ use Rattle.inbox.proofs.Steps.{empty-fits}
 use Rattle.stream.specs.declared.window.Window.{Window}
 use Rattle.stream.specs.declared.table.Room.{Room}
 use Rattle.stream.specs.declared.table.Room.the-variants.{Own, Free, Full}
-use Rattle.stream.specs.Window.{handedOf, freshOf}
-use Rattle.stream.specs.Table.{Table, Accepted, noCell, cellAt, cellFor, cellCount, ownerOf, placeOf, hasRoom, joinedOf, putIn, changes, tableRoom, freedTable}
+use Rattle.stream.specs.Window.{freshOf}
+use Rattle.stream.specs.Table.{Table, noCell, cellAt, cellFor, cellCount, ownerOf, placeOf, hasRoom, joinedOf, putIn, tableRoom, freedTable}
 use Rattle.stream.specs.Table as table
 use Rattle.stream.proofs.Accepts.{answerOf, cellIn, heldAfter, putAs, accept-cases, after-length}
 use Rattle.stream.proofs.Rooms.{RoomIs}
@@ -48,14 +47,13 @@ use Rattle.frames.specs.Reading.{Reading}
 use Rattle.frames.specs.Frames.{frameStep, readFrames}
 use Rattle.rx.specs.Reception.{airOf, ncsRx}
 use Rattle.station.specs.Entries.{Outcome, refused, receivedAs, receiveOf, cellRefusal, freeOf, startRefusal}
-use Rattle.station.specs.SignOff.{signOff, signOffRefusal, signOffOf, isCellOf, clearAll}
+use Rattle.station.specs.SignOff.{signOffRefusal, signOffOf, isCellOf, clearAll}
 use Rattle.config.specs.declared.Given.{Given}
 use Rattle.promise.specs.Promise.{lentTo, Net, net, ofBurst, Call, admission, reception, decision, sending, closing, reading, freeing, charging, signing, result, inBook, isRefused, step, after, started, isBoats, framesBy}
 use Rattle.laws.specs.Laws.{from, InCells, alsoIn, wentBy, wentIn, wentAll, wentRx, wentWith, inCells, StoreOk, StoresOk, AllCut, Splits, AllSplit}
-use Rattle.promise.proofs.Ties.{View, heldAt}
-use Rattle.promise.proofs.Pieces.{viewAfter}
+use Rattle.promise.proofs.Ties.{View}
 use Rattle.promise.proofs.Quiet.{windowAt, viewOf}
-use Rattle.promise.proofs.WalkFrames.{viewIn, isPiece, offeredIn, FrameRead, other, unkept, piece, firstIn, rx-end}
+use Rattle.promise.proofs.WalkFrames.{viewIn, isPiece, FrameRead, other, unkept, piece, firstIn, rx-end}
 use Rattle.promise.proofs.Messages.{admission-kept, decision-kept, sending-kept, closing-kept, reading-kept, charging-kept, same-cond}
 use Rattle.promise.proofs.Outcomes.{refusedBy, receive-cases, lent-is}
 use Rattle.promise.proofs.Signs.{sign-beside, Cleared, cleared}

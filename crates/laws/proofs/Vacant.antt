@@ -23,7 +23,6 @@ use Rattle.roster.specs.Members.{noMember}
 use Rattle.roster.proofs.Laws.{without-in}
 use Rattle.net.specs.declared.Station.{Station}
 use Rattle.net.specs.declared.Turn.{Turn}
-use Rattle.net.specs.declared.Turn.the-variants.{Idle, Sending, Waiting}
 use Rattle.net.specs.declared.Wait.{Wait}
 use Rattle.net.specs.State.{indexOf, memberAt, withMembers, withMember, withUsed, withWait, withHears, withTable, tableOf}
 use Rattle.net.specs.Net.{isMember}

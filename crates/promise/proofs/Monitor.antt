@@ -9,7 +9,7 @@ use mathlib.Core.Bool.{Bool, true, false, cond, _&&_}
 use mathlib.Core.List.{List, [], _∷_, _++_}
 use lib.Dec.{T, eqb, eqb-refl}
 use borrow.Author.Tests.{eqb-true}
-use Rattle.promise.specs.Promise.{TurnEvent, drew, over, poll, ack, struck, has, without, View, emptyView, begins, view, Spread, pollsTill, acksTill, OneTurn, AtEvent, TurnsHold}
+use Rattle.promise.specs.Promise.{TurnEvent, drew, over, poll, ack, struck, has, without, View, emptyView, begins, Spread, pollsTill, acksTill, OneTurn, TurnsHold}
 use Rattle.promise.specs.Waits.{views}
 
 abbrev pub In : ℕ → List ℕ → Type 0

@@ -30,7 +30,7 @@ use Rattle.frames.specs.Frames.{readFrame, frameStep, readFrames}
 use Rattle.rx.specs.Ending.{replyEnd}
 use Rattle.rx.specs.Reception.{ncsRx}
 use Rattle.station.specs.Entries.{admitRefusal, admitOf, receiveRefusal, receiveOf, cellRefusal, readRefusal, readingOf}
-use Rattle.promise.specs.Promise.{handed, Net, InBook, result, step, after, leads, LinksHold, TurnEvent, drew, over, poll, ack, struck, emptyView, TurnsHold, Sent, Message, Ledger, Entered, unchanged, Event2, Stayed, cover, alsoHanded, allBelow, completes, bookPiece, isBoats, bookFrame, bookFrames, alsoStayed, emptyBook, Pairs, Rising, Once, OnceInStay, ReadsAs, AtCall}
+use Rattle.promise.specs.Promise.{handed, Net, InBook, result, step, after, leads, LinksHold, drew, over, poll, ack, struck, emptyView, TurnsHold, Sent, Message, Ledger, Entered, unchanged, Event2, Stayed, cover, alsoHanded, allBelow, completes, bookPiece, isBoats, bookFrame, bookFrames, alsoStayed, emptyBook, Pairs, Rising, Once, OnceInStay, ReadsAs, AtCall}
 use Rattle.promise.proofs.Pieces.{enterBy}
 use Rattle.promise.proofs.Receptions.{allHanded, once-append}
 use Rattle.promise.proofs.Runs.{nought, one-cell, joins, hi, apart}

@@ -9,7 +9,7 @@ use native.Mathlib.Omega.{arith}
 use lib.Dec.{ltb, eqb}
 use lib.ListN.{length}
 use borrow.Author.Tests.{eqb-true}
-use Rattle.bits.specs.Mask.{hasBit, withBit, withoutBit}
+use Rattle.bits.specs.Mask.{hasBit, withoutBit}
 use Rattle.bits.proofs.Laws.{has-none, with-other, without-same, without-other}
 use Rattle.bits.proofs.Lists.{cond-keeps, and-true, eq-or-not}
 use Rattle.bits.proofs.Loops.{fold-keeps}

@@ -6,9 +6,9 @@ use mathlib.Core.Logic.{⊎-elim}
 use Prim.Native.Nat.{ℕ, _*_, _/_, _%_, _≤_, _<_}
 use native.Mathlib.Omega.{arith}
 use lib.ListN.{length}
-use lib.Dec.{eqb, ltb}
+use lib.Dec.{eqb}
 use lib.Ieee.{Float}
-use borrow.Author.Tests.{eqb-true, ltb-false}
+use borrow.Author.Tests.{eqb-true}
 use Rattle.bits.proofs.Lists.{cond-keeps, eq-or-not}
 use Rattle.level.specs.Spans.{within}
 use Rattle.wire.specs.Kinds.{tiny}
@@ -36,7 +36,7 @@ use Rattle.promise.proofs.SignTies.{window-gone, window-still}
 use Rattle.promise.proofs.Ties.{View}
 use Rattle.promise.proofs.Pieces.{windowsAfter, viewAfter}
 use Rattle.promise.proofs.Quiet.{windowAt, Keeps, viewOf, kept-view}
-use Rattle.promise.proofs.WalkFrames.{viewIn, FrameRead, other, unkept, piece, step-reads, firstIn, lastIn, RxEnd, rx-end}
+use Rattle.promise.proofs.WalkFrames.{viewIn, FrameRead, other, unkept, piece, step-reads, firstIn, rx-end}
 use Rattle.promise.proofs.Messages.{started-tied, admission-kept, decision-kept, sending-kept, closing-kept, reading-kept, charging-kept, same-cond}
 use Rattle.promise.proofs.Outcomes.{refusedBy, receive-cases}
 
