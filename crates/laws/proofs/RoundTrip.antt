@@ -1,10 +1,10 @@
 -- There and back: after any calls from a start an unknown call that is admitted without a relay and signed off leaves the station what it was. Assumes nothing.
-use mathlib.Core.Path.{_≡_, refl, sym, ap, _∙_}
+use mathlib.Core.Path.{_≡_, refl, sym, ap, _∙_, subst}
 use mathlib.Core.Bool.{Bool, true, false, cond, _&&_}
 use mathlib.Core.List.{List, [], _∷_}
 use Prim.Native.Nat.{ℕ, _+_, _-_, _*_, _/_, _^_, _<_}
 use native.Mathlib.Omega.{arith}
-use lib.ListN.{getD, set}
+use lib.ListN.{length, getD, set}
 use lib.Seq.{set-getD, set-set, getD-set-same}
 use lib.Dec.{eqb, ltb}
 use lib.Ieee.{Float}
@@ -27,7 +27,7 @@ use Rattle.net.specs.declared.Turn.the-variants.{Idle, Sending, Waiting}
 use Rattle.net.specs.declared.Wait.{Wait}
 use Rattle.net.specs.State.{indexOf, memberAt, tableOf, withList, withToack, withTreenews, withSilent, withMembers, withUsed, alsoAck}
 use Rattle.net.specs.Net.{isMember, Said, said}
-use Rattle.net.proofs.Laws.{index-is, member-is}
+use Rattle.net.proofs.Laws.{index-is, member-is, member-lt}
 use Rattle.bursts.specs.Rows.{seated}
 use Rattle.bursts.specs.Reroute.{withSeated}
 use Rattle.admit.specs.declared.Seat.{Seat}
@@ -38,9 +38,10 @@ use Rattle.station.specs.Entries.{Outcome, done, refused, unless, admitted, adm
 use Rattle.station.specs.SignOff.{vacant, leave, untried, bereft, bereaveAt, bereaveAll, isCellOf, clearAt, clearAll, unhearAt, unhearAll, strikeRound, strikeBy, strikeWait, struckOff, signOff, signOffRefusal, signOffOf}
 use Rattle.promise.specs.Promise.{Net, net, admission, signing, result, outcome, isRefused, step, after, started, leads, LinksHold}
 use Rattle.promise.proofs.Links.{links}
-use Rattle.laws.specs.RoundTrip.{Unnamed, RoundTrip}
+use Rattle.promise.proofs.Signs.{sign-member, signed}
+use Rattle.laws.specs.RoundTrip.{Unnamed, StruckRows, RoundTrip}
 use Rattle.laws.specs.FreeSlots.{Apart, BlankIn}
-use Rattle.laws.proofs.VacantSign.{AllKeep}
+use Rattle.laws.proofs.VacantSign.{AllKeep, column-struck}
 use Rattle.laws.proofs.VacantWalk.{runs-kept}
 
 -- ---- there and back
@@ -222,6 +223,33 @@ leaves-is t store slot e = λ j. net (sign-is t slot e j .station) (cond-both (i
 signed-is : (t : Station) (store : List ℕ) (slot : ℕ) → signOffRefusal (t .used) slot ≡ 0 → outcome (signing slot) (net t store) ≡ done (signOff t slot) [] []
 unfolding result
 signed-is t store slot e = sign-is t slot e
+
+-- not refused: the slot has a boat
+not-refused : (n : ℕ) (s : Station) (store : List ℕ) (o : Outcome) → unless n s store o .refusal ≡ 0 → n ≡ 0
+not-refused n s store o = go (eqb n 0) refl
+  where
+    go : (t : Bool) → eqb n 0 ≡ t → cond t o (refused n s store) .refusal ≡ 0 → n ≡ 0
+    go true q e = eqb-true n 0 q
+    go false q e = e
+
+sign-allowed : (t : Station) (store : List ℕ) (slot : ℕ) → outcome (signing slot) (net t store) .refusal ≡ 0 → signOffRefusal (t .used) slot ≡ 0
+unfolding result signOffOf
+sign-allowed t store slot e = not-refused (signOffRefusal (t .used) slot) t [] (done (signOff t slot) [] []) e
+
+struck-unnamed : (t : Station) (slot : ℕ) → slot < 62 → length (t .members) ≡ 62 → length (t .hears) ≡ 3844 → Unnamed (signOff t slot) slot
+unfolding heardAt
+struck-unnamed t slot low long wide r l =
+    cond-true (ltb r 62 && ltb slot 62) _ 63 (rw (lt-ltb r 62 l) (lt-ltb slot 62 low))
+    ∙ ap (λ (h : List ℕ). getD h (r * 62 + slot) 0) (signed slot t low long .hears)
+    ∙ column-struck slot low (t .hears) wide r l
+
+pub struck-rows : StruckRows
+struck-rows s g store e cs slot ok =
+    let n = after cs (started s g store) in
+    let z = sign-allowed (n .station) (n .store) slot ok in
+    let k = runs-kept s g store e cs 0 (omega arith) in
+    subst (λ (m : Net). Unnamed (m .station) slot) (sym (leaves-is (n .station) (n .store) slot z))
+    (struck-unnamed (n .station) slot (member-lt (n .station .used) slot (sign-member (n .station .used) slot z)) (k .long) (k .wide))
 
 pub round-trip : RoundTrip
 unfolding after

@@ -50,11 +50,12 @@ unfolding unhearAll
 unhear-long slot h =
     fold-keeps (λ (g : List ℕ). length g ≡ length h) (unhearAt slot) (λ i g q. unfold unhearAt in length-set (set g (slot * 62 + i) 63) (i * 62 + slot) 63 ∙ length-set g (slot * 62 + i) 63 ∙ q) 62 0 h refl
 
--- the slot's own row is struck
+-- the slot's own row is struck, and its entry in every row
 module _ (slot : ℕ) (low : slot < 62) where
   record Struck (k : ℕ) (g : List ℕ) : Type 0 where
     pub wide : length g ≡ 3844
     pub row : (j : ℕ) → j < k → getD g (slot * 62 + j) 0 ≡ 63
+    pub column : (j : ℕ) → j < k → getD g (j * 62 + slot) 0 ≡ 63
 
   row-one : (i : ℕ) (g : List ℕ) → i < 62 → Struck i g → Struck (i + 1) (unhearAt slot i g)
   unfolding unhearAt
@@ -66,6 +67,10 @@ module _ (slot : ℕ) (low : slot < 62) where
             set-63 (set g (slot * 62 + i) 63) (i * 62 + slot) (slot * 62 + j)
             (⊎-elim (λ e. subst (λ (y : ℕ). getD (set g (slot * 62 + i) 63) (slot * 62 + y) 0 ≡ 63) (sym e) (getD-set-same g (slot * 62 + i) 63 0 (omega arith)))
             (λ z. set-63 g (slot * 62 + i) (slot * 62 + j) (q .row j (let y : j < i + 1 = a in less j i y z))) (eq-or-not j i));
+        column = λ j a.
+            let m = length-set g (slot * 62 + i) 63 in
+            ⊎-elim (λ e. subst (λ (y : ℕ). getD (set (set g (slot * 62 + i) 63) (i * 62 + slot) 63) (y * 62 + slot) 0 ≡ 63) (sym e) (getD-set-same (set g (slot * 62 + i) 63) (i * 62 + slot) 63 0 (omega arith)))
+            (λ z. set-63 (set g (slot * 62 + i) 63) (i * 62 + slot) (j * 62 + slot) (set-63 g (slot * 62 + i) (j * 62 + slot) (q .column j (let y : j < i + 1 = a in less j i y z)))) (eq-or-not j i);
       }
     where
       less : (j i : ℕ) → j < i + 1 → (j ≡ i → ⊥) → j < i
@@ -78,9 +83,15 @@ module _ (slot : ℕ) (low : slot < 62) where
       subst (λ (k : ℕ). Struck k (fold (unhearAt slot) n (suc i) (unhearAt slot i g))) (let z : suc i + n ≡ i + suc n = omega arith in z)
       (row-go n (suc i) (unhearAt slot i g) (omega arith) (subst (λ (k : ℕ). Struck k (unhearAt slot i g)) (let z : i + 1 ≡ suc i = omega arith in z) (row-one i g (omega arith) q)))
 
-  pub row-struck : (h : List ℕ) → length h ≡ 3844 → (j : ℕ) → j < 62 → getD (unhearAll slot h) (slot * 62 + j) 0 ≡ 63
+  all-struck : (h : List ℕ) → length h ≡ 3844 → Struck 62 (unhearAll slot h)
   unfolding unhearAll
-  row-struck h n = row-go 62 0 h (omega arith) (record { wide = n; row = λ j a. absurd (omega arith) }) .row
+  all-struck h n = row-go 62 0 h (omega arith) (record { wide = n; row = λ j a. absurd (omega arith); column = λ j a. absurd (omega arith) })
+
+  pub row-struck : (h : List ℕ) → length h ≡ 3844 → (j : ℕ) → j < 62 → getD (unhearAll slot h) (slot * 62 + j) 0 ≡ 63
+  row-struck h n = all-struck h n .row
+
+  pub column-struck : (h : List ℕ) → length h ≡ 3844 → (j : ℕ) → j < 62 → getD (unhearAll slot h) (j * 62 + slot) 0 ≡ 63
+  column-struck h n = all-struck h n .column
 
 -- ---- the waiting
 

@@ -27,6 +27,12 @@ pub record ThereAndBack (n : Net) (joins leaves : Call) (slot : ℕ) : Type 0 wh
   pub silent : outcome leaves (step joins n) .words ≡ []
   pub back : after (joins ∷ leaves ∷ []) n ≡ n
 
+-- a sign-off 'strikes it from .. every `hears` row': behind one that is not refused, after any calls, no row names the slot
+abbrev pub StruckRows : Type 0
+StruckRows =
+    (s : Station) (g : Given) (store : List ℕ) → startRefusal g (length store) ≡ 0 → (cs : List Call) (slot : ℕ)
+    → outcome (signing slot) (after cs (started s g store)) .refusal ≡ 0 → Unnamed (step (signing slot) (after cs (started s g store)) .station) slot
+
 -- from a start that is not refused, after any calls: an unknown call that would take the slot, and an admission that is not refused
 abbrev pub RoundTrip : Type 0
 RoundTrip =
