@@ -1,6 +1,6 @@
 -- Item 3's book, frame by frame: what is covered stays covered, a piece that is not marked covers its bytes, and a message not handed over before is among those
 -- handed over. Assumes nothing.
-use mathlib.Core.Path.{_≡_, refl, sym, ap, _∙_, subst}
+use mathlib.Core.Path.{_≡_, refl, sym, subst}
 use mathlib.Core.Logic.{_⊎_, inl, inr, ⊎-elim}
 use Prim.Native.Nat.{ℕ, zero, suc, _+_, _%_, _≤_, _<_}
 use native.Mathlib.Omega.{arith}
@@ -8,9 +8,9 @@ use mathlib.Core.Bool.{Bool, true, false, not, cond, _&&_}
 use mathlib.Core.List.{List, [], _∷_, _++_}
 use lib.ListN.{length, getD}
 use Rattle.bits.specs.Mask.{hasBit}
-use Rattle.bits.proofs.Lists.{cond-keeps, cases}
+use Rattle.bits.proofs.Lists.{cond-keeps}
 use Rattle.words.specs.Words.{Heard, lost, heard}
-use Rattle.promise.specs.Promise.{Sent, Message, Ledger, Entered, unchanged, same, inside, cover, alsoHanded, completes, bookPiece, isBoats, bookFrame, bookFrames}
+use Rattle.promise.specs.Promise.{Sent, Message, Ledger, Entered, same, inside, cover, alsoHanded, completes, bookPiece, isBoats, bookFrame, bookFrames}
 use Rattle.promise.proofs.Ledgers.{same-true, same-self, inside-of}
 use Rattle.sending.specs.Sending.{Among}
 

@@ -1,19 +1,19 @@
 -- One message keeps its invariant through every step of the sender: cut again, swept, cut anew, stale, acknowledged; and once nothing of it is left to send or in flight, every byte
 -- is covered. Assumes nothing.
-use mathlib.Core.Bool.{Bool, true, false, cond, _||_}
+use mathlib.Core.Bool.{Bool, false}
 use mathlib.Core.List.{List, [], _∷_, _++_, map}
 use mathlib.Core.Logic.{_⊎_, inl, inr, ⊎-elim}
-use mathlib.Core.Path.{_≡_, refl, sym, ap, _∙_, subst}
+use mathlib.Core.Path.{_≡_, sym, subst}
 use Prim.Native.Nat.{ℕ, zero, suc, _+_, _-_, _≤_, _<_}
 use native.Mathlib.Omega.{arith}
 use lib.Dec.{eqb, ltb}
 use lib.ListN.{length}
-use borrow.Author.Tests.{eqb-true, eqb-false, ltb-true, ltb-false, lt-ltb, le-ltb}
+use borrow.Author.Tests.{eqb-true, ltb-false, lt-ltb, le-ltb}
 use Rattle.bits.proofs.Lists.{cond-true, cond-false, cases, le-or-lt, or-false}
 use Rattle.words.specs.Words.{least}
 use Rattle.outbox.specs.Outbox.{Piece, OutMsg, with-inflight, lens, cut-up, recut, recut-one, recut-in, same, unstale, staled, swept, stale-in, remove, some, is-new, unfinished, new-pieces, cut-new}
 use Rattle.sending.specs.Tiles.{Tiled, Tight, AllTight, Sound}
-use Rattle.outbox.proofs.Passes.{least-left, least-right, least-pos}
+use Rattle.outbox.proofs.Passes.{least-left, least-pos}
 
 -- ### bytes from x to end
 module _ (C : ℕ → Type 0) where

@@ -1,6 +1,6 @@
 -- This end's part of the invariant: what each call of the outbox keeps. Pieces are cut from what was posted, those acknowledged are covered in the book, and a
 -- message that leaves by acknowledgement is covered whole. Assumes nothing.
-use mathlib.Core.Bool.{Bool, true, false, cond, _&&_}
+use mathlib.Core.Bool.{true, false, _&&_}
 use mathlib.Core.List.{List, [], _∷_, _++_, append-assoc}
 use mathlib.Core.Logic.{_⊎_, inl, inr, ⊎-elim}
 use mathlib.Core.Option.{Option, none, some}
@@ -13,16 +13,16 @@ use lib.Seq.{getD-append-seam}
 use borrow.Author.Tests.{ltb-true, le-leb}
 use Rattle.bits.specs.Mask.{hasBit}
 use Rattle.bits.specs.Stop.{stop}
-use Rattle.bits.proofs.Lists.{cond-true, cond-false, cond-keeps, and-true, cases}
+use Rattle.bits.proofs.Lists.{cond-true, cond-keeps, and-true}
 use Rattle.inbox.specs.Messages.{framed, Cut}
-use Rattle.outbox.specs.Outbox.{OutMsg, Outbox, Sent, with-inflight, recut-in, swept, sweep, fresh, cut-new, Burst, pass-sweep, pass-new, take-out, stale-in, remove, retain, acked, unfinished, not-held}
+use Rattle.outbox.specs.Outbox.{OutMsg, Outbox, Sent, with-inflight, recut-in, take-out, stale-in, remove, acked, unfinished, not-held}
 use Rattle.promise.specs.Promise.{Ledger}
 use Rattle.sending.specs.Runs.{Event, Post, Take, Ack, Stale, Held, Run, piece, Is, step, Fair, Covered, All, Stays, Leaves}
 use Rattle.sending.specs.Runs as runs
 use Rattle.sending.specs.Room.{EachShort}
 use Rattle.sending.specs.Sending.{acksFrom, runAfter, bodyIn, bodiesIn}
 use Rattle.sending.proofs.Covers.{tiled-more}
-use Rattle.sending.proofs.Promised.{Good, From, Made, EachMade, each-at, has-fits, Passed, passed-take, all-to, all-both, all-map, all-join, all-retain, all-sweep, all-fresh, piece-old, piece-new, is-old, is-split, RunOk, stepped, leaves}
+use Rattle.sending.proofs.Promised.{Good, Made, each-at, has-fits, passed-take, all-to, all-both, all-map, all-join, all-retain, all-sweep, all-fresh, piece-old, piece-new, is-old, is-split, RunOk, stepped, leaves}
 use Rattle.sending.proofs.Room.{take-short}
 
 -- ---- more pieces kept
@@ -150,8 +150,6 @@ module _ (slot : ℕ) (bodies : List (List ℕ)) where
   taken-inv : (l : Ledger) (r : Run) (rest : List (List ℕ)) (max room : ℕ) → RunInv l r rest → 0 < max → max ≤ 255 → RunInv l (step r (Take max room)) rest
   unfolding step Fair
   taken-inv l r rest max room v h s =
-      let bs = r .bursts in
-      let X = take-out max room (r .box) .out in
       let p = passed-take (K (r .bursts) l) (r .bursts) (r .box .next-seq) max room h (r .box) (v .run .good) (v .run .rise) in
       let t = taken-texts max room (r .box) (v .texts) in
       record {

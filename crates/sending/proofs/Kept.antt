@@ -6,14 +6,13 @@ use Prim.Native.Nat.{ℕ, zero, suc, _+_, _*_, _/_, _%_, _^_, _≤_, _<_}
 use native.Mathlib.Omega.{arith}
 use mathlib.Core.Bool.{Bool, true, false, not, cond, _&&_, _||_}
 use mathlib.Core.List.{List, [], _∷_, _++_}
-use mathlib.Core.Option.{none}
-use lib.Dec.{eqb, ltb, leb}
+use lib.Dec.{eqb, leb}
 use lib.Ieee.{Float}
 use lib.ListN.{length, getD}
-use borrow.Author.Tests.{eqb-true, ne-eqb}
+use borrow.Author.Tests.{eqb-true}
 use Rattle.bits.specs.Mask.{hasBit, withBit}
 use Rattle.bits.proofs.Laws.{has-none, has-below, with-other}
-use Rattle.bits.proofs.Lists.{cond-keeps, cond-true, cond-false, and-true, or-elim, cases, never-both}
+use Rattle.bits.proofs.Lists.{cond-keeps, cond-true, cond-false, and-true, cases, never-both}
 use Rattle.wire.specs.Kinds.{tiny, kPoll, kRelay, kPollack, kAck, kIdle, tUp, tCtrl, cCheckin, cReport, cOverheard, cKids}
 use Rattle.words.specs.Words.{Heard, lost, heard, Burst, Parsed, malformed, parsed, parse, headOf}
 use Rattle.words.specs.declared.Head.{Head}
@@ -30,17 +29,17 @@ use Rattle.net.proofs.Laws.{member-lt}
 use Rattle.frames.specs.declared.Air.{Air}
 use Rattle.frames.specs.Reading.{Reading}
 use Rattle.frames.specs.Pieces.{pieceFrame}
-use Rattle.frames.specs.Control.{isForwarded, reportSays, reportFrame, reportStation}
-use Rattle.frames.specs.Frames.{controlBy, controlFrame, readFrame, isThere, frameStep, readFrames}
+use Rattle.frames.specs.Control.{isForwarded, reportFrame}
+use Rattle.frames.specs.Frames.{controlBy, readFrame, isThere, frameStep, readFrames}
 use Rattle.rx.specs.Ending.{Ended, busyWait, idleHeard, idleBy, idleEnd, ackExtra, replyHeard, answerBy, goesOn, isReply, replyBy, replyEnd}
 use Rattle.rx.specs.Reception.{airOf, firstReading, tinyBurst, fullBurst, ncsRx}
-use Rattle.station.specs.Entries.{Outcome, refused, receivedAs, receiveBy, receiveRefusal, receiveOf}
+use Rattle.station.specs.Entries.{Outcome, receivedAs, receiveBy, receiveRefusal, receiveOf}
 use Rattle.promise.specs.Promise.{burstBy, burstsIn, TurnEvent, ofBurst, framesBy}
 use Rattle.promise.proofs.Walk.{Allowed, Change, others, turned, over, hears, written, counted, promoted, moved, entered, piece, landed, freed, signsOff, start, chain-keeps}
 use Rattle.promise.proofs.WalkRx.{member-with, frames-walk, busy-turn}
 use Rattle.promise.proofs.TurnsKeeps.{calm-start, frames-calm}
 use Rattle.promise.proofs.Readings.{frame-runs}
-use Rattle.promise.proofs.Receptions.{step-seen, step-frame, step-other, seen-stays, mask-stays, get-last}
+use Rattle.promise.proofs.Receptions.{step-seen, step-frame, seen-stays, mask-stays, get-last}
 use Rattle.sending.specs.Sending.{Among, isAckTo, bitsOf}
 use Rattle.sending.proofs.Book.{among-split}
 use Rattle.sending.proofs.Polled.{Polled, TurnIn}

@@ -6,3 +6,5 @@ pub mod Book
 pub mod Kept
 pub mod Ends
 pub mod SendingEnd
+pub mod Follows
+pub mod Run

@@ -1,17 +1,16 @@
 -- The slot whose reply is waited for has a member, and so has each slot of the round's list: an instance of the walk. Assumes nothing.
-use mathlib.Core.Path.{_≡_, refl, sym, ap, _∙_, subst}
-use mathlib.Core.Logic.{_⊎_, inl, inr, ⊎-elim}
-use Prim.Native.Nat.{ℕ, _%_, _/_, _≤_, _<_}
-use native.Mathlib.Omega.{arith}
-use mathlib.Core.Bool.{Bool, true, false, cond, _&&_, _||_}
+use mathlib.Core.Path.{_≡_, refl, sym, _∙_, subst}
+use mathlib.Core.Logic.{_⊎_, ⊎-elim}
+use Prim.Native.Nat.{ℕ, _%_, _/_}
+use mathlib.Core.Bool.{true, false, _&&_, _||_}
 use mathlib.Core.List.{List}
 use lib.Dec.{eqb, ltb}
 use lib.ListN.{length}
-use borrow.Author.Tests.{eqb-true, eqb-false}
+use borrow.Author.Tests.{eqb-false}
 use Rattle.bits.specs.Mask.{hasBit, withBit, withoutBit, lowestBit}
 use Rattle.bits.specs.declared.Found.the-variants as found
 use Rattle.bits.proofs.Laws.{has-none, without-same, without-other}
-use Rattle.bits.proofs.Lists.{cond-keeps, and-true, cases, lt-or-le, eq-or-not, never-both}
+use Rattle.bits.proofs.Lists.{cond-keeps, and-true, lt-or-le, eq-or-not, never-both}
 use Rattle.bits.proofs.Loops.{first-found, fold-keeps}
 use Rattle.net.specs.declared.Station.{Station}
 use Rattle.net.specs.declared.Settings.{Settings}
@@ -27,7 +26,7 @@ use Rattle.next.specs.Next.{listFor}
 use Rattle.config.specs.declared.Given.{Given}
 use Rattle.config.specs.Checks.{settingsOf}
 use Rattle.stream.specs.Table.{cellCount}
-use Rattle.station.specs.Entries.{startRefusal, startOf}
+use Rattle.station.specs.Entries.{startRefusal}
 use Rattle.station.specs.SignOff.{strikeBy, signOff, bereaveAt, bereaveAll, leave, struckOff}
 use Rattle.promise.specs.Promise.{Call, Net, step, started}
 use Rattle.promise.proofs.Walk.{Turned, still, ends, sends, polls, goes, draws, Change, others, turned, over, hears, written, counted, promoted, moved, entered, piece, landed, freed, signsOff, chain-keeps}

@@ -5,15 +5,15 @@ use mathlib.Core.Logic.{_⊎_, inl, inr, ⊎-elim}
 use mathlib.Core.Path.{_≡_, refl, sym, ap, _∙_, subst}
 use Prim.Native.Nat.{ℕ, zero, suc, _+_, _-_, _≤_, _<_}
 use native.Mathlib.Omega.{arith}
-use lib.Dec.{eqb, ltb, leb}
-use lib.ListN.{length, getD, take, drop, length-append, length-take, length-drop, List·getD-append}
+use lib.Dec.{eqb, leb}
+use lib.ListN.{length, getD, take, drop, length-append, length-drop, List·getD-append}
 use lib.Seq.{getD-append-seam, length-take-le}
-use borrow.Author.Tests.{eqb-true, eqb-false, le-leb}
-use Rattle.bits.proofs.Lists.{cond-true, cond-false, cases, le-or-lt, eq-or-not}
+use borrow.Author.Tests.{eqb-true, le-leb}
+use Rattle.bits.proofs.Lists.{cond-true, cond-false, cases, le-or-lt}
 use Rattle.bits.specs.Stop.{stop}
 use Rattle.inbox.specs.Messages.{framed}
-use Rattle.outbox.specs.Outbox.{Piece, OutMsg, Outbox, Sent, with-inflight, sent-of, lens, cut-up, recut-in, same, unstale, picked, swept, sweep, sweep-out, new-pieces, cut-new, fresh, fresh-out, take-out, Burst, pass-sweep, pass-new, stale-in, remove, retain, acked, unfinished, not-held}
-use Rattle.sending.specs.Tiles.{Tiled, Tight, AllTight, Sound}
+use Rattle.outbox.specs.Outbox.{Piece, OutMsg, Outbox, Sent, with-inflight, sent-of, recut-in, same, unstale, picked, swept, sweep, sweep-out, new-pieces, cut-new, fresh, fresh-out, take-out, Burst, pass-sweep, pass-new, stale-in, remove, retain, acked, unfinished, not-held}
+use Rattle.sending.specs.Tiles.{Tiled, Sound}
 use Rattle.sending.specs.Runs.{Event, Post, Take, Ack, Stale, Held, Run, none, burst, piece, Is, start, step, Fair, Covered, All, Stays, Leaves, AllFair, AllLeave, Promise}
 use Rattle.sending.proofs.Covers.{Has, tiled-more, tight-by, sound-recut, sound-sweep, sound-stale, sound-new, sound-sent, sound-ack, finished-covered}
 

@@ -1,22 +1,21 @@
 -- One `take` gives at most as many pieces as were wanted, each of at most `max` bytes, whatever the outbox holds. Assumes nothing.
-use mathlib.Core.Bool.{Bool, true, false, cond}
+use mathlib.Core.Bool.{Bool, true, false}
 use mathlib.Core.List.{List, [], _∷_, _++_, map}
-use mathlib.Core.Logic.{⊎-elim}
-use mathlib.Core.Path.{_≡_, refl, sym, ap, _∙_, subst}
-use Prim.Native.Nat.{ℕ, zero, suc, _+_, _-_, _*_, _≤_, _<_}
+use mathlib.Core.Path.{_≡_, refl, ap, _∙_}
+use Prim.Native.Nat.{ℕ, zero, suc, _+_, _-_, _*_, _≤_}
 use native.Mathlib.Omega.{arith}
 use lib.Dec.{ltb}
-use lib.ListN.{length, take, drop, length-append, length-take}
+use lib.ListN.{length, take, drop, length-append}
 use borrow.Author.Tests.{ltb-false}
 use Rattle.bits.proofs.Lists.{cond-keeps}
 use Rattle.words.specs.Words.{least}
 use Rattle.out.specs.Encode.{frameWords}
 use Rattle.out.proofs.Pack.{length-pack}
-use Rattle.outbox.specs.Outbox.{Piece, OutMsg, Outbox, Sent, with-inflight, sent-of, cut-up, recut, recut-one, recut-in, same, unstale, picked, swept, sweep, sweep-out, new-pieces, cut-new, fresh, fresh-out, Burst, pass-sweep, pass-new, take-out}
+use Rattle.outbox.specs.Outbox.{Piece, OutMsg, Outbox, Sent, sent-of, cut-up, recut, recut-one, recut-in, same, picked, swept, sweep, sweep-out, new-pieces, fresh, fresh-out, Burst, pass-sweep, pass-new, take-out}
 use Rattle.outbox.specs.Bursts.{msg-field, burst-words}
 use Rattle.outbox.proofs.Passes.{least-right}
 use Rattle.sending.specs.Runs.{All}
-use Rattle.sending.specs.Room.{EachShort, wholeWords, Fits, TakeFits}
+use Rattle.sending.specs.Room.{EachShort, wholeWords, TakeFits}
 
 -- ### how many
 picked-few : (st : Bool) (n : ℕ) (ps : List Piece) → length (picked st n ps) ≤ n

@@ -1,39 +1,37 @@
 -- The theorem of request U11: every message that the sending end drops by acknowledgement of kept pieces has landed, unchanged. It stands on the definitions of
 -- `outbox` and on those that the station's entry points name, and assumes nothing.
-use mathlib.Core.Bool.{Bool, true, false, not, cond, _&&_}
+use mathlib.Core.Bool.{Bool, true, false, cond, _&&_}
 use mathlib.Core.List.{List, [], _∷_, _++_}
 use mathlib.Core.Logic.{_⊎_, inl, inr, ⊎-elim}
 use mathlib.Core.Option.{Option, none, some}
 use mathlib.Core.Path.{_≡_, refl, sym, ap, _∙_, subst}
-use Prim.Native.Nat.{ℕ, zero, suc, _+_, _*_, _/_, _%_, _≤_, _<_}
+use Prim.Native.Nat.{ℕ, zero, suc, _+_, _/_, _%_, _≤_, _<_}
 use native.Mathlib.Omega.{arith}
 use lib.Dec.{eqb, ltb, leb}
-use lib.Ieee.{Float}
 use lib.ListN.{length, getD}
-use borrow.Author.Tests.{eqb-true, eqb-false, ltb-false, eq-eqb, ne-eqb}
+use borrow.Author.Tests.{eqb-true, ltb-false, eq-eqb, ne-eqb}
 use Rattle.bits.specs.Mask.{hasBit}
-use Rattle.bits.proofs.Lists.{cond-true, cond-false, cond-keeps, cases, eq-or-not, never-both}
-use Rattle.words.specs.Words.{Heard, lost, heard, Burst, Parsed, parse}
+use Rattle.bits.proofs.Lists.{cond-keeps, eq-or-not, never-both}
+use Rattle.words.specs.Words.{Heard, lost, heard, parse}
 use Rattle.inbox.specs.Messages.{framed, Cut}
 use Rattle.net.specs.declared.Station.{Station}
 use Rattle.net.specs.Net.{isMember}
 use Rattle.frames.specs.Frames.{isThere}
 use Rattle.config.specs.declared.Given.{Given}
 use Rattle.station.specs.Entries.{startRefusal, readingOf}
-use Rattle.outbox.specs.Outbox.{OutMsg, Sent}
+use Rattle.outbox.specs.Outbox.{Sent}
 use Rattle.outbox.specs.Bursts.{msg-field}
 use Rattle.outbox.specs.Senders.{postRefusal, takeRefusal, memoryRefusal, bothRefusal}
 use Rattle.outbox.proofs.Bursting.{take-open}
 use Rattle.promise.specs.Promise as item3
-use Rattle.promise.specs.Promise.{Call, admission, reception, decision, sending, closing, reading, freeing, charging, signing, handed, lentTo, Net, result, InBook, brings, reads, frees, ends, changesNothing, inBook, outcome, isRefused, Answers, answersOf, Stays, sentNow, Ledger, Book, Entered, unchanged, emptyBook, Message, Event2, enter, enterAll, bookFrame, bookFrames, bookEnds, bookDone, bookCall, framesBy, isBoats, allBelow, PieceOk, FrameOk, FramesOk, CallOk, Pairs, ReadsAs, AtCall, started}
+use Rattle.promise.specs.Promise.{Call, admission, reception, decision, sending, closing, reading, freeing, charging, signing, handed, lentTo, Net, result, InBook, brings, reads, frees, ends, changesNothing, inBook, outcome, isRefused, Answers, answersOf, Stays, sentNow, Ledger, Book, Entered, unchanged, emptyBook, Message, Event2, enter, enterAll, bookFrames, bookEnds, bookDone, bookCall, framesBy, isBoats, allBelow, PieceOk, FrameOk, FramesOk, CallOk, Pairs, ReadsAs, AtCall, started}
 use Rattle.promise.proofs.Ledgers.{all-of}
 use Rattle.promise.proofs.Messages.{Tied, started-tied, StayGood, call-good}
 use Rattle.promise.proofs.Readings.{chain-count}
 use Rattle.promise.proofs.WalkCalls.{all, step-walk}
-use Rattle.sending.specs.Runs.{Event, Post, Take, Ack, Stale, Held, Run, piece, Is, start, All}
+use Rattle.sending.specs.Runs.{Event, Post, Take, Stale, Held, Run, piece, Is, start, All}
 use Rattle.sending.specs.Runs as runs
-use Rattle.sending.specs.Sending.{Step, post, take, stale, held, asks, answer, shore, bitsOf, isAckTo, acksFrom, done, doneBy, runAfter, sender, bodyIn, bodiesIn, posted, sentBy, Reception, Landing, Ends, fresh, receptionBy, landingsOf, shoreAfter, ownAfter, stepped, IsPiece, Ours, FrameFrom, FramesFrom, CallFrom, Carried, Among, noReception, MadeFor, StepOk, StepsOk, Landed, AtStep, Holds, SendingEnd}
-use Rattle.sending.proofs.Promised.{RunOk}
+use Rattle.sending.specs.Sending.{Step, post, take, stale, held, asks, answer, shore, bitsOf, isAckTo, acksFrom, done, doneBy, runAfter, sender, bodiesIn, posted, sentBy, Reception, Landing, Ends, fresh, receptionBy, landingsOf, shoreAfter, ownAfter, stepped, Ours, FrameFrom, FramesFrom, CallFrom, Carried, Among, noReception, MadeFor, StepOk, StepsOk, Landed, AtStep, Holds, SendingEnd}
 use Rattle.sending.proofs.Polled.{Polled, step-polled, start-polled}
 use Rattle.sending.proofs.Book.{frames-more, frames-cover, frames-new, among-front, among-back, among-split}
 use Rattle.sending.proofs.Kept.{KeptAt, ack-kept}
@@ -236,7 +234,6 @@ module _ (slot : ℕ) (low : slot < 62) (bodies : List (List ℕ)) (M : Stays) (
   new-acked N (signing s) n b p r h = absurd h
   new-acked N (reception words snr now lent room numbers) n b p r (inr h) = absurd h
   new-acked N (reception words snr now lent room numbers) n b p r (inl q) =
-      let c = reception words snr now lent room numbers in
       subst (Acked (bookCall N (reception words snr now lent room numbers) n b .left .ledger)) (sym q)
       (λ w m t i l h.
       let k = ack-kept slot (n .station) p words snr now (lentTo lent (n .store)) room w m t i l h in
@@ -286,7 +283,6 @@ module _ (slot : ℕ) (low : slot < 62) (bodies : List (List ℕ)) (M : Stays) (
     there-new k h =
         let p = reception-pairs (sentNow M (x .book)) (x .net) (x .book) (answersOf c (x .net)) (inBook c) (isRefused c (x .net)) (record { slot = slot; number = k }) (good .at) h in
         let l = lands (x .net .station .count) (answersOf c (x .net) .events) (e .out) (x .book .entry) (record { slot = slot; number = k }) (item3.step c (x .net)) (p .0) h in
-        let cell = l .landing .event .cell in
         let g = call-good M small (reading (l .landing .event .cell) handed) (item3.step c (x .net)) (e .left) (good .tied) tt in
         let n = step-count c (x .net) in
         let below = l .below in

@@ -1,6 +1,5 @@
 -- What the sending end promises by itself: a message that leaves by acknowledgement of kept pieces has every byte in a kept piece that was cut from it.
 -- Definitions only, over the `Outbox` of lists; the far end is said by K, which holds of piece j of burst b where it was kept.
-use mathlib.Core.Bool.{true}
 use mathlib.Core.List.{List, [], _∷_, _++_}
 use mathlib.Core.Logic.{_⊎_}
 use mathlib.Core.Path.{_≡_}

@@ -7,7 +7,7 @@ use mathlib.Core.Bool.{Bool, true, false, cond, _&&_, _||_}
 use mathlib.Core.List.{List, [], _∷_, _++_}
 use mathlib.Core.Logic.{_⊎_}
 use mathlib.Core.Option.{Option, none, some}
-use lib.Dec.{T, eqb, ltb}
+use lib.Dec.{eqb, ltb}
 use lib.ListN.{length, getD}
 use Rattle.bits.specs.Mask.{hasBit}
 use Rattle.wire.specs.Kinds.{tiny, kPollack, kAck}
@@ -15,12 +15,12 @@ use Rattle.words.specs.Words.{Heard, lost, heard, parse, headOf}
 use Rattle.net.specs.declared.Station.{Station}
 use Rattle.config.specs.declared.Given.{Given}
 use Rattle.station.specs.Entries.{startRefusal, readingOf}
-use Rattle.outbox.specs.Outbox.{OutMsg, Sent}
+use Rattle.outbox.specs.Outbox.{Sent}
 use Rattle.outbox.specs.Bursts.{msg-field}
 use Rattle.outbox.specs.Senders.{postRefusal, takeRefusal, memoryRefusal, bothRefusal}
 use Rattle.promise.specs.Promise as item3
 use Rattle.promise.specs.Promise.{Call, Net, InBook, brings, reads, frees, ends, changesNothing, inBook, outcome, Answers, answersOf, Stays, sentNow, Ledger, Book, emptyBook, Message, Event2, bookFrame, bookCall, framesBy, isBoats, Lowest, PieceOk, LentOk, started}
-use Rattle.sending.specs.Runs.{Event, Post, Take, Ack, Stale, Held, Run, burst, piece, Is, start, All}
+use Rattle.sending.specs.Runs.{Event, Post, Take, Ack, Stale, Held, Run, piece, Is, start, All}
 use Rattle.sending.specs.Runs as runs
 
 -- ---- the steps
