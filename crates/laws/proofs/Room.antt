@@ -13,7 +13,7 @@ use lib.Seq.{sets-eq}
 use borrow.Author.Tests.{eqb-true, ltb-false, leb-true}
 use Rattle.bits.proofs.Lists.{cond-keeps}
 use Rattle.wire.specs.Call.{unpackCall}
-use Rattle.wire.specs.Kinds.{tiny, tUp, tCtrl, cCheckin, cReport, cOverheard, cKids, kIdle}
+use Rattle.wire.specs.Kinds.{tiny, kIdle}
 use Rattle.words.specs.Words.{Heard, lost, heard, Burst, Parsed, malformed, parsed, parse}
 use Rattle.words.specs.declared.Head.{Head}
 use Rattle.words.specs.Fine.{Fine, AllFine, FineBurst}
@@ -39,6 +39,7 @@ use Rattle.rx.specs.Reception.{Received, airOf, firstReading, ncsRx}
 use Rattle.station.specs.declared.Answer.the-variants.{Refused, Words}
 use Rattle.station.specs.Entries.{Outcome, answerOf, numberIn, wordsIn, refused, done, unless, check4, admitRefusal, admitOf, admitted, receiveBy, receiveRefusal, receiveOf, nextRefusal, nextOf}
 use Rattle.next.specs.Next.{ncsNext}
+use Rattle.promise.proofs.FrameCases.{control-cases, frame-cases}
 use Rattle.promise.proofs.Short.{short-admit, short-next}
 use Rattle.laws.specs.Room.{Fits, AllFit}
 
@@ -102,16 +103,10 @@ module _ (a : Air) (x : Reading) where
       cond-keeps Grown (isForwarded a (x .station) (getD p 1 0)) x _ (λ _. omega arith) (λ _. omega arith)
 
   control-grown : (slot b len : ℕ) (p : List ℕ) → len ≤ 255 → Grown (controlBy a slot b len p x)
-  unfolding controlBy
   control-grown slot b len p h =
-      let same : Grown x = omega arith in
-      cond-keeps Grown (eqb b cCheckin) _ _
-      (λ _. cond-keeps Grown (leb 7 len) _ x (λ _. also-grown (checkinFrame a len p (x .station)) (checkin-most a len p (x .station))) (λ _. same))
-      (λ _. cond-keeps Grown (eqb b cReport) _ _
-      (λ _. cond-keeps Grown (leb 12 len) _ x (λ _. report-grown len p) (λ _. same))
-      (λ _. cond-keeps Grown (eqb b cOverheard) _ _
-      (λ _. also-grown (overheardFrame a len p slot (x .station)) (overheard-frame a len p slot (x .station) h))
-      (λ _. cond-keeps Grown (eqb b cKids) _ x (λ _. also-grown (kidsFrame a len p slot (x .station)) (kids-frame a len p slot (x .station) h)) (λ _. same))))
+      control-cases Grown a x (omega arith) slot b len p (also-grown (checkinFrame a len p (x .station)) (checkin-most a len p (x .station))) (report-grown len p)
+      (also-grown (overheardFrame a len p slot (x .station)) (overheard-frame a len p slot (x .station) h))
+      (also-grown (kidsFrame a len p slot (x .station)) (kids-frame a len p slot (x .station) h))
 
   events-most : (slot : ℕ) (r : Accepted) → length (pieceEvents a (x .station) slot r) ≤ 2
   events-most slot r =
@@ -132,11 +127,7 @@ module _ (a : Air) (x : Reading) where
   unfolding readFrame
   frame-grown lost h = omega arith
   frame-grown (heard flags field p) h =
-      cond-keeps Grown (eqb (flags / 64) tUp) _ _
-      (λ _. piece-grown (flags % 64) field p)
-      (λ _. cond-keeps Grown (eqb (flags / 64) tCtrl) _ x
-      (λ _. cond-keeps Grown (eqb (length p) 0) x _ (λ _. omega arith) (λ _. control-grown (flags % 64) (getD p 0 0) (length p) p (omega (arith, h .2))))
-      (λ _. omega arith))
+      frame-cases Grown a x (omega arith) flags field p (piece-grown (flags % 64) field p) (control-grown (flags % 64) (getD p 0 0) (length p) p (omega (arith, h .2)))
 
 frames-grown : (a : Air) (fs : List Heard) (x : Reading) → AllFine fs → length (readFrames a fs x .words) ≤ length (x .words) + 127 * length fs
 unfolding readFrames frameStep

@@ -1,4 +1,5 @@
 pub mod Signs
+pub mod FrameCases
 pub mod Walk
 pub mod WalkNext
 pub mod WalkRoster

@@ -4,10 +4,10 @@ use Prim.Native.Nat.{ℕ, _%_}
 use native.Mathlib.Omega.{arith}
 use mathlib.Core.Bool.{Bool, true, false}
 use mathlib.Core.List.{List, [], _∷_, _++_}
-use lib.Dec.{eqb, leb}
+use lib.Dec.{eqb}
 use lib.ListN.{getD}
 use Rattle.bits.proofs.Lists.{cond-keeps}
-use Rattle.wire.specs.Kinds.{kAck, kPollack, cCheckin, cReport, cOverheard, cKids}
+use Rattle.wire.specs.Kinds.{kAck, kPollack}
 use Rattle.words.specs.declared.Head.{Head}
 use Rattle.net.specs.declared.Station.{Station}
 use Rattle.net.specs.declared.Reply.{Reply}
@@ -21,6 +21,7 @@ use Rattle.frames.specs.Control.{isForwarded, reportSays, reportStation, report
 use Rattle.frames.specs.Frames.{controlBy}
 use Rattle.rx.specs.Ending.{idleHeard, idleBy, idleEnd, replyHeard, answerBy, goesOn, isReply, replyBy, replyEnd, Ended}
 use Rattle.promise.specs.Promise.{eventsIn}
+use Rattle.promise.proofs.FrameCases.{control-cases}
 use Rattle.promise.proofs.Events.{events-none, event-other, append-quiet, missed-word}
 use Rattle.promise.proofs.Short.{short-tiny}
 use Rattle.promise.proofs.Quiet.{Keeps, kept-self}
@@ -107,13 +108,9 @@ report-untouched a len p x = at (isForwarded a (x .station) (getD p 1 0))
     at false = record { station = k; store = refl; events = append-none (eventsIn (x .words)); frame = refl; unkept = refl; seen = refl }
 
 pub control-untouched : (a : Air) (slot b len : ℕ) (p : List ℕ) (x : Reading) → Untouched x (controlBy a slot b len p x)
-unfolding controlBy
 control-untouched a slot b len p x =
-    cond-keeps (Untouched x) (eqb b cCheckin) _ _
-    (λ _. cond-keeps (Untouched x) (leb 7 len) _ x (λ _. said-untouched x _ (keeps (checkin-walk uncelled a tt len p (x .station))) (checkin-words NoEvent no-events a len p (x .station))) (λ _. untouched x))
-    (λ _. cond-keeps (Untouched x) (eqb b cReport) _ _
-    (λ _. cond-keeps (Untouched x) (leb 12 len) _ x (λ _. report-untouched a len p x) (λ _. untouched x))
-    (λ _. cond-keeps (Untouched x) (eqb b cOverheard) _ _
-    (λ _. said-untouched x _ (keeps (overheard-walk uncelled a tt len p slot (x .station))) (overheard-words NoEvent no-events a len p slot (x .station)))
-    (λ _. cond-keeps (Untouched x) (eqb b cKids) _ x
-    (λ _. said-untouched x _ (keeps (kids-walk uncelled a tt len p slot (x .station))) (kids-words NoEvent no-events a len p slot (x .station))) (λ _. untouched x))))
+    control-cases (Untouched x) a x (untouched x) slot b len p
+    (said-untouched x _ (keeps (checkin-walk uncelled a tt len p (x .station))) (checkin-words NoEvent no-events a len p (x .station)))
+    (report-untouched a len p x)
+    (said-untouched x _ (keeps (overheard-walk uncelled a tt len p slot (x .station))) (overheard-words NoEvent no-events a len p slot (x .station)))
+    (said-untouched x _ (keeps (kids-walk uncelled a tt len p slot (x .station))) (kids-words NoEvent no-events a len p slot (x .station)))

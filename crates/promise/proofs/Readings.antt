@@ -8,12 +8,10 @@ use Prim.Native.Nat.{ℕ, _/_, _%_, _≤_, _<_}
 use native.Mathlib.Omega.{arith}
 use lib.ListN.{length, getD, set, length-set}
 use lib.Seq.{getD-set-same, getD-set-other}
-use lib.Dec.{eqb}
 use borrow.Author.Tests.{eq-eqb, ne-eqb}
 use Rattle.bits.specs.Mask.{hasBit}
 use Rattle.bits.proofs.Laws.{with-other}
 use Rattle.bits.proofs.Lists.{cond-keeps, le-or-lt, eq-or-not}
-use Rattle.wire.specs.Kinds.{tUp, tCtrl}
 use Rattle.words.specs.Words.{Heard, lost, heard}
 use Rattle.out.specs.Encode.{eventWord, messageWord}
 use Rattle.stream.specs.declared.window.Window.{Window}
@@ -31,6 +29,7 @@ use Rattle.frames.specs.Reading.{Reading}
 use Rattle.frames.specs.Pieces.{isAsideLeaf, heardMember, sizeOf, pieceMember, isRelayed, pieceEvents, trafficIf, relayIf, keptPiece, pieceFrame}
 use Rattle.frames.specs.Frames.{readFrame}
 use Rattle.promise.specs.Promise.{Event2, eventsIn}
+use Rattle.promise.proofs.FrameCases.{frame-cases}
 use Rattle.promise.proofs.Pieces.{alsoOne, windowsAfter, viewAfter, eventFor}
 use Rattle.promise.proofs.Quiet.{windowIn, windowAt, Keeps, kept-self, viewOf, view-is, kept-view}
 use Rattle.promise.proofs.Events.{events-none, relayed-word, message-word}
@@ -156,16 +155,13 @@ pub frame-runs : (a : Air) (f : Heard) (x : Reading) → Runs x (readFrame a f x
 unfolding readFrame pieceFrame
 frame-runs a lost x = untouched-runs x x (untouched x)
 frame-runs a (heard flags field p) x =
-    cond-keeps (Runs x) (eqb (flags / 64) tUp) _ _
-    (λ _. cond-keeps (Runs x) (isMember (x .station .used) (flags % 64)) _ x
+    frame-cases (Runs x) a x (untouched-runs x x (untouched x)) flags field p
+    (cond-keeps (Runs x) (isMember (x .station .used) (flags % 64)) _ x
     (λ _. cond-keeps (Runs x) (accept (tableOf (x .station)) (memberAt (x .station) (flags % 64) .up) (x .store) (flags % 64) field p .lost) _ _
     (λ _. record { frame = refl; seen = refl; other = λ i z. with-other (x .unkept) (x .frame) i (λ q. z (sym q)) })
     (λ _. record { frame = refl; seen = refl; other = λ i z. refl }))
     (λ _. untouched-runs x x (untouched x)))
-    (λ _. cond-keeps (Runs x) (eqb (flags / 64) tCtrl) _ x
-    (λ _. untouched-runs x _
-    (cond-keeps (Untouched x) (eqb (length p) 0) x _ (λ _. untouched x) (λ _. control-untouched a (flags % 64) (getD p 0 0) (length p) p x)))
-    (λ _. untouched-runs x x (untouched x)))
+    (untouched-runs x _ (control-untouched a (flags % 64) (getD p 0 0) (length p) p x))
 
 -- ---- the cells stay as many as they were
 

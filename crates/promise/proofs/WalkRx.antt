@@ -12,7 +12,7 @@ use borrow.Author.Tests.{eqb-true, ltb-true}
 use Rattle.bits.specs.Mask.{hasBit, withBit}
 use Rattle.bits.proofs.Lists.{cond-keeps, and-true, eq-or-not}
 use Rattle.bits.proofs.Laws.{with-same, with-other}
-use Rattle.wire.specs.Kinds.{tiny, kIdle, tUp, tCtrl, cCheckin, cReport, cOverheard, cKids}
+use Rattle.wire.specs.Kinds.{tiny, kIdle}
 use Rattle.wire.specs.Fields.{snrFromQ}
 use Rattle.words.specs.declared.Head.{Head}
 use Rattle.words.specs.Words.{Heard, lost, heard, Burst}
@@ -39,6 +39,7 @@ use Rattle.frames.specs.Control.{eachEntry, checkinMember, checkedIn, withActiv
 use Rattle.frames.specs.Frames.{controlBy, readFrame, frameStep, readFrames}
 use Rattle.rx.specs.Ending.{isBusy, putOff, turnOverIn, idleHeard, idleBy, idleEnd, replyHeard, answerBy, goesOn, isReply, replyBy, replyEnd, Ended, busyWait}
 use Rattle.rx.specs.Reception.{Received, airOf, firstReading, ncsRx}
+use Rattle.promise.proofs.FrameCases.{control-cases, frame-cases}
 use Rattle.promise.proofs.Walk.{Allowed, Fields, none, also, burst, caps, version, down, received, direct, reached, Turned, still, ends, sends, goes, RelayOk, hears, entered, offered, piece, landed, Chain, start, more, chain-then}
 use Rattle.promise.proofs.Walk as walk
 use Rattle.promise.proofs.WalkNext.{index-member, calm, ack, turn, over-walk, write, count}
@@ -217,15 +218,10 @@ module _ (A : Allowed) where
     WalkRead x y = Chain A (x .station) (y .station)
 
     pub control-walk : (slot b len : ℕ) (p : List ℕ) (x : Reading) → WalkRead x (controlBy a slot b len p x)
-    unfolding controlBy reportFrame
+    unfolding reportFrame
     control-walk slot b len p x =
-        cond-keeps (WalkRead x) (eqb b cCheckin) _ _
-        (λ _. cond-keeps (WalkRead x) (leb 7 len) _ x (λ _. checkin-walk len p (x .station)) (λ _. start))
-        (λ _. cond-keeps (WalkRead x) (eqb b cReport) _ _
-        (λ _. cond-keeps (WalkRead x) (leb 12 len) (reportFrame a len p x) x (λ _. report-walk (x .station) len p (getD p 1 0) (x .station) start) (λ _. start))
-        (λ _. cond-keeps (WalkRead x) (eqb b cOverheard) _ _
-        (λ _. overheard-walk len p slot (x .station))
-        (λ _. cond-keeps (WalkRead x) (eqb b cKids) _ x (λ _. kids-walk len p slot (x .station)) (λ _. start))))
+        control-cases (WalkRead x) a x start slot b len p (checkin-walk len p (x .station)) (report-walk (x .station) len p (getD p 1 0) (x .station) start)
+        (overheard-walk len p slot (x .station)) (kids-walk len p slot (x .station))
 
     -- ---- a boat's piece
 
@@ -266,11 +262,7 @@ module _ (A : Allowed) where
       unfolding readFrame
       frame-walk lost x k = k
       frame-walk (heard flags field p) x k =
-          cond-keeps Reads (eqb (flags / 64) tUp) _ _
-          (λ _. piece-walk (flags % 64) field p x k)
-          (λ _. cond-keeps Reads (eqb (flags / 64) tCtrl) _ x
-          (λ _. cond-keeps Reads (eqb (length p) 0) x _ (λ _. k) (λ _. chain-then k (control-walk (flags % 64) (getD p 0 0) (length p) p x)))
-          (λ _. k))
+          frame-cases Reads a x k flags field p (piece-walk (flags % 64) field p x k) (chain-then k (control-walk (flags % 64) (getD p 0 0) (length p) p x))
 
       pub frames-walk : (fs : List Heard) (x : Reading) → Reads x → Reads (readFrames a fs x)
       unfolding readFrames frameStep

@@ -13,7 +13,6 @@ use Rattle.bits.proofs.Lists.{cond-keeps}
 use Rattle.bits.proofs.Loops.{fold-keeps}
 use Rattle.level.specs.declared.Level.{Level}
 use Rattle.level.specs.declared.Level.the-variants.{Unheard, Decibels}
-use Rattle.wire.specs.Kinds.{tUp, tCtrl, cCheckin, cReport, cOverheard, cKids}
 use Rattle.words.specs.Words.{Heard, lost, heard}
 use Rattle.out.specs.Encode.{eventWord, messageWord, missedWord}
 use Rattle.stream.specs.Table.{hasLanded}
@@ -30,6 +29,7 @@ use Rattle.frames.specs.Reading.{Reading}
 use Rattle.frames.specs.Pieces.{isRelayed, keptPiece, pieceFrame}
 use Rattle.frames.specs.Control.{callAt, checkinFrame, isForwarded, reportSays, reportFrame, relayOf, overheardBy, overheardEntry, overheardFrame, isKid, kidEvents, kidEntry, kidsFrame}
 use Rattle.frames.specs.Frames.{controlBy, readFrame, frameStep, readFrames}
+use Rattle.promise.proofs.FrameCases.{control-cases, frame-cases}
 use Rattle.promise.proofs.Walk.{offered}
 use Rattle.promise.proofs.WalkRx.{each-keeps}
 
@@ -121,15 +121,11 @@ module _ (W : List ℕ → Type 0) (w : Words W) where
       Reads x = W (x .words)
 
       control-words : (slot b len : ℕ) (p : List ℕ) (x : Reading) → Reads x → Reads (controlBy a slot b len p x)
-      unfolding controlBy reportFrame
+      unfolding reportFrame
       control-words slot b len p x h =
-          cond-keeps Reads (eqb b cCheckin) _ _
-          (λ _. cond-keeps Reads (leb 7 len) _ x (λ _. w .both (x .words) _ h (checkin-words len p (x .station))) (λ _. h))
-          (λ _. cond-keeps Reads (eqb b cReport) _ _
-          (λ _. cond-keeps Reads (leb 12 len) (reportFrame a len p x) x (λ _. subst W (sym (says-same (isForwarded a (x .station) (getD p 1 0)) p x)) h) (λ _. h))
-          (λ _. cond-keeps Reads (eqb b cOverheard) _ _
-          (λ _. w .both (x .words) _ h (overheard-words len p slot (x .station)))
-          (λ _. cond-keeps Reads (eqb b cKids) _ x (λ _. w .both (x .words) _ h (kids-words len p slot (x .station))) (λ _. h))))
+          control-cases Reads a x h slot b len p (w .both (x .words) _ h (checkin-words len p (x .station)))
+          (subst W (sym (says-same (isForwarded a (x .station) (getD p 1 0)) p x)) h) (w .both (x .words) _ h (overheard-words len p slot (x .station)))
+          (w .both (x .words) _ h (kids-words len p slot (x .station)))
 
       piece-events : (b c : Bool) (slot polled cell number : ℕ)
           → W (cond b (cond c (eventWord 4 slot polled ∷ messageWord slot cell number ∷ []) (messageWord slot cell number ∷ [])) [])
@@ -151,11 +147,7 @@ module _ (W : List ℕ → Type 0) (w : Words W) where
       unfolding readFrame
       frame-words lost x h = h
       frame-words (heard flags field p) x h =
-          cond-keeps Reads (eqb (flags / 64) tUp) _ _
-          (λ _. piece-words (flags % 64) field p x h)
-          (λ _. cond-keeps Reads (eqb (flags / 64) tCtrl) _ x
-          (λ _. cond-keeps Reads (eqb (length p) 0) x _ (λ _. h) (λ _. control-words (flags % 64) (getD p 0 0) (length p) p x h))
-          (λ _. h))
+          frame-cases Reads a x h flags field p (piece-words (flags % 64) field p x h) (control-words (flags % 64) (getD p 0 0) (length p) p x h)
 
       pub frames-words : (fs : List Heard) (x : Reading) → Reads x → Reads (readFrames a fs x)
       unfolding readFrames frameStep
