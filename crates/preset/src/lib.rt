@@ -1,14 +1,20 @@
 // The settings of `tape` (document 01, Words), and a station for a first start.
+ghost use mathlib.Core.Path.{_≡_};
+ghost use Rattle.preset.specs.Tape.{ladder, tapeSettings, blank};
 use config::Given;
 use net::Settings;
 
 // A station for a first start.
-pub fn blank() -> net::Station {
+pub fn blank() -> net::Station
+    ensures { λ r. ⌜ r ≡ blank ⌝ }
+{
     net::new(config::settings_of(tape_settings()), 0)
 }
 
 // -20 + 2 * level.
-fn ladder() -> [f32; 17] {
+fn ladder() -> [f32; 17]
+    ensures { λ r. ⌜ r ≡ ladder ⌝ }
+{
     [
         -20.0,
         -18.0,
@@ -31,7 +37,9 @@ fn ladder() -> [f32; 17] {
 }
 
 // The settings of `tape`: call `0`, name `PORT`, `prime` false, the rest of NetConfig::new.
-pub fn tape_settings() -> Given {
+pub fn tape_settings() -> Given
+    ensures { λ r. ⌜ r ≡ tapeSettings ⌝ }
+{
     let thresholds = ladder();
     let durations = [1.0f64; 4];
     let nobody = [32u8; 7];
