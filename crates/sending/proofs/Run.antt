@@ -39,9 +39,10 @@ use Rattle.rx.specs.Reception.{ncsRx}
 use Rattle.config.specs.declared.Given.{Given}
 use Rattle.config.specs.Checks.{settingsOk, settingsOf, thresholdsOk}
 use Rattle.station.specs.Entries.{startRefusal, admitRefusal, admitOf, receiveRefusal, receiveOf, nextRefusal, nextOf, sentOf, readRefusal, cellRefusal, readingOf}
+use Rattle.station.specs.SignOff.{bereaveAt, bereaveAll, clearAt, clearAll, unhearAt, unhearAll, signOff, signOffRefusal, signOffOf}
 use Rattle.outbox.specs.Outbox.{cut-up, recut, picked, swept, sweep, sweep-out, fresh, fresh-out, lens, take-out, retain, remove, acked}
 use Rattle.promise.specs.Promise as item3
-use Rattle.promise.specs.Promise.{handed, Net, net, Call, admission, reception, decision, sending, result, started, Stays, cover, alsoHanded, allBelow, bookFrame, bookFrames, eventsIn}
+use Rattle.promise.specs.Promise.{handed, Net, net, Call, admission, reception, decision, sending, signing, result, started, Stays, cover, alsoHanded, allBelow, bookFrame, bookFrames, bookEnds, eventsIn}
 use Rattle.promise.proofs.Runs.{starts, near, apart}
 use Rattle.sending.specs.Runs.{start}
 use Rattle.sending.specs.Runs as runs
@@ -82,9 +83,9 @@ sent-call = sending nil
 abbrev hears : ℕ → List Heard → List ℕ → Call
 hears hi fs numbers = reception (burstWords (record { head = record { code = 0; hi = hi; extra = 0 }; frames = fs })) nil nil handed 8192 numbers
 
--- boat A is admitted to slot 0, posts a message and is polled; its first burst has two pieces of two bytes, and more is to come
-abbrev steps : List Step
-steps =
+-- boat A is admitted to slot 0, posts a message and is polled; its first burst has two pieces of two bytes, of which the first is lost, and more is to come
+abbrev opening : List Step → List Step
+opening es =
     shore (admission (packCall (65 ∷ 32 ∷ 32 ∷ 32 ∷ 32 ∷ 32 ∷ 32 ∷ [])) 63 nil 8192)
     ∷ post (104 ∷ 105 ∷ []) 16384
     ∷ shore next-call
@@ -93,12 +94,18 @@ steps =
     ∷ shore sent-call
     ∷ take 2 64 8192 16384 16384
     ∷ shore (hears 4 (lost ∷ heard 0 2 (104 ∷ 105 ∷ []) ∷ []) (0 ∷ 0 ∷ []))
-    ∷ answer (headWord tiny kPollack (ackExtra 0 0 2)) 0 (some 0 ∷ some 1 ∷ []) 0 16384 16384
+    ∷ es
+
+-- the second is acknowledged; the first is sent again, and acknowledged too
+abbrev steps : List Step
+steps =
+    opening
+    (answer (headWord tiny kPollack (ackExtra 0 0 2)) 0 (some 0 ∷ some 1 ∷ []) 0 16384 16384
     ∷ shore sent-call
     ∷ take 255 64 8192 16384 16384
     ∷ shore (hears 1 (heard 0 0 (2 ∷ 0 ∷ []) ∷ []) (0 ∷ []))
     ∷ answer (headWord tiny kAck (ackExtra 0 1 1)) 1 (some 0 ∷ []) 1 16384 16384
-    ∷ []
+    ∷ [])
 
 -- the other boats send nothing
 abbrev nobody : Stays
@@ -110,20 +117,60 @@ M = sentBy 0 ((104 ∷ 105 ∷ []) ∷ []) nobody
 abbrev begin : Ends
 begin = ends.fresh (net (newStation (settingsOf plain) 1) bytes)
 
-unfoldable after : List Step → Ends → Ends
+unfoldable pub after : List Step → Ends → Ends
 after [] x = x
 after (e ∷ es) x = after es (stepped M e x)
 
 -- the message is the one posted; at the end the sending end holds none, and it has landed
-record HiRun : Type 0 where
-  posts : posted steps start ≡ (104 ∷ 105 ∷ []) ∷ []
-  holds : after steps begin .run .box .msgs ≡ []
-  lands : after steps begin .landings
+pub record HiRun : Type 0 where
+  pub posts : posted steps start ≡ (104 ∷ 105 ∷ []) ∷ []
+  pub holds : after steps begin .run .box .msgs ≡ []
+  pub lands : after steps begin .landings
       ≡ record { message = record { slot = 0; number = 0 }; event = record { slot = 0; cell = 0; number = 0 }; bytes = 104 ∷ 105 ∷ [] } ∷ []
 
-hi-run : HiRun
+pub hi-run : HiRun
 unfolding after size units round sum add mul lt le ofInt ofBits first fold every any hasBit withBit withoutBit bothOf eitherOf minusOf lowestBit lowestFree slotsOf stop levelBelow totalLt digit char trimStart trimEnd unpacked shifted widened widenedAt wordOk payloadOk unpack payload frameOf itemAt framesOf headOk parse pack framesWords chunksOf seek next grow settle store await cells.accept slideOf markOf ownCell putOf accept heardAt relaySrcFor turnOver isMember newStation onTxDone seatOf findCall leadsTo pollBurst acksBurst beaconRows beaconPayload beyond beaconOf tellAll listSent rxListBurst triedOf sourceFor promoteAt promoteAll moveAt moveAll rerouteOf maskWhere rowsOn leastReach leastDirect pollStage listFor drawStage rerouteStage roundEnd actOf windowStage againStage dueOf ncsNext pieceFrame readFrame frameStep readFrames replyEnd ncsRx admitRefusal admitOf receiveRefusal receiveOf nextRefusal nextOf sentOf readRefusal cellRefusal readingOf cut-up recut picked swept sweep sweep-out fresh fresh-out lens take-out retain remove acked result item3.step cover alsoHanded allBelow bookFrame bookFrames eventsIn acksFrom doneBy runAfter bodiesIn posted stepped runs.step
 hi-run = record { posts = refl; holds = refl; lands = refl }
+
+-- ---- premises that are needed
+
+-- its acknowledgement is of frame 1; taken for a burst whose frame 1 is piece 0, it lets the message go though piece 0 never came
+abbrev mistaken : List Step
+mistaken =
+    opening
+    (answer (headWord tiny kPollack (ackExtra 0 0 2)) 0 (none ∷ some 0 ∷ []) 0 16384 16384
+    ∷ answer (headWord tiny kPollack (ackExtra 0 0 2)) 0 (none ∷ some 1 ∷ []) 0 16384 16384
+    ∷ [])
+
+pub record Mistaken : Type 0 where
+  pub holds : after mistaken begin .run .box .msgs ≡ []
+  pub handed : after mistaken begin .book .ledger .handed 0 0 ≡ false
+
+-- so an acknowledgement has to be taken for the burst it was made for
+pub mistaken-run : Mistaken
+unfolding after size units round sum add mul lt le ofInt ofBits first fold every any hasBit withBit withoutBit bothOf eitherOf minusOf lowestBit lowestFree slotsOf stop levelBelow totalLt digit char trimStart trimEnd unpacked shifted widened widenedAt wordOk payloadOk unpack payload frameOf itemAt framesOf headOk parse pack framesWords chunksOf seek next grow settle store await cells.accept slideOf markOf ownCell putOf accept heardAt relaySrcFor turnOver isMember newStation onTxDone seatOf findCall leadsTo pollBurst acksBurst beaconRows beaconPayload beyond beaconOf tellAll listSent rxListBurst triedOf sourceFor promoteAt promoteAll moveAt moveAll rerouteOf maskWhere rowsOn leastReach leastDirect pollStage listFor drawStage rerouteStage roundEnd actOf windowStage againStage dueOf ncsNext pieceFrame readFrame frameStep readFrames replyEnd ncsRx admitRefusal admitOf receiveRefusal receiveOf nextRefusal nextOf sentOf readRefusal cellRefusal readingOf cut-up recut picked swept sweep sweep-out fresh fresh-out lens take-out retain remove acked result item3.step cover alsoHanded allBelow bookFrame bookFrames eventsIn acksFrom doneBy runAfter bodiesIn posted stepped runs.step
+mistaken-run = record { holds = refl; handed = refl }
+
+-- the boat signs off as its message has landed: the book forgets it, and then the sending end lets it go
+abbrev gone : List Step
+gone =
+    opening
+    (answer (headWord tiny kPollack (ackExtra 0 0 2)) 0 (some 0 ∷ some 1 ∷ []) 0 16384 16384
+    ∷ shore sent-call
+    ∷ take 255 64 8192 16384 16384
+    ∷ shore (hears 1 (heard 0 0 (2 ∷ 0 ∷ []) ∷ []) (0 ∷ []))
+    ∷ shore (signing 0)
+    ∷ answer (headWord tiny kAck (ackExtra 0 1 1)) 1 (some 0 ∷ []) 1 16384 16384
+    ∷ [])
+
+pub record Gone : Type 0 where
+  pub holds : after gone begin .run .box .msgs ≡ []
+  pub handed : after gone begin .book .ledger .handed 0 0 ≡ false
+
+-- so the boat may not sign off
+pub gone-run : Gone
+unfolding after signOffRefusal signOffOf signOff bereaveAt bereaveAll clearAll clearAt unhearAll unhearAt bookEnds size units round sum add mul lt le ofInt ofBits first fold every any hasBit withBit withoutBit bothOf eitherOf minusOf lowestBit lowestFree slotsOf stop levelBelow totalLt digit char trimStart trimEnd unpacked shifted widened widenedAt wordOk payloadOk unpack payload frameOf itemAt framesOf headOk parse pack framesWords chunksOf seek next grow settle store await cells.accept slideOf markOf ownCell putOf accept heardAt relaySrcFor turnOver isMember newStation onTxDone seatOf findCall leadsTo pollBurst acksBurst beaconRows beaconPayload beyond beaconOf tellAll listSent rxListBurst triedOf sourceFor promoteAt promoteAll moveAt moveAll rerouteOf maskWhere rowsOn leastReach leastDirect pollStage listFor drawStage rerouteStage roundEnd actOf windowStage againStage dueOf ncsNext pieceFrame readFrame frameStep readFrames replyEnd ncsRx admitRefusal admitOf receiveRefusal receiveOf nextRefusal nextOf sentOf readRefusal cellRefusal readingOf cut-up recut picked swept sweep sweep-out fresh fresh-out lens take-out retain remove acked result item3.step cover alsoHanded allBelow bookFrame bookFrames eventsIn acksFrom doneBy runAfter bodiesIn posted stepped runs.step
+gone-run = record { holds = refl; handed = refl }
 
 some-is : (a b : ℕ) → some a ≡ some b → a ≡ b
 some-is a b q = cc
@@ -142,7 +189,7 @@ one-case P a zero j q = subst (P 0) (some-is 0 j q) a
 one-case P a (suc i) j q = not-some j q
 
 -- the premises hold: the frames of each reception are pieces sent before, and each acknowledgement is taken for the burst of that reception
-hi-ok : StepsOk 0 M steps begin
+pub hi-ok : StepsOk 0 M steps begin
 unfolding StepsOk size units round sum add mul lt le ofInt ofBits first fold every any hasBit withBit withoutBit bothOf eitherOf minusOf lowestBit lowestFree slotsOf stop levelBelow totalLt digit char trimStart trimEnd unpacked shifted widened widenedAt wordOk payloadOk unpack payload frameOf itemAt framesOf headOk parse pack framesWords chunksOf seek next grow settle store await cells.accept slideOf markOf ownCell putOf accept heardAt relaySrcFor turnOver isMember newStation onTxDone seatOf findCall leadsTo pollBurst acksBurst beaconRows beaconPayload beyond beaconOf tellAll listSent rxListBurst triedOf sourceFor promoteAt promoteAll moveAt moveAll rerouteOf maskWhere rowsOn leastReach leastDirect pollStage listFor drawStage rerouteStage roundEnd actOf windowStage againStage dueOf ncsNext pieceFrame readFrame frameStep readFrames replyEnd ncsRx admitRefusal admitOf receiveRefusal receiveOf nextRefusal nextOf sentOf readRefusal cellRefusal readingOf cut-up recut picked swept sweep sweep-out fresh fresh-out lens take-out retain remove acked result item3.step cover alsoHanded allBelow bookFrame bookFrames eventsIn acksFrom doneBy runAfter bodiesIn posted stepped runs.step
 hi-ok = (
   tt,
