@@ -23,6 +23,19 @@ fn held(t: &mut [u8; 65536], at: usize, n: u32) -> usize {
         21 => text::put_text(t, at, b": no member in the slot"),
         22 => text::put_text(t, at, b": no landed message in the cell"),
         23 => text::put_text(t, at, b": the net is full"),
+        _ => asked(t, at, n),
+    }
+}
+
+// What the requests add.
+fn asked(t: &mut [u8; 65536], at: usize, n: u32) -> usize {
+    match n {
+        24 => text::put_text(t, at, b": no room in the boat's queue"),
+        25 => text::put_text(t, at, b": too much posted to the boat"),
+        26 => text::put_text(t, at, b": a figure too large, or not 62"),
+        27 => text::put_text(t, at, b": a fault in a mark"),
+        28 => text::put_text(t, at, b": eight messages held"),
+        29 => text::put_text(t, at, b": message too long"),
         _ => text::put_text(t, at, b": no refusal of the station's"),
     }
 }

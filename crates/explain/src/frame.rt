@@ -14,13 +14,36 @@ fn packed(p: &[u8; 255], i: usize) -> [u8; 5] {
     [p[i], p[i + 1], p[i + 2], p[i + 3], p[i + 4]]
 }
 
-fn beacon(t: &mut [u8; 65536], at: usize, p: &[u8; 255]) -> usize {
+fn beacon(t: &mut [u8; 65536], at: usize, p: &[u8; 255], len: usize) -> usize {
     let a = text::put_text(t, at, b"beacon of ");
     let b = say::call(t, a, packed(p, 1));
     let c = text::put_text(t, b, b", net ");
     let d = name(t, c, p);
     let e = open(t, d, p[12]);
-    say::byte(t, e, b", check-in slots ", p[13])
+    let f = say::byte(t, e, b", check-in slots ", p[13]);
+    if len < 18 {
+        return f;
+    }
+    timing(t, f, p)
+}
+
+// When the first check-in slot begins and how long one is, two bytes each, lowest first.
+fn timing(t: &mut [u8; 65536], at: usize, p: &[u8; 255]) -> usize {
+    let a = text::put_text(t, at, b", the first after ");
+    let b = text::put_decimal(t, a, two(p[14], p[15]));
+    let c = text::put_text(t, b, b" ms, each of ");
+    let d = text::put_decimal(t, c, two(p[16], p[17]));
+    text::put_text(t, d, b" ms")
+}
+
+fn two(low: u8, high: u8) -> u64 {
+    wide(low) + 256 * wide(high)
+}
+
+fn wide(x: u8) -> u64
+    ensures { λ r. ⌜ r < 256 ⌝ }
+{
+    x as u64
 }
 
 fn open(t: &mut [u8; 65536], at: usize, x: u8) -> usize {
@@ -69,18 +92,67 @@ fn branch(t: &mut [u8; 65536], at: usize, p: &[u8; 255], i: usize) -> usize {
     say::byte(t, a, b" by relay ", p[i + 1])
 }
 
+// Eight bytes: a call that asks in, the level field at which it was heard, capability and version.
+fn heard_call(t: &mut [u8; 65536], at: usize, p: &[u8; 255], i: usize) -> usize {
+    let a = text::put(t, at, b' ');
+    let b = say::call(t, a, packed(p, i));
+    field(t, b, at_or_zero(p, if i < 250 { i + 5 } else { i }))
+}
+
+// Two bytes: a boat relayed by the sender, and from 128 on the level at which it answered.
+fn child(t: &mut [u8; 65536], at: usize, p: &[u8; 255], i: usize) -> usize {
+    if 253 < i {
+        return at;
+    }
+    let a = say::byte(t, at, b" slot ", p[i]);
+    if p[i + 1] < 128 {
+        return text::put_text(t, a, b" did not answer");
+    }
+    field(t, a, p[i + 1])
+}
+
+// A level field: decibels plus 24 in the low six bits, 63 for nothing measured.
+fn field(t: &mut [u8; 65536], at: usize, q: u8) -> usize {
+    let x = q % 64;
+    if x == 63 {
+        return text::put_text(t, at, b" not measured");
+    }
+    if x < 24 {
+        let a = say::byte(t, at, b" at -", 24 - x);
+        return text::put_text(t, a, b" dB");
+    }
+    let a = say::byte(t, at, b" at ", x - 24);
+    text::put_text(t, a, b" dB")
+}
+
+fn checkin(t: &mut [u8; 65536], at: usize, p: &[u8; 255]) -> usize {
+    let a = text::put_text(t, at, b"check-in of ");
+    let b = say::call(t, a, packed(p, 1));
+    let c = text::put_text(t, b, b", hears us");
+    field(t, c, p[6])
+}
+
+fn report(t: &mut [u8; 65536], at: usize, p: &[u8; 255]) -> usize {
+    let a = say::byte(t, at, b"report of slot ", p[1]);
+    let b = text::put_text(t, a, b", hears us");
+    field(t, b, p[2])
+}
+
 fn entry(t: &mut [u8; 65536], at: usize, kind: u8, p: &[u8; 255], i: usize) -> usize {
     match kind {
+        4 => heard_call(t, at, p, i),
         5 => ack(t, at, p, i),
         6 => listed(t, at, p, i),
+        10 => child(t, at, p, i),
         _ => branch(t, at, p, i),
     }
 }
 
 fn size_of(kind: u8) -> usize
-    ensures { λ r. ⌜ (0 < r) × (r < 7) ⌝ }
+    ensures { λ r. ⌜ (0 < r) × (r < 9) ⌝ }
 {
     match kind {
+        4 => 8,
         5 => 6,
         6 => 3,
         _ => 2,
@@ -135,13 +207,27 @@ fn control(t: &mut [u8; 65536], at: usize, p: &[u8; 255], len: usize) -> usize {
             if len < 14 {
                 return raw(t, at, p, len);
             }
-            beacon(t, at, p)
+            beacon(t, at, p, len)
         }
+        2 | 3 => of_boat(t, at, p, len),
+        4 => entries(t, at, b"overheard:", 4, p, len),
         5 => entries(t, at, b"members:", 5, p, len),
         6 => entries(t, at, b"received:", 6, p, len),
         8 => entries(t, at, b"tree:", 8, p, len),
+        10 => entries(t, at, b"children:", 10, p, len),
         _ => raw(t, at, p, len),
     }
+}
+
+// A boat's check-in or report.
+fn of_boat(t: &mut [u8; 65536], at: usize, p: &[u8; 255], len: usize) -> usize {
+    if (p[0] == 2) & (6 < len) {
+        return checkin(t, at, p);
+    }
+    if (p[0] == 3) & (11 < len) {
+        return report(t, at, p);
+    }
+    raw(t, at, p, len)
 }
 
 // A frame of len payload bytes.

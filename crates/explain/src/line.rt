@@ -3,6 +3,7 @@ ghost use mathlib.Core.Path.{_≡_};
 use super::burst;
 use super::event;
 use super::frame;
+use super::input;
 use super::say;
 
 // end: where the text ends so far. word: the digits of the line so far, count how many, plain: the line is no word.
@@ -132,6 +133,7 @@ fn alone(t: &mut [u8; 65536], at: usize, w: u32) -> usize {
         8 => burst::head(t, at, w),
         9 => burst::wave(t, at, w),
         13 => text::put_text(t, at, b"  frame lost"),
+        7 | 14 | 15 => input::word(t, at, w),
         _ => other(t, at, w),
     }
 }

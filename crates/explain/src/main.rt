@@ -1,7 +1,8 @@
-// What `tape` and `drive` print, in words that a person can read: a line for each result word, a frame's words as one line. Other lines pass.
+// What `tape` and `drive` print, and what they read, in words that a person can read: a line for each word, a frame's words as one line. Other lines pass.
 mod burst;
 mod event;
 mod frame;
+mod input;
 mod line;
 mod say;
 
