@@ -88,7 +88,8 @@ fn wide16(x: u16) -> usize
 // `push_msg`: a message queued. Its marks are not touched, whatever they are.
 pub fn post(s: Sender, bytes: &mut [u8], body: &[u8]) -> Answered
     ensures refusal { λ r. ⌜ r .refusal ≡ postRefusal (s .count) (length (now (bytes .entry))) (length (now (body .entry))) ⌝ }
-    ensures outbox { λ r. ⌜ ((marks : List ℕ) → outbox (r .sender) (now (bytes .exit)) marks ≡ unless (r .refusal) (outbox s (now (bytes .entry)) marks) (push-msg (outbox s (now (bytes .entry)) marks) (now (body .entry)))) ⌝ }
+    ensures outbox { λ r. ⌜ ((marks : List ℕ) → outbox (r .sender) (now (bytes .exit)) marks
+        ≡ unless (r .refusal) (outbox s (now (bytes .entry)) marks) (push-msg (outbox s (now (bytes .entry)) marks) (now (body .entry)))) ⌝ }
     ensures untouched { λ r. ⌜ ((r .refusal ≡ 0 → ⊥) → (r .sender ≡ s) × (now (bytes .exit) ≡ now (bytes .entry))) ⌝ }
 {
     let no = post_refusal(s, bytes.len(), body.len());
@@ -209,7 +210,8 @@ fn pending_at(s: Sender, marks: &[u8], i: usize) -> usize
 // Our last burst got no answer at all.
 pub fn stale(s: Sender, marks: &mut [u8]) -> u8
     ensures refusal { λ r. ⌜ r ≡ memoryRefusal (length (now (marks .entry))) ⌝ }
-    ensures outbox { λ r. ⌜ ((bytes : List ℕ) → outbox s bytes (now (marks .exit)) ≡ unless r (outbox s bytes (now (marks .entry))) (stale (outbox s bytes (now (marks .entry))))) ⌝ }
+    ensures outbox { λ r. ⌜ ((bytes : List ℕ) → outbox s bytes (now (marks .exit))
+        ≡ unless r (outbox s bytes (now (marks .entry))) (stale (outbox s bytes (now (marks .entry))))) ⌝ }
     ensures untouched { λ r. ⌜ ((r ≡ 0 → ⊥) → now (marks .exit) ≡ now (marks .entry)) ⌝ }
 {
     if marks.len() < MEMORY {
