@@ -1,0 +1,2 @@
+-- Laws of the directed queue's bytes.
+pub mod Laws
