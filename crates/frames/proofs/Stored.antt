@@ -1,7 +1,7 @@
 -- A boat's piece, put together: the stores of the code, one element at a time, are what `pieceFrame` says. Assumes nothing.
 use mathlib.Core.Path.{_≡_, refl}
 use mathlib.Core.Bool.{Bool, true, false, not, cond, _&&_, _||_}
-use mathlib.Core.List.{List, append-nil}
+use mathlib.Core.List.{List, [], append-nil}
 use mathlib.Core.Logic.{⊎-elim}
 use Prim.Native.Nat.{ℕ, _+_, _*_, _/_, _%_, _<_, _≤_}
 use native.Mathlib.Omega.{arith}
@@ -17,17 +17,17 @@ use Rattle.wire.specs.declared.number.Number.the-variants.{Is, Before}
 use Rattle.wire.specs.Numbers.{widened}
 use Rattle.inbox.specs.declared.cell.Cell.{Cell}
 use Rattle.inbox.specs.declared.keep.Kept.{Kept}
-use Rattle.inbox.specs.declared.keep.Kept.the-variants.{Needless, Yes, Late, Long, NoCell, NoPlace}
+use Rattle.inbox.specs.declared.keep.Kept.the-variants.{Needless, Yes, Late, Overlong, Long, NoCell, NoPlace}
 use Rattle.inbox.specs.declared.store.Landed.{Landed}
 use Rattle.inbox.specs.declared.store.Landed.the-variants.{Bytes, NotYet}
 use Rattle.inbox.specs.Keeping.{keptOf, shorterOf, fullOf}
-use Rattle.inbox.specs.Messages.{emptyCell}
+use Rattle.inbox.specs.Messages.{emptyCell, empty, showsOf}
 use Rattle.inbox.specs.Stores.{landedOf, inCell}
 use Rattle.stream.specs.declared.table.Room.{Room}
 use Rattle.stream.specs.declared.table.Room.the-variants.{Own, Free, Full}
 use Rattle.stream.specs.declared.window.Window.{Window}
-use Rattle.stream.specs.Window.{handedOf}
-use Rattle.stream.specs.Table.{Took, took, takeOf, takeBy, putOf, leftOf, changes, isLost, placeOf, cellFor, keptFor, cellCount, roomFor, ownerOf, tableRoom, acceptBy, accept, accepted, acceptIn, passed, noCell, joinedOf}
+use Rattle.stream.specs.Window.{handedOf, barredOf}
+use Rattle.stream.specs.Table.{Took, took, takeOf, takeBy, putOf, leftOf, changes, bars, isLost, placeOf, hasOwn, cellFor, keptFor, cellCount, roomFor, ownerOf, tableRoom, acceptBy, accept, accepted, acceptIn, passed, noCell, joinedOf}
 use Rattle.stream.proofs.Rooms.{RoomIs, room-is}
 use Rattle.roster.specs.Members.{noMember}
 use Rattle.net.specs.State.{indexOf, memberAt, tableOf}
@@ -35,7 +35,7 @@ use Rattle.net.specs.Net.{isMember}
 use Rattle.frames.specs.declared.Air.{Air}
 use Rattle.frames.specs.declared.pieces.Piece.{Piece}
 use Rattle.frames.specs.Reading.{Reading}
-use Rattle.frames.specs.Pieces.{RoomIn, unwantedOf, pieceBy, pieceOf, takenOf, keptPiece, takenPiece, pieceFrame, unkeptAt, storedPiece, heardMember}
+use Rattle.frames.specs.Pieces.{RoomIn, unwantedOf, pieceBy, pieceOf, takenOf, keptPiece, barredPiece, takenPiece, pieceFrame, unkeptAt, storedPiece, heardMember}
 
 -- ### The room
 
@@ -46,20 +46,21 @@ room-of-store (Free c) n h l = h
 room-of-store Full n h l = (omega arith, omega arith)
 
 -- without a cell a piece is not kept, so nothing is stored
-unroomed : (n : ℕ) (a b c d e : Bool) → changes (cond false Needless (cond a Needless (cond b Needless (cond c Needless (cond d Late (cond e Long (cond (not false) NoCell (cond (fullOf emptyCell n) NoPlace Yes)))))))) ≡ false
-unroomed n true b c d e = refl
-unroomed n false true c d e = refl
-unroomed n false false true d e = refl
-unroomed n false false false true e = refl
-unroomed n false false false false true = refl
-unroomed n false false false false false = refl
+unroomed : (n : ℕ) (a b c d e f : Bool) → changes (cond a Needless (cond b Needless (cond c Needless (cond d Late (cond e Overlong (cond f Long (cond (not false) NoCell (cond (fullOf emptyCell n) NoPlace Yes)))))))) ≡ false
+unroomed n true b c d e f = refl
+unroomed n false true c d e f = refl
+unroomed n false false true d e f = refl
+unroomed n false false false true e f = refl
+unroomed n false false false false true f = refl
+unroomed n false false false false false true = refl
+unroomed n false false false false false false = refl
 
-pub no-room : (s : List ℕ) (room : Room) (cell : Cell) (number o : ℕ) (p : List ℕ) → RoomIn room (length s) → length s < 6400
-    → took (leftOf cell (keptOf false number o (length p) false emptyCell)) s ≡ takeOf s room cell number o p
-no-room s (Own c) cell number o p h l = absurd (omega arith)
-no-room s (Free c) cell number o p h l = absurd (omega arith)
-no-room s Full cell number o p h l =
-    rw (unroomed o (eqb (length p) 0) (leb (o + length p) (emptyCell .joined)) (shorterOf emptyCell o (length p)) (leb 4294967040 number) (ltb 2048 (o + length p)))
+pub no-room : (barred : Bool) (s : List ℕ) (room : Room) (cell : Cell) (number o : ℕ) (p : List ℕ) → RoomIn room (length s) → length s < 6400
+    → took (leftOf cell (keptOf number o (length p) (barred || showsOf (empty []) o p) false emptyCell)) s ≡ takeOf barred s room cell number o p
+no-room barred s (Own c) cell number o p h l = absurd (omega arith)
+no-room barred s (Free c) cell number o p h l = absurd (omega arith)
+no-room barred s Full cell number o p h l =
+    rw (unroomed o (eqb (length p) 0) (leb (o + length p) (emptyCell .joined)) (shorterOf emptyCell o (length p)) (leb 4294967040 number) (barred || showsOf (empty []) o p) (ltb 2048 (o + length p)))
 
 count-by : (n : ℕ) (t : Bool) → ltb n 64 ≡ t → (cond t n 64 ≤ n) × (cond t n 64 ≤ 64)
 count-by n true e = (omega arith, omega (arith, ltb-true n 64 e))
@@ -98,7 +99,7 @@ module _ (w : Window) (here : Bool) (slot field : ℕ) (owners : List ℕ) (busy
       go Before = none
       go (Is k) = by (not here || handedOf w k)
         where
-          by : (t : Bool) → P (cond t (unwantedOf slot here) (record { slot = slot; here = here; wanted = true; number = k; offset = field % 65536; room = roomFor owners busy landed count (ownerOf slot k) }) .room)
+          by : (t : Bool) → P (cond t (unwantedOf slot here) (record { slot = slot; here = here; wanted = true; barred = barredOf w k; number = k; offset = field % 65536; room = roomFor owners busy landed count (ownerOf slot k) }) .room)
           by true = none
           by false = room k
 
@@ -146,7 +147,7 @@ module _ (a : Air) (slot : ℕ) (x : Reading) where
     -- a piece that changes no cell, and is not lost: its boat is heard
     heard-only : (k n : ℕ)
         → storedPiece a slot p (took (leftOf cell Needless) (x .store)) x
-        ≡ keptPiece a slot (record { table = tableOf (x .station); window = memberAt (x .station) slot .up; store = x .store; lost = false; landed = NotYet; cell = n; number = k }) x
+        ≡ keptPiece a slot (record { table = tableOf (x .station); window = memberAt (x .station) slot .up; store = x .store; lost = false; bars = false; landed = NotYet; cell = n; number = k }) x
     heard-only k n =
         rw (
           c,
@@ -158,14 +159,40 @@ module _ (a : Air) (slot : ℕ) (x : Reading) where
         )
 
     -- a piece that is not kept: only the mask tells of it
-    not-kept : (d : Kept) → changes d ≡ false → isLost d ≡ true
+    not-kept : (d : Kept) → changes d ≡ false → bars d ≡ false → isLost d ≡ true
         → storedPiece a slot p (took (leftOf cell d) (x .store)) x ≡ unkeptAt x
-    not-kept d e l =
+    not-kept d e z l =
         rw (
           h,
           e,
+          z,
           l,
           set-getD (x .station .members) (indexOf slot) noMember,
+          set-getD (x .station .owners) (placeOf (p .room)) 0,
+          set-getD (x .station .cells) (placeOf (p .room)) noCell,
+          or-no (x .station .round .traffic),
+          or-no (x .station .round .rxdirty),
+          append-nil (x .words),
+        )
+
+    -- a message that claims too much: the boat's window bars it, and its cell is free
+    over-by : (b : Bool) → hasOwn (p .room) ≡ b
+        → storedPiece a slot p (took (leftOf cell Overlong) (x .store)) x
+        ≡ unkeptAt (barredPiece slot (accepted (tableOf (x .station)) (memberAt (x .station) slot .up) (p .room) slot (p .number) (took (leftOf cell Overlong) (x .store))) x)
+    over-by true e =
+        rw (
+          h,
+          e,
+          set-getD (x .station .owners) (placeOf (p .room)) 0,
+          set-getD (x .station .cells) (placeOf (p .room)) noCell,
+          or-no (x .station .round .traffic),
+          or-no (x .station .round .rxdirty),
+          append-nil (x .words),
+        )
+    over-by false e =
+        rw (
+          h,
+          e,
           set-getD (x .station .owners) (placeOf (p .room)) 0,
           set-getD (x .station .cells) (placeOf (p .room)) noCell,
           or-no (x .station .round .traffic),
@@ -179,7 +206,7 @@ module _ (a : Air) (slot : ℕ) (x : Reading) where
 
     abbrev keptAs : Cell → List ℕ → Landed → Reading
     keptAs cell′ store′ l =
-        keptPiece a slot (accepted (tableOf (x .station)) (memberAt (x .station) slot .up) (placeOf (p .room)) slot (p .number) (kept cell′ store′ l)) x
+        keptPiece a slot (accepted (tableOf (x .station)) (memberAt (x .station) slot .up) (p .room) slot (p .number) (kept cell′ store′ l)) x
 
     landed-by : (cell′ : Cell) (store′ : List ℕ) (n : ℕ) (t : Bool) → not (eqb (a .polled) slot) && isMember (x .station .used) (a .polled) ≡ t
         → storedPiece a slot p (kept cell′ store′ (Bytes n)) x ≡ keptAs cell′ store′ (Bytes n)
@@ -196,16 +223,17 @@ module _ (a : Air) (slot : ℕ) (x : Reading) where
     -- whatever the kept rule answers
     open-by : (d : Kept) (offset : ℕ) (bytes : List ℕ)
         → storedPiece a slot p (takeBy d (x .store) (p .room) cell offset bytes) x
-        ≡ takenPiece a slot (accepted (tableOf (x .station)) (memberAt (x .station) slot .up) (placeOf (p .room)) slot (p .number) (takeBy d (x .store) (p .room) cell offset bytes)) x
+        ≡ takenPiece a slot (accepted (tableOf (x .station)) (memberAt (x .station) slot .up) (p .room) slot (p .number) (takeBy d (x .store) (p .room) cell offset bytes)) x
     unfolding putOf
     open-by Yes offset bytes =
         let j = joinedOf (x .store) (placeOf (p .room)) (cellFor (p .room) cell) offset bytes in
         kept-by (j .cell) (inCell (x .store) (placeOf (p .room)) (j .bytes)) (landedOf j)
     open-by Needless offset bytes = heard-only (p .number) (placeOf (p .room))
-    open-by Late offset bytes = not-kept Late refl refl
-    open-by Long offset bytes = not-kept Long refl refl
-    open-by NoCell offset bytes = not-kept NoCell refl refl
-    open-by NoPlace offset bytes = not-kept NoPlace refl refl
+    open-by Late offset bytes = not-kept Late refl refl refl
+    open-by Overlong offset bytes = over-by (hasOwn (p .room)) refl
+    open-by Long offset bytes = not-kept Long refl refl refl
+    open-by NoCell offset bytes = not-kept NoCell refl refl refl
+    open-by NoPlace offset bytes = not-kept NoPlace refl refl refl
 
 -- the stores of a piece, as the code makes them, are what `pieceFrame` says
 pub piece-whole : (a : Air) (slot field : ℕ) (bytes : List ℕ) (x : Reading)
@@ -227,7 +255,7 @@ piece-whole a slot field bytes x = go (isMember (x .station .used) slot) (widene
     go true (Is k) = by (handedOf (memberAt (x .station) slot .up) k)
       where
         wanted : Piece
-        wanted = record { slot = slot; here = true; wanted = true; number = k; offset = field % 65536; room = tableRoom (tableOf (x .station)) slot k }
+        wanted = record { slot = slot; here = true; wanted = true; barred = barredOf (memberAt (x .station) slot .up) k; number = k; offset = field % 65536; room = tableRoom (tableOf (x .station)) slot k }
 
         chosen : Bool → Piece
         chosen t = cond t (unwantedOf slot true) wanted
@@ -238,4 +266,4 @@ piece-whole a slot field bytes x = go (isMember (x .station .used) slot) (widene
         by true = heard-only a slot x (unwantedOf slot true) refl refl k 0
         by false =
             let room = tableRoom (tableOf (x .station)) slot k in
-            open-by a slot x wanted refl refl (keptFor room (getD (x .station .cells) (placeOf room) noCell) k (field % 65536) (length bytes)) (field % 65536) bytes
+            open-by a slot x wanted refl refl (keptFor (barredOf (memberAt (x .station) slot .up) k) (x .store) room (getD (x .station .cells) (placeOf room) noCell) k (field % 65536) bytes) (field % 65536) bytes

@@ -1,11 +1,11 @@
--- `ncs_rx` of ncs.rs, T_UP: a boat's piece, kept or not, and what lands.
+-- `ncs_rx` of ncs.rs, T_UP: a boat's piece, kept or not, and what lands. Messages that claim too much are document 02's, U4.
 use Prim.Native.Nat.{ℕ, _+_, _*_, _/_, _%_, _<_, _≤_}
 use mathlib.Core.Bool.{Bool, true, false, not, cond, _&&_, _||_}
 use mathlib.Core.List.{List, [], _∷_, _++_}
 use lib.Dec.{eqb}
 use lib.ListN.{getD, set}
 use lib.Ieee.{Float}
-use Rattle.bits.specs.Mask.{hasBit, withBit}
+use Rattle.bits.specs.Mask.{hasBit, withBit, withoutBit}
 use Rattle.bits.specs.Stop.{stop}
 use Rattle.wire.specs.declared.number.Number.{Number}
 use Rattle.wire.specs.declared.number.Number.the-variants.{Is, Before}
@@ -20,10 +20,10 @@ use Rattle.stream.specs.declared.window.Window.{Window}
 use Rattle.stream.specs.declared.table.Room.{Room}
 use Rattle.stream.specs.declared.table.Room.the-variants.{Own, Free, Full}
 use Rattle.stream.specs.declared.table.Taken.{Taken}
-use Rattle.stream.specs.Window.{handedOf}
-use Rattle.stream.specs.Table.{Accepted, Took, took, accept, roomFor, ownerOf, placeOf, takeOf, leftOf, changes, isLost, hasLanded}
+use Rattle.stream.specs.Window.{handedOf, barredOf}
+use Rattle.stream.specs.Table.{Accepted, Took, took, accept, roomFor, ownerOf, placeOf, hasOwn, takeOf, leftOf, changes, bars, isLost, hasLanded}
 use Rattle.roster.specs.declared.Member.{Member}
-use Rattle.roster.specs.Members.{noMember, withHeard, withDirect, landedOne}
+use Rattle.roster.specs.Members.{noMember, withHeard, withDirect, landedOne, barredOne}
 use Rattle.net.specs.declared.Station.{Station}
 use Rattle.net.specs.declared.Round.{Round}
 use Rattle.net.specs.declared.Totals.{Totals}
@@ -31,7 +31,7 @@ use Rattle.net.specs.State.{indexOf, memberAt, withMember, withRound, withTable
 use Rattle.net.specs.Net.{isMember}
 use Rattle.frames.specs.declared.Air.{Air}
 use Rattle.frames.specs.declared.pieces.Piece.{Piece}
-use Rattle.frames.specs.Reading.{Reading}
+use Rattle.frames.specs.Reading.{Reading, onStation}
 
 -- `direct` is set before any frame is read for content, so for the boats on the roster before the reception that have a relay; nothing in it changes their relay
 -- and nothing reads `direct`, so it is set here, with the piece that is heard
@@ -88,8 +88,13 @@ keptPiece a slot r x =
       seen = x .seen;
     }
 
+-- the message claims too much: its cell is free, and the boat's window bars its number
+abbrev pub barredPiece : ℕ → Accepted → Reading → Reading
+barredPiece slot r x =
+    onStation x (withMember (withTable (x .station) (r .table)) slot (barredOne (memberAt (x .station) slot) (r .number)))
+
 abbrev pub takenPiece : Air → ℕ → Accepted → Reading → Reading
-takenPiece a slot r x = cond (r .lost) (unkeptAt x) (keptPiece a slot r x)
+takenPiece a slot r x = cond (r .lost) (unkeptAt (cond (r .bars) (barredPiece slot r x) x)) (keptPiece a slot r x)
 
 -- a piece for a slot without a member is no boat's piece
 unfoldable pub pieceFrame : Air → ℕ → ℕ → List ℕ → Reading → Reading
@@ -102,12 +107,12 @@ pieceFrame a slot field p x =
 -- nothing is done with its bytes: no member in its slot, or its number is none, or its message is handed over
 abbrev pub unwantedOf : ℕ → Bool → Piece
 unwantedOf slot here =
-    record { slot = slot; here = here; wanted = false; number = 0; offset = 0; room = Full }
+    record { slot = slot; here = here; wanted = false; barred = false; number = 0; offset = 0; room = Full }
 
 abbrev pub numberedOf : Window → Bool → ℕ → ℕ → ℕ → Room → Piece
 numberedOf w here slot field k room =
     cond (not here || handedOf w k) (unwantedOf slot here)
-    (record { slot = slot; here = here; wanted = true; number = k; offset = field % 65536; room = room })
+    (record { slot = slot; here = here; wanted = true; barred = barredOf w k; number = k; offset = field % 65536; room = room })
 
 abbrev pub pieceBy : Number → Window → Bool → ℕ → ℕ → List ℕ → ℕ → ℕ → ℕ → Piece
 pieceBy Before w here slot field owners busy landed count = unwantedOf slot here
@@ -128,7 +133,7 @@ RoomIn Full n = 0 ≤ n
 -- offered to its cell
 abbrev pub takenOf : Piece → Cell → List ℕ → List ℕ → Took
 takenOf p c bytes store =
-    cond (p .wanted) (takeOf store (p .room) c (p .number) (p .offset) bytes) (took (leftOf c Needless) store)
+    cond (p .wanted) (takeOf (p .barred) store (p .room) c (p .number) (p .offset) bytes) (took (leftOf c Needless) store)
 
 abbrev pub ownerAfter : ℕ → Taken → Piece → ℕ
 ownerAfter old d p = cond (changes (d .kept)) (ownerOf (p .slot) (p .number)) old
@@ -136,9 +141,22 @@ ownerAfter old d p = cond (changes (d .kept)) (ownerOf (p .slot) (p .number)) ol
 abbrev pub withIf : ℕ → Bool → ℕ → ℕ
 withIf mask given c = cond given (withBit mask c) mask
 
+-- the message claims too much and has a cell: it is given back
+abbrev pub frees : Taken → Piece → Bool
+frees d p = bars (d .kept) && hasOwn (p .room)
+
+abbrev pub busyAfter : ℕ → Taken → Piece → ℕ → ℕ
+busyAfter busy d p c = cond (changes (d .kept)) (withBit busy c) (cond (frees d p) (withoutBit busy c) busy)
+
+-- the landed bit of a cell that a piece changed says whether its message landed
+abbrev pub landedAfter : ℕ → Taken → Piece → ℕ → ℕ
+landedAfter landed d p c =
+    cond (changes (d .kept)) (cond (hasLanded (d .landed)) (withBit landed c) (withoutBit landed c))
+    (cond (frees d p) (withoutBit landed c) landed)
+
 abbrev pub memberAfter : Member → Taken → Piece → Air → Member
 memberAfter m d p a =
-    cond (not (p .here) || isLost (d .kept)) m
+    cond (not (p .here) || isLost (d .kept)) (cond (bars (d .kept)) (barredOne m (p .number)) m)
     (cond (hasLanded (d .landed)) (landedOne (heardMember a m (p .slot)) (p .number) (stop (sizeOf (d .landed)))) (heardMember a m (p .slot)))
 
 abbrev pub relayedBy : Taken → Piece → Air → ℕ → Bool
@@ -164,8 +182,8 @@ storedStation a p d i c relayed s =
       round = roundAfter (s .round) d relayed;
       totals = totalsAfter (s .totals) relayed;
       used = s .used;
-      busy = withIf (s .busy) (changes (d .kept)) c;
-      landed = withIf (s .landed) (hasLanded (d .landed)) c;
+      busy = busyAfter (s .busy) d p c;
+      landed = landedAfter (s .landed) d p c;
       count = s .count;
       members = set (s .members) i (memberAfter (getD (s .members) i noMember) d p a);
       hears = s .hears;

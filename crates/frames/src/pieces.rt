@@ -17,18 +17,22 @@ use wire::number::Number;
 ghost use mathlib.Core.Path.{_≡_};
 ghost use Prim.Native.Nat.{_/_, _%_, _≤_};
 ghost use lib.ListN.{length, drop};
+ghost use mathlib.Core.Bool.{cond};
+ghost use Rattle.bits.specs.Mask.{withoutBit};
 ghost use Rattle.bits.specs.Stop.{stop};
+ghost use Rattle.roster.specs.Members.{barredOne};
 ghost use Rattle.words.specs.Words.{bytesAt};
 ghost use Rattle.out.specs.Encode.{Wrote};
 ghost use Rattle.stream.specs.Table.{took, takeOf, leftOf, roomFor, ownerOf};
-ghost use Rattle.frames.specs.Pieces.{unwantedOf, numberedOf, pieceOf, RoomIn, takenOf, ownerAfter, withIf, sizeOf, directIf, heardMember, memberAfter, relayedBy, roundAfter, totalsAfter, landedEvents};
+ghost use Rattle.frames.specs.Pieces.{unwantedOf, numberedOf, pieceOf, RoomIn, takenOf, ownerAfter, frees, busyAfter, landedAfter, withIf, sizeOf, directIf, heardMember, memberAfter, relayedBy, roundAfter, totalsAfter, landedEvents};
 
 // A boat's piece as it is read. wanted: its slot has a member, and its message a number that is not handed over; else nothing is done
-// with its bytes.
+// with its bytes. barred: that number is barred.
 pub struct Piece {
     pub slot: u8,
     pub here: bool,
     pub wanted: bool,
+    pub barred: bool,
     pub number: u32,
     pub offset: u16,
     pub room: Room,
@@ -64,7 +68,7 @@ pub fn take(p: Piece, c: Cell, words: &[u32], at: usize, len: u8, lent: &mut [u8
     let n = len as usize;
     let piece = words::payload(words, at, n);
     let room = p.room;
-    offer(room, c, p.number, p.offset, &piece[..n], lent)
+    offer(room, c, p.barred, p.number, p.offset, &piece[..n], lent)
 }
 
 pub fn owner_after(old: u64, d: Taken, p: Piece) -> u64
@@ -77,13 +81,54 @@ pub fn owner_after(old: u64, d: Taken, p: Piece) -> u64
     old
 }
 
+// Which cells are taken after a piece offered to cell c.
+pub fn busy_after(busy: u64, d: Taken, p: Piece, c: usize) -> u64
+    ensures { λ r. ⌜ r ≡ busyAfter busy d p c ⌝ }
+{
+    let kept = d.kept;
+    if table::changed(kept) {
+        return bits::with(busy, c);
+    }
+    without_if(busy, is_freed(d, p), c)
+}
+
+// Which cells hold a landed message after it.
+pub fn landed_after(mask: u64, d: Taken, p: Piece, c: usize) -> u64
+    ensures { λ r. ⌜ r ≡ landedAfter mask d p c ⌝ }
+{
+    let kept = d.kept;
+    let landed = d.landed;
+    if table::changed(kept) {
+        if table::has_landed(landed) {
+            return bits::with(mask, c);
+        }
+        return bits::without(mask, c);
+    }
+    without_if(mask, is_freed(d, p), c)
+}
+
+// Whether the message claims too much and has a cell, which is given back.
+fn is_freed(d: Taken, p: Piece) -> bool
+    ensures { λ r. ⌜ r ≡ frees d p ⌝ }
+{
+    let kept = d.kept;
+    let room = p.room;
+    table::barring(kept) & table::has_own(room)
+}
+
+fn without_if(mask: u64, yes: bool, c: usize) -> u64
+    ensures { λ r. ⌜ r ≡ cond yes (withoutBit mask c) mask ⌝ }
+{
+    if yes { bits::without(mask, c) } else { mask }
+}
+
 pub fn with_if(mask: u64, yes: bool, c: usize) -> u64
     ensures { λ r. ⌜ r ≡ withIf mask yes c ⌝ }
 {
     if yes { bits::with(mask, c) } else { mask }
 }
 
-// The boat whose piece it was: heard, unless the piece was not kept.
+// The boat whose piece it was: heard, unless the piece was not kept; a message that claims too much is barred.
 pub fn member_after(m: Member, d: Taken, p: Piece, a: Air) -> Member
     ensures { λ r. ⌜ r ≡ memberAfter m d p a ⌝ }
 {
@@ -91,7 +136,7 @@ pub fn member_after(m: Member, d: Taken, p: Piece, a: Air) -> Member
     let landed = d.landed;
     let silent = !p.here | table::lost(kept);
     if silent {
-        return m;
+        return barred_if(m, table::barring(kept), p.number);
     }
     let k = heard_member(m, p.slot, a);
     if table::has_landed(landed) {
@@ -172,6 +217,7 @@ fn unwanted(slot: u8, here: bool) -> Piece
         slot: slot,
         here: here,
         wanted: false,
+        barred: false,
         number: 0,
         offset: 0,
         room: Room::Full,
@@ -197,11 +243,13 @@ fn numbered(
         return unwanted(slot, here);
     }
     let offset = low16(field);
+    let barred = window::barred(w, n);
     let room = table::room_for(owners, busy, landed, count, table::owner_of(slot, n));
     Piece {
         slot: slot,
         here: here,
         wanted: true,
+        barred: barred,
         number: n,
         offset: offset,
         room: room,
@@ -219,18 +267,27 @@ fn left(c: Cell, kept: Kept) -> Taken
 }
 
 // A piece offered to the room that there is. Of a store without a cell the room is none, and nothing is stored.
-fn offer(room: Room, c: Cell, number: u32, offset: u16, piece: &[u8], lent: &mut [u8]) -> Taken
+fn offer(
+    room: Room,
+    c: Cell,
+    barred: bool,
+    number: u32,
+    offset: u16,
+    piece: &[u8],
+    lent: &mut [u8],
+) -> Taken
     requires { ⌜ RoomIn room (length (now lent)) ⌝ }
     requires { ⌜ length (now piece) ≤ 255 ⌝ }
-    ensures { λ r. ⌜ took r (now (lent .exit)) ≡ takeOf (now (lent .entry)) room c number offset (now (piece .entry)) ⌝ }
+    ensures { λ r. ⌜ took r (now (lent .exit)) ≡ takeOf barred (now (lent .entry)) room c number offset (now (piece .entry)) ⌝ }
 {
     if inbox::store::CELL_SIZE <= lent.len() {
-        return table::take(lent, room, c, number, offset, piece);
+        return table::take(lent, room, c, barred, number, offset, piece);
     }
     let n = piece.len() as u8;
+    let over = barred | inbox::cell::shows_first(offset, piece);
     left(
         c,
-        keep::keeping(false, number, offset, n, false, inbox::store::empty_cell()),
+        keep::keeping(number, offset, n, over, false, inbox::store::empty_cell()),
     )
 }
 
@@ -251,6 +308,15 @@ fn stopped(n: usize) -> u32
     } else {
         4294967295
     }
+}
+
+fn barred_if(m: Member, yes: bool, number: u32) -> Member
+    ensures { λ r. ⌜ r ≡ cond yes (barredOne m number) m ⌝ }
+{
+    if yes {
+        return roster::barred(m, number);
+    }
+    m
 }
 
 fn direct_if(m: Member, yes: bool, snr: f32) -> Member

@@ -10,7 +10,7 @@ use borrow.Author.Tests.{le-leb}
 use Rattle.bits.proofs.Lists.{cond-true}
 use Rattle.inbox.specs.declared.store.Landed.the-variants.{Bytes, NotYet}
 use Rattle.inbox.specs.Cells.{Held, accept}
-use Rattle.inbox.specs.Messages.{Piece, empty, accept-all, KeptBy, announced, landed, framed}
+use Rattle.inbox.specs.Messages.{Piece, empty, accept-all, KeptBy, announced, landed, framed, showsOf}
 use Rattle.inbox.specs.Stores.{landedOf, bodySize, bodyOf}
 use Rattle.inbox.proofs.Joined.{HasRoom, Prefix, Lands, joined-is, lands-exactly}
 use Rattle.inbox.proofs.Rule.{kept-room}
@@ -20,7 +20,7 @@ kept-of number M h [] k = tt
 kept-of number M h (p ∷ ps) k = (
   k .0,
   (
-    kept-room number (p .off) true (h .cell) (h .bytes) (p .bytes) (k .1 .0),
+    kept-room number (p .off) (showsOf h (p .off) (p .bytes)) true (h .cell) (h .bytes) (p .bytes) (k .1 .0),
     kept-of number M (accept h (p .off) (p .bytes)) ps (k .1 .1),
   ),
 )

@@ -1,6 +1,7 @@
 pub mod Search
 pub mod Steps
 pub mod Rule
+pub mod Claims
 pub mod Parts
 pub mod Joined
 pub mod Landing

@@ -5,10 +5,10 @@ use mathlib.Core.List.{List, [], _∷_}
 use mathlib.Core.Logic.{_⊎_}
 use Prim.Native.Nat.{ℕ, _+_, _*_, _/_, _%_, _≤_, _<_}
 use lib.ListN.{length, getD, take, drop, replicate}
-use lib.Dec.{leb}
+use lib.Dec.{leb, ltb}
 use Rattle.inbox.specs.declared.cell.Cell.{Cell}
 use Rattle.inbox.specs.declared.keep.Kept.the-variants.{Needless, Yes}
-use Rattle.inbox.specs.Sizes.{messageRoom}
+use Rattle.inbox.specs.Sizes.{messageRoom, bodyRoom}
 use Rattle.inbox.specs.Cells.{Held, held, size, endAt, accept}
 use Rattle.inbox.specs.Keeping.{keptOf}
 
@@ -48,15 +48,6 @@ pub record Cut (M : List ℕ) (o : ℕ) (bs : List ℕ) : Type 0 where
   pub fits : o + length bs ≤ length M
   pub same : bs ≡ take (length bs) (drop o M)
 
--- each piece is cut from M, and the kept rule keeps it, or finds that it changes nothing, when its turn comes
-abbrev pub KeptBy : ℕ → List ℕ → Held → List Piece → Type 0
-KeptBy number M h [] = Unit {0}
-KeptBy number M h (p ∷ ps) =
-    Cut M (p .off) (p .bytes)
-    × (((keptOf false number (p .off) (length (p .bytes)) true (h .cell) ≡ Yes)
-    ⊎ (keptOf false number (p .off) (length (p .bytes)) true (h .cell) ≡ Needless))
-    × KeptBy number M (accept h (p .off) (p .bytes)) ps)
-
 -- the length that a message's first two bytes say, lowest first
 abbrev pub announced : List ℕ → ℕ
 announced bs = getD bs 0 0 + 256 * getD bs 1 0
@@ -64,6 +55,23 @@ announced bs = getD bs 0 0 + 256 * getD bs 1 0
 -- the two bytes of the length are joined, and as many more as they say
 abbrev pub landed : Held → Bool
 landed h = leb 2 (h .cell .joined) && leb (2 + announced (h .bytes)) (h .cell .joined)
+
+-- both bytes of the length are joined and say more than a cell can join: such a message can never land (document 02, U4)
+abbrev pub claims : Held → Bool
+claims h = leb 2 (h .cell .joined) && ltb bodyRoom (announced (h .bytes))
+
+-- a piece at o would show such a length: asked of what would be joined with it, waiting pieces that come into reach included
+unfoldable pub showsOf : Held → ℕ → List ℕ → Bool
+showsOf h o p = claims (accept h o p)
+
+-- each piece is cut from M, and the kept rule keeps it, or finds that it changes nothing, when its turn comes
+abbrev pub KeptBy : ℕ → List ℕ → Held → List Piece → Type 0
+KeptBy number M h [] = Unit {0}
+KeptBy number M h (p ∷ ps) =
+    Cut M (p .off) (p .bytes)
+    × (((keptOf number (p .off) (length (p .bytes)) (showsOf h (p .off) (p .bytes)) true (h .cell) ≡ Yes)
+    ⊎ (keptOf number (p .off) (length (p .bytes)) (showsOf h (p .off) (p .bytes)) true (h .cell) ≡ Needless))
+    × KeptBy number M (accept h (p .off) (p .bytes)) ps)
 
 -- a message as it is sent: its length in two bytes, lowest first, and its bytes
 abbrev pub framed : List ℕ → List ℕ

@@ -1,14 +1,20 @@
 // A message cell: its numbers are a struct by value, its bytes a part of the lent store. The joined bytes stand at 0 .. joined, the
 // piece at place k from 2,048 + 256 k on. A place whose piece ends at or before the joined end is free.
 ghost use mathlib.Core.Path.{_≡_};
+ghost use mathlib.Core.List.{[], _∷_};
 ghost use Prim.Native.Nat.{_+_, _*_, _-_, _≤_, _<_};
+ghost use lib.Dec.{ltb};
 ghost use lib.ListN.{length, take, drop};
 ghost use lib.Seq.{paste};
 ghost use Rattle.inbox.specs.Cells.{size, endAt, better, settle, store, await, accept, held, placeAt, freePlace, nextPlace};
-ghost use Rattle.inbox.specs.Sizes.{messageRoom};
+ghost use Rattle.inbox.specs.Messages.{empty, showsOf};
+ghost use Rattle.inbox.specs.Sizes.{messageRoom, bodyRoom};
 
 // How many bytes of a message a cell can join, the two of its length among them.
 pub const MESSAGE_ROOM: usize = 2048;
+
+// The most bytes that follow the two of the length.
+pub const BODY_ROOM: usize = 2046;
 
 // A cell's numbers. No value of it is wrong: every function here is safe, and does what its contract says, for each.
 pub struct Cell {
@@ -42,6 +48,69 @@ pub fn join(bytes: &mut [u8], cell: Cell, offset: u16, piece: &[u8]) -> Cell
         return settle_all(bytes, c);
     }
     wait(bytes, cell, offset, piece)
+}
+
+// Whether a piece would show a length above 2,046: both bytes of the length are joined with it, or with what comes into reach then, and say so.
+pub fn shows(bytes: &[u8], cell: Cell, offset: u16, piece: &[u8]) -> bool
+    requires { ⌜ 6144 ≤ length (now bytes) ⌝ }
+    requires { ⌜ length (now piece) ≤ 255 ⌝ }
+    ensures { λ r. ⌜ r ≡ showsOf (held cell (now (bytes .entry))) offset (now (piece .entry)) ⌝ }
+{
+    let joined = wide16(cell.joined);
+    if 2 <= joined {
+        return is_over(bytes[0], bytes[1]);
+    }
+    let start = wide16(offset);
+    let end = start + piece.len();
+    if joined < start {
+        return false;
+    }
+    if end <= joined {
+        return false;
+    }
+    if joined == 1 {
+        return is_over(bytes[0], piece[1 - start]);
+    }
+    if end == 1 {
+        return shows_next(bytes, cell, piece[0]);
+    }
+    is_over(piece[0], piece[1])
+}
+
+// The same of a message that has no cell yet.
+pub fn shows_first(offset: u16, piece: &[u8]) -> bool
+    requires { ⌜ length (now piece) ≤ 255 ⌝ }
+    ensures { λ r. ⌜ r ≡ showsOf (empty []) offset (now (piece .entry)) ⌝ }
+{
+    if offset != 0 {
+        return false;
+    }
+    if piece.len() < 2 {
+        return false;
+    }
+    is_over(piece[0], piece[1])
+}
+
+// Whether a piece of the first byte alone would show it: the second is then one of the waiting piece that goes next.
+fn shows_next(bytes: &[u8], cell: Cell, first: u8) -> bool
+    requires { ⌜ (6144 ≤ length (now bytes)) × (cell .joined ≡ 0) ⌝ }
+    ensures { λ r. ⌜ r ≡ showsOf (held cell (now (bytes .entry))) 0 (first ∷ []) ⌝ }
+{
+    let mut c = cell;
+    c.joined = 1;
+    let k = next_place(c);
+    if 16 <= k {
+        return false;
+    }
+    let start = wide16(cell.offsets[k]);
+    is_over(first, bytes[MESSAGE_ROOM + 256 * k + (1 - start)])
+}
+
+// Whether a length in two bytes, lowest first, is above 2,046.
+fn is_over(low: u8, high: u8) -> bool
+    ensures { λ r. ⌜ r ≡ ltb bodyRoom (low + 256 * high) ⌝ }
+{
+    BODY_ROOM < wide8(low) + 256 * wide8(high)
 }
 
 // The waiting pieces that have come into reach are joined.

@@ -15,6 +15,8 @@ pub enum Kept {
     Yes,
     // Its number is 4,294,967,040 or above.
     Late,
+    // Its message claims too much: its number is barred, or the piece would show a length above 2,046.
+    Overlong,
     // It ends above 2,048.
     Long,
     // Its message has no cell, and none is free.
@@ -23,13 +25,10 @@ pub enum Kept {
     NoPlace,
 }
 
-// What becomes of a piece of n bytes at offset. `handed`: its message is handed over; `room`: its message has a cell, or one is free.
-pub fn keeping(handed: bool, number: u32, offset: u16, n: u8, room: bool, cell: Cell) -> Kept
-    ensures { λ r. ⌜ r ≡ keptOf handed number offset n room cell ⌝ }
+// What becomes of a piece of n bytes at offset. `over`: its message claims too much; `room`: its message has a cell, or one is free.
+pub fn keeping(number: u32, offset: u16, n: u8, over: bool, room: bool, cell: Cell) -> Kept
+    ensures { λ r. ⌜ r ≡ keptOf number offset n over room cell ⌝ }
 {
-    if handed {
-        return Kept::Needless;
-    }
     if n == 0 {
         return Kept::Needless;
     }
@@ -42,6 +41,9 @@ pub fn keeping(handed: bool, number: u32, offset: u16, n: u8, room: bool, cell: 
     }
     if NUMBER_LIMIT <= number {
         return Kept::Late;
+    }
+    if over {
+        return Kept::Overlong;
     }
     if cell::MESSAGE_ROOM < end {
         return Kept::Long;

@@ -5,16 +5,13 @@ ghost use Prim.Native.Nat.{_+_, _*_, _≤_, _<_};
 ghost use lib.ListN.{length, take, drop};
 ghost use Rattle.inbox.specs.Sizes.{cellSize, messageRoom};
 ghost use Rattle.inbox.specs.Cells.{held, accept};
-ghost use Rattle.inbox.specs.Messages.{emptyCell, announced};
+ghost use Rattle.inbox.specs.Messages.{emptyCell, announced, showsOf};
 ghost use Rattle.inbox.specs.Stores.{cellOf, inCell, landedOf, messageOf};
 use crate::cell;
 use crate::cell::Cell;
 
 // The bytes of the store that one cell has.
 pub const CELL_SIZE: usize = 6400;
-
-// The most bytes that follow the two of the length.
-const BODY_ROOM: usize = 2046;
 
 // Whether a message has landed, and how many bytes it has.
 pub enum Landed {
@@ -44,6 +41,17 @@ pub fn join_in(store: &mut [u8], c: usize, cell: Cell, offset: u16, piece: &[u8]
     join_first(&mut store[at..], cell, offset, piece)
 }
 
+// Whether a piece of the message in cell c would show a length above 2,046.
+pub fn shows_in(store: &[u8], c: usize, cell: Cell, offset: u16, piece: &[u8]) -> bool
+    requires { ⌜ (c < 64) × (cellSize * c + cellSize ≤ length (now store)) ⌝ }
+    requires { ⌜ length (now piece) ≤ 255 ⌝ }
+    ensures { λ r. ⌜ r ≡ showsOf (held cell (cellOf (now (store .entry)) c)) offset (now (piece .entry)) ⌝ }
+{
+    let at = CELL_SIZE * c;
+    let end = at + CELL_SIZE;
+    cell::shows(&store[at..end], cell, offset, piece)
+}
+
 // Whether the message in cell c has landed.
 pub fn landed_at(store: &[u8], c: usize, cell: Cell) -> Landed
     requires { ⌜ (c < 64) × (cellSize * c + cellSize ≤ length (now store)) ⌝ }
@@ -67,10 +75,10 @@ pub fn read(store: &[u8], c: usize) -> &[u8]
 {
     let n = length_in(store, c);
     let from = CELL_SIZE * c + 2;
-    if n <= BODY_ROOM {
+    if n <= cell::BODY_ROOM {
         return &store[from..from + n];
     }
-    &store[from..from + BODY_ROOM]
+    &store[from..from + cell::BODY_ROOM]
 }
 
 // The first 6,400 bytes of a part of the store are the cell.

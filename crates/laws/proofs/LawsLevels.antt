@@ -84,6 +84,7 @@ each-kept =
       promoted = λ m snr d l. (subst LevelFits d (l .1), tt);
       moved = λ m r l. l;
       landed = λ m number n l. l;
+      barred = λ m number l. l;
       entered = λ call v now. (tt, tt);
       cut = λ m limit l. (tt, l .1);
     }

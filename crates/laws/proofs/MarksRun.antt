@@ -14,6 +14,7 @@ use Rattle.wire.specs.Numbers.{widened, widenedAt}
 use Rattle.words.specs.Words.{wordOk, payloadOk, unpack, payload, frameOf, itemAt, framesOf, headOk, parse}
 use Rattle.out.specs.Encode.{pack, framesWords}
 use Rattle.inbox.specs.Cells.{seek, next, grow, settle}
+use Rattle.inbox.specs.Messages.{showsOf}
 use Rattle.inbox.specs.Cells as cells
 use Rattle.stream.specs.Window.{slideOf, markOf}
 use Rattle.stream.specs.Table.{ownCell, putOf, accept}
@@ -49,13 +50,13 @@ pub record MarksRun (g : Settings) : Type 0 where
   pub book-too : rebuilt (bookAfter all-empty closed (three-cells g) emptyBook .ledger .handed 0) 2 ≡ 1
 
 pub marks-run : (g : Settings) → MarksRun g
-unfolding step after result rebuilt landedIn bookAfter fold eitherOf admitOf admitRefusal newStation seatOf findCall first lowestFree hasBit withBit withoutBit leadsTo unpacked digit char trimStart trimEnd receiveOf receiveRefusal parse headOk framesOf itemAt frameOf payload unpack payloadOk wordOk pack framesWords ncsRx readFrames frameStep readFrame pieceFrame replyEnd isMember accept widened widenedAt ownCell putOf cells.accept settle grow seek next slideOf markOf stop eventsIn bookFrames bookFrame cover alsoHanded allBelow
+unfolding step after result rebuilt landedIn bookAfter fold eitherOf admitOf admitRefusal newStation seatOf findCall first lowestFree hasBit withBit withoutBit leadsTo unpacked digit char trimStart trimEnd receiveOf receiveRefusal parse headOk framesOf itemAt frameOf payload unpack payloadOk wordOk pack framesWords ncsRx readFrames frameStep readFrame pieceFrame replyEnd isMember accept widened widenedAt ownCell putOf cells.accept showsOf settle grow seek next slideOf markOf stop eventsIn bookFrames bookFrame cover alsoHanded allBelow
 marks-run g = record { marked = refl; moved = refl; landed = refl; landed-too = refl; book = refl; book-too = refl }
 
 -- the premises hold of it
 
 pub marks-ok : (g : Settings) → CallsOk all-empty closed (three-cells g) emptyBook
-unfolding CallsOk step after result admitOf admitRefusal newStation seatOf findCall first lowestFree hasBit withBit withoutBit leadsTo unpacked digit char trimStart trimEnd receiveOf receiveRefusal parse headOk framesOf itemAt frameOf payload unpack payloadOk wordOk pack framesWords ncsRx readFrames frameStep readFrame pieceFrame replyEnd isMember accept widened widenedAt ownCell putOf cells.accept settle grow seek next slideOf markOf stop eventsIn bookFrames bookFrame cover alsoHanded allBelow
+unfolding CallsOk step after result admitOf admitRefusal newStation seatOf findCall first lowestFree hasBit withBit withoutBit leadsTo unpacked digit char trimStart trimEnd receiveOf receiveRefusal parse headOk framesOf itemAt frameOf payload unpack payloadOk wordOk pack framesWords ncsRx readFrames frameStep readFrame pieceFrame replyEnd isMember accept widened widenedAt ownCell putOf cells.accept showsOf settle grow seek next slideOf markOf stop eventsIn bookFrames bookFrame cover alsoHanded allBelow
 marks-ok g = (
   tt,
   (

@@ -21,7 +21,7 @@ use Rattle.words.specs.Words.{wordOk, payloadOk, unpack, payload, frameOf, item
 use Rattle.out.specs.Encode.{pack, framesWords}
 use Rattle.inbox.specs.Cells.{seek, next, grow, settle}
 use Rattle.inbox.specs.Cells as cells
-use Rattle.inbox.specs.Messages.{emptyCell}
+use Rattle.inbox.specs.Messages.{emptyCell, showsOf}
 use Rattle.stream.specs.declared.window.Window.{Window}
 use Rattle.stream.specs.Window.{slideOf, markOf, windowOf}
 use Rattle.stream.specs.Table.{ownCell, putOf, accept}
@@ -67,26 +67,26 @@ having g w k =
 
 -- 1 to k handed over, and 0 not
 abbrev pub upTo : ℕ → Window
-upTo k = windowOf 0 (2 ^ k - 1)
+upTo k = windowOf 0 (2 ^ k - 1) 0
 
 to-15 : (g : Settings) → after (joins ∷ filled 15 1) (three-cells g) ≡ having g (upTo 15) 15
-unfolding having admitOf admitRefusal seatOf findCall leadsTo unpacked digit char trimStart trimEnd filled step after result newStation first lowestFree hasBit withBit withoutBit receiveOf receiveRefusal parse headOk framesOf itemAt frameOf payload unpack payloadOk wordOk pack framesWords ncsRx readFrames frameStep readFrame pieceFrame replyEnd isMember accept widened widenedAt ownCell putOf cells.accept settle grow seek next slideOf markOf stop cellRefusal freeOf
+unfolding having admitOf admitRefusal seatOf findCall leadsTo unpacked digit char trimStart trimEnd filled step after result newStation first lowestFree hasBit withBit withoutBit receiveOf receiveRefusal parse headOk framesOf itemAt frameOf payload unpack payloadOk wordOk pack framesWords ncsRx readFrames frameStep readFrame pieceFrame replyEnd isMember accept widened widenedAt ownCell putOf cells.accept showsOf settle grow seek next slideOf markOf stop cellRefusal freeOf
 to-15 g = refl
 
 to-43 : (g : Settings) → after (filled 28 16) (having g (upTo 15) 15) ≡ having g (upTo 43) 43
-unfolding having filled step after result newStation first lowestFree hasBit withBit withoutBit receiveOf receiveRefusal parse headOk framesOf itemAt frameOf payload unpack payloadOk wordOk pack framesWords ncsRx readFrames frameStep readFrame pieceFrame replyEnd isMember accept widened widenedAt ownCell putOf cells.accept settle grow seek next slideOf markOf stop cellRefusal freeOf
+unfolding having filled step after result newStation first lowestFree hasBit withBit withoutBit receiveOf receiveRefusal parse headOk framesOf itemAt frameOf payload unpack payloadOk wordOk pack framesWords ncsRx readFrames frameStep readFrame pieceFrame replyEnd isMember accept widened widenedAt ownCell putOf cells.accept showsOf settle grow seek next slideOf markOf stop cellRefusal freeOf
 to-43 g = refl
 
 to-71 : (g : Settings) → after (filled 28 44) (having g (upTo 43) 43) ≡ having g (upTo 71) 71
-unfolding having filled step after result newStation first lowestFree hasBit withBit withoutBit receiveOf receiveRefusal parse headOk framesOf itemAt frameOf payload unpack payloadOk wordOk pack framesWords ncsRx readFrames frameStep readFrame pieceFrame replyEnd isMember accept widened widenedAt ownCell putOf cells.accept settle grow seek next slideOf markOf stop cellRefusal freeOf
+unfolding having filled step after result newStation first lowestFree hasBit withBit withoutBit receiveOf receiveRefusal parse headOk framesOf itemAt frameOf payload unpack payloadOk wordOk pack framesWords ncsRx readFrames frameStep readFrame pieceFrame replyEnd isMember accept widened widenedAt ownCell putOf cells.accept showsOf settle grow seek next slideOf markOf stop cellRefusal freeOf
 to-71 g = refl
 
 to-99 : (g : Settings) → after (filled 28 72) (having g (upTo 71) 71) ≡ having g (upTo 99) 99
-unfolding having filled step after result newStation first lowestFree hasBit withBit withoutBit receiveOf receiveRefusal parse headOk framesOf itemAt frameOf payload unpack payloadOk wordOk pack framesWords ncsRx readFrames frameStep readFrame pieceFrame replyEnd isMember accept widened widenedAt ownCell putOf cells.accept settle grow seek next slideOf markOf stop cellRefusal freeOf
+unfolding having filled step after result newStation first lowestFree hasBit withBit withoutBit receiveOf receiveRefusal parse headOk framesOf itemAt frameOf payload unpack payloadOk wordOk pack framesWords ncsRx readFrames frameStep readFrame pieceFrame replyEnd isMember accept widened widenedAt ownCell putOf cells.accept showsOf settle grow seek next slideOf markOf stop cellRefusal freeOf
 to-99 g = refl
 
 to-127 : (g : Settings) → after (filled 28 100) (having g (upTo 99) 99) ≡ having g (upTo 127) 127
-unfolding having filled step after result newStation first lowestFree hasBit withBit withoutBit receiveOf receiveRefusal parse headOk framesOf itemAt frameOf payload unpack payloadOk wordOk pack framesWords ncsRx readFrames frameStep readFrame pieceFrame replyEnd isMember accept widened widenedAt ownCell putOf cells.accept settle grow seek next slideOf markOf stop cellRefusal freeOf
+unfolding having filled step after result newStation first lowestFree hasBit withBit withoutBit receiveOf receiveRefusal parse headOk framesOf itemAt frameOf payload unpack payloadOk wordOk pack framesWords ncsRx readFrames frameStep readFrame pieceFrame replyEnd isMember accept widened widenedAt ownCell putOf cells.accept showsOf settle grow seek next slideOf markOf stop cellRefusal freeOf
 to-127 g = refl
 
 after-both : (cs ds : List Call) (n : Net) → after (cs ++ ds) n ≡ after ds (after cs n)
@@ -130,7 +130,7 @@ pub record AlikeRun (g : Settings) : Type 0 where
       ≡ record { slot = 0; number = 0 } ∷ record { slot = 0; number = 128 } ∷ record { slot = 0; number = 256 } ∷ []
 
 pub alike-run : (g : Settings) → AlikeRun g
-unfolding having result newStation first lowestFree hasBit withBit receiveOf receiveRefusal parse headOk framesOf itemAt frameOf payload unpack payloadOk wordOk pack framesWords ncsRx readFrames frameStep readFrame pieceFrame replyEnd isMember accept widened widenedAt ownCell putOf cells.accept settle grow seek next slideOf markOf stop eventsIn bookFrames bookFrame cover alsoHanded allBelow
+unfolding having result newStation first lowestFree hasBit withBit receiveOf receiveRefusal parse headOk framesOf itemAt frameOf payload unpack payloadOk wordOk pack framesWords ncsRx readFrames frameStep readFrame pieceFrame replyEnd isMember accept widened widenedAt ownCell putOf cells.accept showsOf settle grow seek next slideOf markOf stop eventsIn bookFrames bookFrame cover alsoHanded allBelow
 alike-run g = record { events = refl; book = refl }
 
 -- so it is after those calls
@@ -141,8 +141,8 @@ alike-events g = ap (λ (n : Net). answersOf alike n .events) (reached g) ∙ al
 
 -- ---- number 0, and then 128: all below 129 are handed over
 
-pub to-129 : (g : Settings) → after (freeing 0 ∷ filled 1 128) (step (hears (whole 0 ∷ []) (0 ∷ [])) (having g (upTo 127) 127)) ≡ having g (windowOf 129 0) 128
-unfolding having filled step after result newStation first lowestFree hasBit withBit withoutBit receiveOf receiveRefusal parse headOk framesOf itemAt frameOf payload unpack payloadOk wordOk pack framesWords ncsRx readFrames frameStep readFrame pieceFrame replyEnd isMember accept widened widenedAt ownCell putOf cells.accept settle grow seek next slideOf markOf stop cellRefusal freeOf
+pub to-129 : (g : Settings) → after (freeing 0 ∷ filled 1 128) (step (hears (whole 0 ∷ []) (0 ∷ [])) (having g (upTo 127) 127)) ≡ having g (windowOf 129 0 0) 128
+unfolding having filled step after result newStation first lowestFree hasBit withBit withoutBit receiveOf receiveRefusal parse headOk framesOf itemAt frameOf payload unpack payloadOk wordOk pack framesWords ncsRx readFrames frameStep readFrame pieceFrame replyEnd isMember accept widened widenedAt ownCell putOf cells.accept showsOf settle grow seek next slideOf markOf stop cellRefusal freeOf
 to-129 g = refl
 
 -- ---- the premises hold of two alike
@@ -155,7 +155,7 @@ reach : (k n : ℕ) → (k < n → ⊥) → k ≤ n + 127 → (n ≤ k + 128) ×
 reach k n z a = (⊎-elim (λ b. omega arith) (λ b. absurd (z b)) (le-or-lt n k), a)
 
 pub alike-ok : (g : Settings) → CallOk (sentNow all-empty late-book) (inBook alike) (answersOf alike (having g (upTo 127) 127)) late-book
-unfolding having result newStation first lowestFree hasBit withBit receiveOf receiveRefusal parse headOk framesOf itemAt frameOf payload unpack payloadOk wordOk pack framesWords ncsRx readFrames frameStep readFrame pieceFrame replyEnd isMember accept widened widenedAt ownCell putOf cells.accept settle grow seek next slideOf markOf stop eventsIn bookFrames bookFrame cover alsoHanded allBelow
+unfolding having result newStation first lowestFree hasBit withBit receiveOf receiveRefusal parse headOk framesOf itemAt frameOf payload unpack payloadOk wordOk pack framesWords ncsRx readFrames frameStep readFrame pieceFrame replyEnd isMember accept widened widenedAt ownCell putOf cells.accept showsOf settle grow seek next slideOf markOf stop eventsIn bookFrames bookFrame cover alsoHanded allBelow
 alike-ok g = (
   tt,
   (λ r. (

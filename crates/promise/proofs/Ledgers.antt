@@ -165,11 +165,11 @@ empty-inv M bs f small room off = (
     none-waits k a b = let z = getD-replicate {A = ℕ} 16 k 0 0 a in omega arith
 
 -- a piece that changes nothing has all its bytes covered
-pub needless-covered : (F : List ℕ) (f : ℕ → Bool) (x : Cell) (bs : List ℕ) → Inv F (Cov f) (held x bs) → (number o : ℕ) (p : List ℕ) (room : Bool) → Cut F o p
-    → keptOf false number o (length p) room x ≡ Needless → (i : ℕ) → o ≤ i → i < o + length p → f i ≡ true
-needless-covered F f x bs v number o p room cut q i a b =
-    let w = accept-inv F (Cov f) (held x bs) (v .0) (v .1) o p cut (kept-room number o room x bs p (inr q)) in
-    let u : Inv F (More (Cov f) o (length p)) (held x bs) = subst (Inv F (More (Cov f) o (length p))) (needless-same number o room x bs p q) w in
+pub needless-covered : (F : List ℕ) (f : ℕ → Bool) (x : Cell) (bs : List ℕ) → Inv F (Cov f) (held x bs) → (number o : ℕ) (p : List ℕ) (over room : Bool) → Cut F o p
+    → keptOf number o (length p) over room x ≡ Needless → (i : ℕ) → o ≤ i → i < o + length p → f i ≡ true
+needless-covered F f x bs v number o p over room cut q i a b =
+    let w = accept-inv F (Cov f) (held x bs) (v .0) (v .1) o p cut (kept-room number o over room x bs p (inr q)) in
+    let u : Inv F (More (Cov f) o (length p)) (held x bs) = subst (Inv F (More (Cov f) o (length p))) (needless-same number o over room x bs p q) w in
     ⊎-elim (λ c. v .0 .below i c) (λ c. at-place c) (u .0 .all i (inr (a, b)))
   where
     at-place : AtPlace (held x bs) i → f i ≡ true

@@ -20,6 +20,7 @@ pub mod TurnsRx
 pub mod Turns
 pub mod TurnsRun
 pub mod Ledgers
+pub mod Modest
 pub mod Ties
 pub mod Pieces
 pub mod Quiet

@@ -17,7 +17,7 @@ use Rattle.wire.specs.Kinds.{tiny}
 use Rattle.wire.specs.Call.{unpackCall}
 use Rattle.words.specs.Words.{Heard, Burst, Parsed, parsed, parse}
 use Rattle.stream.specs.declared.window.Window.{Window}
-use Rattle.stream.specs.Window.{handedOf, freshOf}
+use Rattle.stream.specs.Window.{handedOf, freshOf, barredOf}
 use Rattle.stream.specs.Table.{Table, freedTable, cellCount}
 use Rattle.stream.proofs.Rooms.{cells-most}
 use Rattle.stream.proofs.Tables.{start-tidy, freed-tidy}
@@ -40,6 +40,7 @@ use Rattle.dues.specs.Dues.{duesRefusal}
 use Rattle.promise.specs.Promise.{Lent, lentTo, Net, net, ofBurst, InBook, Call, admission, reception, decision, sending, closing, reading, freeing, charging, signing, result, inBook, outcome, isRefused, step, started, Stays, Sent, sentNow, Message, Ledger, Book, emptyBook, same, alsoHanded, Entered, unchanged, bookFrames, framesBy, Event2, eventsIn, enter, enterAll, answersOf, bookEnds, bookDone, bookCall, FramesOk, CallOk, CallsOk, Once, Paired, ReadsAs, AtCall, Holds, Stayed, stayed, handedIn, alsoStayed, OnceInStay, Messages}
 use Rattle.promise.proofs.Outcomes.{refusedBy, receive-cases, lent-is}
 use Rattle.promise.proofs.Ledgers.{none-below, same-true}
+use Rattle.promise.proofs.Modest.{fresh-free}
 use Rattle.promise.proofs.Ties.{View, Use, Vacant, Comes, useOf, useAt, heldAt, FineAt, entryOf, Tie, not-vacant, not-whole, use-vacant}
 use Rattle.promise.proofs.Quiet.{windowIn, Keeps, kept-self, viewOf, kept-view}
 use Rattle.promise.proofs.QuietWalk.{uncelled, keeps}
@@ -80,6 +81,7 @@ start-tied M g store room =
       tie = record {
         tidy = start-tidy count store some-cell (cells-most (length store / 6400)) in-store;
         sound = λ s. subst Sound (sym (fresh s)) sound-fresh;
+        free = λ s k. ap (λ (w : Window). barredOf w k) (fresh s) ∙ fresh-free k;
         numbers = λ s k. sym (ap (λ (w : Window). handedOf w k) (fresh s) ∙ fresh-none k);
         says = λ s k. none-below (length (M s k));
         cells = λ c a. subst (λ (u : Use). FineAt M (emptyBook .ledger) u (heldAt (viewOf (newStation g count) store) c)) (sym (free c)) tt;
@@ -281,6 +283,7 @@ module _ (M : Sent) (n : Net) (b : Book) (tied : Tied M n b) (cell : ℕ) (is : 
       record {
         tidy = freed-tidy t₀ (n .store) (tied .tie .tidy) cell;
         sound = tied .tie .sound;
+        free = tied .tie .free;
         numbers = tied .tie .numbers;
         says = tied .tie .says;
         cells = λ d a.

@@ -19,7 +19,7 @@ use Rattle.words.specs.Words.{Heard, lost, heard, wordOk, payloadOk, unpack, pa
 use Rattle.out.specs.Encode.{pack, framesWords, burstWords}
 use Rattle.inbox.specs.Cells.{seek, next, grow, settle}
 use Rattle.inbox.specs.Cells as cells
-use Rattle.inbox.specs.Messages.{framed, Cut}
+use Rattle.inbox.specs.Messages.{framed, Cut, showsOf}
 use Rattle.stream.specs.Window.{slideOf, markOf, windowOf}
 use Rattle.stream.specs.Table.{ownCell, putOf, accept}
 use Rattle.net.specs.declared.Settings.{Settings}
@@ -95,7 +95,7 @@ pub record Broken (g : Settings) : Type 0 where
   pub overlong : Holds all-too-long 1 overlong (one-cell g) emptyBook → ⊥
 
 pub broken : (g : Settings) → Broken g
-unfolding Holds step result admitOf admitRefusal newStation seatOf findCall first lowestFree hasBit withBit leadsTo unpacked digit char trimStart trimEnd receiveOf receiveRefusal parse headOk framesOf itemAt frameOf payload unpack payloadOk wordOk pack framesWords ncsRx readFrames frameStep readFrame pieceFrame replyEnd isMember accept widened widenedAt ownCell putOf cells.accept settle grow seek next slideOf stop eventsIn bookFrames bookFrame cover alsoHanded allBelow readRefusal cellRefusal readingOf
+unfolding Holds step result admitOf admitRefusal newStation seatOf findCall first lowestFree hasBit withBit leadsTo unpacked digit char trimStart trimEnd receiveOf receiveRefusal parse headOk framesOf itemAt frameOf payload unpack payloadOk wordOk pack framesWords ncsRx readFrames frameStep readFrame pieceFrame replyEnd isMember accept widened widenedAt ownCell putOf cells.accept showsOf settle grow seek next slideOf stop eventsIn bookFrames bookFrame cover alsoHanded allBelow readRefusal cellRefusal readingOf
 broken g =
     record {
       far = λ h. h .1 .0 .pairs;
@@ -172,14 +172,14 @@ abbrev once-more : Call
 once-more = hears (whole 0 ∷ []) (0 ∷ [])
 
 -- number 0, handed over before, is read as 256, which lands: an event, and no message
-last-refuted : (g : Settings) (b : Book) → b .ledger .handed 0 0 ≡ true → Holds all-empty 3 (once-more ∷ []) (having g (windowOf 129 0) 128) b → ⊥
-unfolding Holds step after result newStation first lowestFree hasBit withBit withoutBit receiveOf receiveRefusal parse headOk framesOf itemAt frameOf payload unpack payloadOk wordOk pack framesWords ncsRx readFrames frameStep readFrame pieceFrame replyEnd isMember accept widened widenedAt ownCell putOf cells.accept settle grow seek next slideOf markOf stop eventsIn bookFrames bookFrame cover alsoHanded allBelow having filled cellRefusal freeOf
+last-refuted : (g : Settings) (b : Book) → b .ledger .handed 0 0 ≡ true → Holds all-empty 3 (once-more ∷ []) (having g (windowOf 129 0 0) 128) b → ⊥
+unfolding Holds step after result newStation first lowestFree hasBit withBit withoutBit receiveOf receiveRefusal parse headOk framesOf itemAt frameOf payload unpack payloadOk wordOk pack framesWords ncsRx readFrames frameStep readFrame pieceFrame replyEnd isMember accept widened widenedAt ownCell putOf cells.accept showsOf settle grow seek next slideOf markOf stop eventsIn bookFrames bookFrame cover alsoHanded allBelow having filled cellRefusal freeOf
 last-refuted g b h z =
     subst (λ (t : Bool). Pairs 3 (record { slot = 0; cell = 0; number = 0 } ∷ []) (enterBy (not t && true) 0 0 (b .ledger) (cover 0 0 0 2 (b .ledger .covered)) .out ++ []) (b .entry)) h
     (z .0 .pairs)
 
 zero-handed : (g : Settings) (b : Book) → bookCall (sentNow all-empty b) once-more (having g (upTo 127) 127) b .left .ledger .handed 0 0 ≡ true
-unfolding Holds step after result newStation first lowestFree hasBit withBit withoutBit receiveOf receiveRefusal parse headOk framesOf itemAt frameOf payload unpack payloadOk wordOk pack framesWords ncsRx readFrames frameStep readFrame pieceFrame replyEnd isMember accept widened widenedAt ownCell putOf cells.accept settle grow seek next slideOf markOf stop eventsIn bookFrames bookFrame cover alsoHanded allBelow having filled cellRefusal freeOf
+unfolding Holds step after result newStation first lowestFree hasBit withBit withoutBit receiveOf receiveRefusal parse headOk framesOf itemAt frameOf payload unpack payloadOk wordOk pack framesWords ncsRx readFrames frameStep readFrame pieceFrame replyEnd isMember accept widened widenedAt ownCell putOf cells.accept showsOf settle grow seek next slideOf markOf stop eventsIn bookFrames bookFrame cover alsoHanded allBelow having filled cellRefusal freeOf
 zero-handed g b = hands (sentNow all-empty b) refl (b .ledger)
 
 no-end : (n k : ℕ) → NoEnd (filled n k)

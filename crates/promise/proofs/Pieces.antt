@@ -11,32 +11,32 @@ use lib.Seq.{getD-set-same}
 use lib.Dec.{eqb}
 use borrow.Author.Tests.{eq-eqb, ne-eqb}
 use Rattle.bits.specs.Mask.{hasBit}
-use Rattle.bits.proofs.Laws.{with-same}
+use Rattle.bits.proofs.Laws.{with-same, without-same}
 use Rattle.bits.proofs.Lists.{cases, le-or-lt, eq-or-not, never-both}
 use Rattle.wire.specs.declared.number.Number.the-variants.{Is, Before}
 use Rattle.wire.specs.Numbers.{widened}
 use Rattle.wire.proofs.Near.{widen-near}
 use Rattle.inbox.specs.declared.cell.Cell.{Cell}
 use Rattle.inbox.specs.declared.keep.Kept.{Kept}
-use Rattle.inbox.specs.declared.keep.Kept.the-variants.{Needless, Yes, Late, Long, NoCell, NoPlace}
+use Rattle.inbox.specs.declared.keep.Kept.the-variants.{Needless, Yes, Late, Overlong, Long, NoCell, NoPlace}
 use Rattle.inbox.specs.declared.store.Landed.the-variants.{Bytes, NotYet}
 use Rattle.inbox.specs.Cells.{Held, held}
 use Rattle.inbox.specs.Stores.{cellOf, inCell}
-use Rattle.inbox.specs.Messages.{announced, landed, framed}
+use Rattle.inbox.specs.Messages.{announced, landed, framed, showsOf}
 use Rattle.inbox.proofs.Joined.{Inv, More, same-loose, accept-inv}
 use Rattle.inbox.proofs.Apart.{in-length, in-same, in-other}
-use Rattle.inbox.proofs.Rule.{KeptIs, yes-is, kept-room}
+use Rattle.inbox.proofs.Rule.{KeptIs, yes-is, over-is, kept-room}
 use Rattle.stream.specs.declared.window.Window.{Window}
 use Rattle.stream.specs.declared.table.Taken.{Taken}
-use Rattle.stream.specs.Window.{handedOf, landOf}
-use Rattle.stream.specs.Table.{Table, Accepted, accepted, passed, took, noCell, cellAt, cellFor, hasRoom, ownerOf, tableRoom, changes, hasLanded, keptTable}
+use Rattle.stream.specs.Window.{handedOf, landOf, barredOf, barOf}
+use Rattle.stream.specs.Table.{Table, Accepted, accepted, passed, took, noCell, cellAt, cellFor, hasRoom, ownerOf, tableRoom, isOver, heldFor, changes, bars, hasLanded, keptTable}
 use Rattle.stream.specs.Table as table
 use Rattle.stream.proofs.Tables.{Tidy, kept-tidy, kept-other, place-below, place-in, room-only}
-use Rattle.stream.proofs.Windows.{Sound, sound-next, sound-land, land-at, handed-low, next-not-handed}
-use Rattle.stream.proofs.Accepts.{leftAs, answerOf, cellIn, heldAfter, putAs, accept-cases, after-length, after-fits}
+use Rattle.stream.proofs.Windows.{Sound, sound-next, sound-land, land-at, land-bars, handed-low, next-not-handed}
+use Rattle.stream.proofs.Accepts.{leftAs, barredAs, answerOf, cellIn, heldAfter, putAs, accept-cases, after-length, after-fits}
 use Rattle.promise.specs.Promise.{Sent, Message, Ledger, Entered, unchanged, same, inside, cover, alsoHanded, allBelow, completes, bookPiece, Event2, enter, Lowest, PieceOk}
 use Rattle.promise.proofs.Ledgers.{of-all, same-true, cover-other, cover-same, cover-nothing, inside-true, inside-of, handed-other, handed-self, Cov, landed-bytes, landed-is, needless-covered}
-use Rattle.promise.proofs.Ties.{View, Comes, Whole, useOf, useAt, heldAt, entryOf, Tie, use-comes, use-whole, Aim, aim, now-inv, put-tie}
+use Rattle.promise.proofs.Ties.{View, Comes, Whole, useOf, useAt, heldAt, entryOf, Tie, use-comes, use-whole, Aim, aim, now-inv, shows-none, put-tie}
 
 -- ---- what a piece comes to, on both sides
 
@@ -73,6 +73,13 @@ windowsAfter win s b k i = cond (b && eqb s i) (landOf (win i) k) (win i)
 abbrev pub viewAfter : View → ℕ → Accepted → View
 viewAfter v s x = record { table = x .table; store = x .store; windows = windowsAfter (v .windows) s (hasLanded (x .landed)) (x .number) }
 
+-- and where its number is barred: the store stays
+abbrev pub windowsBarred : (ℕ → Window) → ℕ → ℕ → ℕ → Window
+windowsBarred win s k i = cond (eqb s i) (barOf (win i) k) (win i)
+
+abbrev pub viewBarred : View → ℕ → Accepted → View
+viewBarred v s x = record { table = x .table; store = v .store; windows = windowsBarred (v .windows) s (x .number) }
+
 abbrev pub eventFor : ℕ → Accepted → Option Event2
 eventFor s x = cond (hasLanded (x .landed)) (some (record { slot = s; cell = x .cell; number = x .number % 256 })) none
 
@@ -89,11 +96,6 @@ or-same false = refl
 
 is-same : (k j : ℕ) → Is k ≡ Is j → k ≡ j
 is-same k j q = cc
-
-unlanded-bit : (a b : Bool) (o : ℕ) → entryOf (useOf a b o) ≡ none → (b ≡ true → a ≡ true) → b ≡ false
-unlanded-bit a false o q t = refl
-unlanded-bit true true o q t = absurd (let z : _≡_ {A = ℕ} 0 1 = cc in omega arith)
-unlanded-bit false true o q t = absurd (never-both false (t refl) refl)
 
 -- a piece that covers f, handing its message over or not
 abbrev pub enterBy : Bool → ℕ → ℕ → Ledger → (ℕ → ℕ → ℕ → Bool) → Entered Ledger
@@ -141,26 +143,39 @@ module _ (M : Sent) (small : (s k : ℕ) → length (M s k) ≤ 2046) (v : View)
   quiet : bookPiece M s k o (length p) l ≡ unchanged l → Joint M l v (bookPiece M s k o (length p) l .left) none (bookPiece M s k o (length p) l .out) e
   quiet q = subst (λ (n : Entered Ledger). Joint M l v (n .left) none (n .out) e) (sym q) still
 
-  left-by : (a : Kept) → changes a ≡ false → (a ≡ Needless → bookPiece M s k o (length p) l ≡ unchanged l) → (c : ℕ)
+  left-by : (a : Kept) → changes a ≡ false → bars a ≡ false → (a ≡ Needless → bookPiece M s k o (length p) l ≡ unchanged l) → (c : ℕ)
       → Fair (leftAs (v .table) w (v .store) c k a)
-  left-by Needless q h c = quiet (h refl)
-  left-by Yes q h c = absurd (never-both true refl q)
-  left-by Late q h c = still
-  left-by Long q h c = still
-  left-by NoCell q h c = still
-  left-by NoPlace q h c = still
+  left-by Needless q z h c = quiet (h refl)
+  left-by Yes q z h c = absurd (never-both true refl q)
+  left-by Late q z h c = still
+  left-by Overlong q z h c = absurd (never-both true refl z)
+  left-by Long q z h c = still
+  left-by NoCell q z h c = still
+  left-by NoPlace q z h c = still
 
-  left-fair : l .handed s k ≡ false → (a : Kept) → answerOf (v .table) s k o p ≡ a → changes a ≡ false
+  -- whether the piece claims too much
+  abbrev over : Bool
+  over = isOver (barredOf w k) (v .store) (tableRoom (v .table) s k) (cellAt (v .table) (cellIn (v .table) s k)) o p
+
+  -- a piece of a message of at most 2,046 bytes claims no more
+  never-over : l .handed s k ≡ false → answerOf (v .table) w (v .store) s k o p ≡ Overlong → ⊥
+  never-over hand q =
+      never-both over
+      (over-is k o (length p) over (hasRoom (tableRoom (v .table) s k)) (cellFor (tableRoom (v .table) s k) (cellAt (v .table) (cellIn (v .table) s k))) q .claimed)
+      (ap (λ (b : Bool). b || showsOf (heldFor (tableRoom (v .table) s k) (cellAt (v .table) (cellIn (v .table) s k)) (v .store)) o p) (tie .free s k)
+      ∙ shows-none M small v l e tie s k low-k hand o p (ok .cut))
+
+  left-fair : l .handed s k ≡ false → (a : Kept) → answerOf (v .table) w (v .store) s k o p ≡ a → changes a ≡ false → bars a ≡ false
       → Fair (leftAs (v .table) w (v .store) (cellIn (v .table) s k) k a)
-  left-fair hand a q c =
-      left-by a c (λ z.
+  left-fair hand a q c y =
+      left-by a c y (λ z.
       let y = now-inv M small v l e tie s k low-k hand (replicate 6144 0) (omega (arith, length-replicate {A = ℕ} 6144 0)) in
       quiet-book (needless-covered (framed (M s k)) (l .covered s k)
-      (cellFor (tableRoom (v .table) s k) (cellAt (v .table) (cellIn (v .table) s k))) (y .0) (y .1) k o p (hasRoom (tableRoom (v .table) s k)) (ok .cut) (q ∙ z)))
+      (cellFor (tableRoom (v .table) s k) (cellAt (v .table) (cellIn (v .table) s k))) (y .0) (y .1) k o p over (hasRoom (tableRoom (v .table) s k)) (ok .cut) (q ∙ z)))
       (cellIn (v .table) s k)
 
   -- ---- a kept piece
-  module _ (hand : l .handed s k ≡ false) (yes : answerOf (v .table) s k o p ≡ Yes) where
+  module _ (hand : l .handed s k ≡ false) (yes : answerOf (v .table) w (v .store) s k o p ≡ Yes) where
     abbrev c : ℕ
     c = cellIn (v .table) s k
 
@@ -173,8 +188,8 @@ module _ (M : Sent) (small : (s k : ℕ) → length (M s k) ≤ 2046) (v : View)
     abbrev covers : ℕ → ℕ → ℕ → Bool
     covers = cover s k o (length p) (l .covered)
 
-    kept : KeptIs false k o (length p) (hasRoom (tableRoom (v .table) s k)) x
-    kept = yes-is false k o (length p) (hasRoom (tableRoom (v .table) s k)) x yes
+    kept : KeptIs k o (length p) over (hasRoom (tableRoom (v .table) s k)) x
+    kept = yes-is k o (length p) over (hasRoom (tableRoom (v .table) s k)) x yes
 
     m : Aim M v l s k c x
     m = aim M small v l e tie s k low-k hand (kept .celled)
@@ -185,7 +200,7 @@ module _ (M : Sent) (small : (s k : ℕ) → length (M s k) ≤ 2046) (v : View)
     after-inv : Inv (framed (M s k)) (Cov (covers s k)) h
     after-inv =
         let u = accept-inv (framed (M s k)) (Cov (l .covered s k)) (held x (cellOf (v .store) c)) (m .inv .0) (m .inv .1) o p (ok .cut)
-        (kept-room k o (hasRoom (tableRoom (v .table) s k)) x (cellOf (v .store) c) p (inl yes)) in
+        (kept-room k o over (hasRoom (tableRoom (v .table) s k)) x (cellOf (v .store) c) p (inl yes)) in
         subst (λ (g : ℕ → Bool). Inv (framed (M s k)) (Cov g) h) (sym (cover-same s k o (length p) (l .covered))) (
           same-loose (framed (M s k)) (More (Cov (l .covered s k)) o (length p)) (Cov (λ i. cond (inside o (length p) i) true (l .covered s k i))) h (u .0)
               (λ i d.
@@ -263,10 +278,10 @@ module _ (M : Sent) (small : (s k : ℕ) → length (M s k) ≤ 2046) (v : View)
     fill-tie is =
         put-tie M v l e tie s k c x m (record { table = t′ false is; store = store′ false is; windows = v .windows }) (Comes s k) h
         (tidy′ false is) refl
-        (use-comes _ _ _ s k (busy-here false is) (unlanded-bit _ _ _ (m .unlanded) (tie .tidy .taken c)) (owner-here false is) low-k)
+        (use-comes _ _ _ s k (busy-here false is) (without-same (v .table .landed) c) (owner-here false is) low-k)
         (held-here false is (v .windows)) (use-there false is) (held-there false is (v .windows))
         (record { covered = covers; handed = l .handed }) (record { cov = cov-other; hand = λ a b q. refl }) e
-        (tie .sound) (tie .numbers) says
+        (tie .sound) (tie .free) (tie .numbers) says
         (record { not-yet = hand; inv = after-inv })
         (λ q. refl) (tie .entries c ∙ m .unlanded) (λ d z. refl)
       where
@@ -302,8 +317,13 @@ module _ (M : Sent) (small : (s k : ℕ) → length (M s k) ≤ 2046) (v : View)
 
     sound′ : (a : ℕ) → Sound (win′ a)
     sound′ a =
-        ⊎-elim (λ q. subst Sound (sym (win-here a q)) (sound-land w k (tie .sound s) (kept .low) next-le (omega (arith, next-near))))
+        ⊎-elim (λ q. subst Sound (sym (win-here a q)) (sound-land w (tie .sound s) k (tie .free s k) (kept .low) next-le (omega (arith, next-near))))
         (λ z. subst Sound (sym (win-there a z)) (tie .sound a)) (eq-or-not a s)
+
+    free′ : (a b : ℕ) → barredOf (win′ a) b ≡ false
+    free′ a b =
+        ⊎-elim (λ q. ap (λ (y : Window). barredOf y b) (win-here a q) ∙ land-bars w (tie .sound s) k (tie .free s k) next-le b ∙ tie .free s b)
+        (λ z. ap (λ (y : Window). barredOf y b) (win-there a z) ∙ tie .free a b) (eq-or-not a s)
 
     numbers′ : (a b : ℕ) → alsoHanded s k (l .handed) a b ≡ handedOf (win′ a) b
     unfolding alsoHanded
@@ -346,7 +366,7 @@ module _ (M : Sent) (small : (s k : ℕ) → length (M s k) ≤ 2046) (v : View)
         (record { covered = covers; handed = alsoHanded s k (l .handed) })
         (record { cov = cov-other; hand = λ a b q. handed-other s k (l .handed) a b q })
         (enter c (some (record { slot = s; number = k })) e)
-        sound′ numbers′ says
+        sound′ free′ numbers′ says
         (landed-bytes (M s k) (covers s k) h after-inv is)
         (λ q. absurd (never-both (alsoHanded s k (l .handed) s k) (handed-self s k (l .handed)) q))
         (rw (eq-eqb c c refl))
@@ -376,7 +396,7 @@ module _ (M : Sent) (small : (s k : ℕ) → length (M s k) ≤ 2046) (v : View)
       where
         at : (b : Bool) → landed h ≡ b
             → Good M l e v s
-            (accepted (v .table) w c s k (took (record { cell = h .cell; kept = Yes; landed = cond b (Bytes (announced (h .bytes))) NotYet }) (inCell (v .store) c (h .bytes))))
+            (accepted (v .table) w (tableRoom (v .table) s k) s k (took (record { cell = h .cell; kept = Yes; landed = cond b (Bytes (announced (h .bytes))) NotYet }) (inCell (v .store) c (h .bytes))))
             (enterBy b s k l covers)
         at true q =
             record {
@@ -398,10 +418,19 @@ module _ (M : Sent) (small : (s k : ℕ) → length (M s k) ≤ 2046) (v : View)
       (λ q. absurd (not-before (sym q ∙ is-number)))
       (λ j q h. subst (λ (y : ℕ). handedOf w y ≡ true → Fair (passed (v .table) w (v .store) y)) (is-same k j (sym is-number ∙ q))
       (λ t. quiet (quiet-book (handed-covered (tie .numbers s k ∙ t)))) h)
-      (λ j q a. subst (λ (y : ℕ). handedOf w y ≡ false → answerOf (v .table) s y o p ≡ a → changes a ≡ false → Fair (leftAs (v .table) w (v .store) (cellIn (v .table) s y) y a))
+      (λ j q a. subst (λ (y : ℕ). handedOf w y ≡ false → answerOf (v .table) w (v .store) s y o p ≡ a → changes a ≡ false → bars a ≡ false → Fair (leftAs (v .table) w (v .store) (cellIn (v .table) s y) y a))
       (is-same k j (sym is-number ∙ q .is)) (λ t. left-fair (tie .numbers s k ∙ t) a) (q .fresh))
-      (λ j q. subst (λ (y : ℕ). handedOf w y ≡ false → answerOf (v .table) s y o p ≡ Yes → Fair (putAs (v .table) w (v .store) s y o p))
+      (λ j q. subst (λ (y : ℕ). handedOf w y ≡ false → answerOf (v .table) w (v .store) s y o p ≡ Overlong → Fair (barredAs (v .table) w (v .store) s y))
+      (is-same k j (sym is-number ∙ q .is)) (λ t a. absurd (never-over (tie .numbers s k ∙ t) a)) (q .fresh))
+      (λ j q. subst (λ (y : ℕ). handedOf w y ≡ false → answerOf (v .table) w (v .store) s y o p ≡ Yes → Fair (putAs (v .table) w (v .store) s y o p))
       (is-same k j (sym is-number ∙ q .is)) (λ t. put-fair (tie .numbers s k ∙ t)) (q .fresh))
     where
       not-before : Before ≡ Is k → ⊥
       not-before q = let z : _≡_ {A = ℕ} 0 1 = cc in omega arith
+
+  pub piece-unbarred : table.accept (v .table) w (v .store) s field p .bars ≡ false
+  piece-unbarred =
+      accept-cases (v .table) w (v .store) s field p (λ x. x .bars ≡ false) (λ q. refl) (λ j q h. refl) (λ j q a r c z. refl)
+      (λ j q. subst (λ (y : ℕ). handedOf w y ≡ false → answerOf (v .table) w (v .store) s y o p ≡ Overlong → true ≡ false)
+      (is-same k j (sym is-number ∙ q .is)) (λ t a. absurd (never-over (tie .numbers s k ∙ t) a)) (q .fresh))
+      (λ j q a. refl)

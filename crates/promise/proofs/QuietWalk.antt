@@ -8,7 +8,7 @@ use Rattle.roster.specs.Members.{newMember}
 use Rattle.net.specs.declared.Station.{Station}
 use Rattle.net.specs.State.{indexOf, memberAt, tableOf}
 use Rattle.net.proofs.Laws.{index-is}
-use Rattle.promise.proofs.Walk.{Allowed, stays-up, over-keeps, Change, others, turned, over, hears, written, counted, promoted, moved, entered, piece, landed, freed, signsOff, Chain, chain-keeps}
+use Rattle.promise.proofs.Walk.{Allowed, stays-up, over-keeps, Change, others, turned, over, hears, written, counted, promoted, moved, entered, piece, landed, freed, barred, signsOff, Chain, chain-keeps}
 use Rattle.promise.proofs.Quiet.{Kept, Keeps, kept-self, kept-same, kept-new}
 
 abbrev pub uncelled : Allowed
@@ -30,6 +30,7 @@ change-kept s₀ s t (entered i call v now l free r) k =
 change-kept s₀ s t (piece a store slot field p m here f l d) k = absurd a
 change-kept s₀ s t (landed a store slot field p m here f l d) k = absurd a
 change-kept s₀ s t (freed a cell) k = absurd a
+change-kept s₀ s t (barred a store slot field p here b) k = absurd a
 change-kept s₀ s t (signsOff a b slot here) k = absurd b
 
 pub keeps : {s t : Station} → Chain uncelled s t → Keeps s t

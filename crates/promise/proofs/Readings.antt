@@ -15,26 +15,27 @@ use Rattle.bits.proofs.Lists.{cond-keeps, le-or-lt, eq-or-not}
 use Rattle.words.specs.Words.{Heard, lost, heard}
 use Rattle.out.specs.Encode.{eventWord, messageWord}
 use Rattle.stream.specs.declared.window.Window.{Window}
-use Rattle.stream.specs.Window.{landOf, freshOf}
-use Rattle.stream.specs.Table.{Table, Accepted, accept, hasLanded}
+use Rattle.stream.specs.Window.{landOf, barOf, freshOf}
+use Rattle.stream.specs.declared.table.Room.{Room}
+use Rattle.stream.specs.Table.{Table, Accepted, accept, hasLanded, hasOwn, placeOf, freedTable, barredTable, tableRoom}
 use Rattle.stream.proofs.Accepts.{accept-cases}
 use Rattle.roster.specs.declared.Member.{Member}
-use Rattle.roster.specs.Members.{noMember, landedOne}
+use Rattle.roster.specs.Members.{noMember, landedOne, barredOne}
 use Rattle.net.specs.declared.Station.{Station}
 use Rattle.net.specs.State.{indexOf, memberAt, withMember, withTable, tableOf}
 use Rattle.net.specs.Net.{isMember}
 use Rattle.net.proofs.Laws.{index-lt, index-is, member-lt, member-none}
 use Rattle.frames.specs.declared.Air.{Air}
 use Rattle.frames.specs.Reading.{Reading}
-use Rattle.frames.specs.Pieces.{isAsideLeaf, heardMember, sizeOf, pieceMember, isRelayed, pieceEvents, trafficIf, relayIf, keptPiece, pieceFrame}
+use Rattle.frames.specs.Pieces.{isAsideLeaf, heardMember, sizeOf, pieceMember, isRelayed, pieceEvents, trafficIf, relayIf, unkeptAt, barredPiece, keptPiece, pieceFrame}
 use Rattle.frames.specs.Frames.{readFrame}
 use Rattle.promise.specs.Promise.{Event2, eventsIn}
 use Rattle.promise.proofs.FrameCases.{frame-cases}
-use Rattle.promise.proofs.Pieces.{alsoOne, windowsAfter, viewAfter, eventFor}
+use Rattle.promise.proofs.Pieces.{alsoOne, windowsAfter, viewAfter, windowsBarred, viewBarred, eventFor}
 use Rattle.promise.proofs.Quiet.{windowIn, windowAt, Keeps, kept-self, viewOf, view-is, kept-view}
 use Rattle.promise.proofs.Events.{events-none, relayed-word, message-word}
 use Rattle.promise.proofs.Signs.{sign-beside, cleared}
-use Rattle.promise.proofs.Walk.{Change, others, turned, over, hears, written, counted, promoted, moved, entered, piece, landed, freed, signsOff, Chain, chain-keeps}
+use Rattle.promise.proofs.Walk.{Change, others, turned, over, hears, written, counted, promoted, moved, entered, piece, landed, freed, barred, signsOff, Chain, chain-keeps}
 use Rattle.promise.proofs.WalkCalls.{all}
 use Rattle.promise.proofs.QuietRx.{Untouched, untouched, control-untouched}
 
@@ -49,6 +50,43 @@ piece-up a m slot r = at (hasLanded (r .landed))
     at : (b : Bool) → cond b (landedOne (heardMember a m slot) (r .number) (sizeOf (r .landed))) (heardMember a m slot) .up ≡ cond b (landOf (m .up) (r .number)) (m .up)
     at true = ap (λ (w : Window). landOf w (r .number)) (heard-up a m slot)
     at false = heard-up a m slot
+
+-- a member written: its window is the new one, the others' stay
+window-new : (used : ℕ) (ms : List Member) (slot : ℕ) (m : Member) → isMember used slot ≡ true → length ms ≡ 62 → windowIn used (set ms (indexOf slot) m) slot ≡ m .up
+window-new used ms slot m here long =
+    let n = index-lt slot in
+    ap (λ (t : Bool). cond t (getD (set ms (indexOf slot) m) (indexOf slot) noMember .up) freshOf) here
+    ∙ ap (λ (y : Member). y .up) (getD-set-same ms (indexOf slot) m noMember (omega arith))
+
+window-old : (used : ℕ) (ms : List Member) (slot : ℕ) (m : Member) → isMember used slot ≡ true → (i : ℕ) → (i ≡ slot → ⊥)
+    → windowIn used (set ms (indexOf slot) m) i ≡ windowIn used ms i
+window-old used ms slot m here i z =
+    ⊎-elim (λ a.
+    ap (λ (t : Bool). cond t (getD (set ms (indexOf slot) m) (indexOf i) noMember .up) freshOf) (member-none used i a)
+    ∙ sym (ap (λ (t : Bool). cond t (getD ms (indexOf i) noMember .up) freshOf) (member-none used i a)))
+    (λ a.
+    ap (λ (y : Member). cond (isMember used i) (y .up) freshOf)
+    (getD-set-other ms (indexOf slot) (indexOf i) m noMember
+    (λ e. z (sym (index-is i a) ∙ e ∙ index-is slot (member-lt used slot here)))))
+    (le-or-lt 62 i)
+
+-- a number barred in its window
+windows-barred : (used : ℕ) (ms : List Member) (slot k : ℕ) → isMember used slot ≡ true → length ms ≡ 62
+    → (i : ℕ) → windowIn used (set ms (indexOf slot) (barredOne (getD ms (indexOf slot) noMember) k)) i ≡ windowsBarred (windowIn used ms) slot k i
+windows-barred used ms slot k here long i =
+    ⊎-elim (λ q.
+    ap (windowIn used (set ms (indexOf slot) m)) q
+    ∙ window-new used ms slot m here long
+    ∙ ap (λ (w : Window). barOf w k) (sym (ap (λ (t : Bool). cond t (getD ms (indexOf slot) noMember .up) freshOf) here))
+    ∙ ap (λ (t : Bool). cond t (barOf (windowIn used ms slot) k) (windowIn used ms slot)) (sym (eq-eqb slot slot refl))
+    ∙ ap (windowsBarred (windowIn used ms) slot k) (sym q))
+    (λ z.
+    window-old used ms slot m here i z
+    ∙ ap (λ (t : Bool). cond t (barOf (windowIn used ms i) k) (windowIn used ms i)) (sym (ne-eqb slot i (λ q. z (sym q)))))
+    (eq-or-not i slot)
+  where
+    m : Member
+    m = barredOne (getD ms (indexOf slot) noMember) k
 
 module _ (used : ℕ) (ms : List Member) (slot : ℕ) (m : Member) (b : Bool) (k : ℕ) (here : isMember used slot ≡ true) (long : length ms ≡ 62)
     (up : m .up ≡ cond b (landOf (getD ms (indexOf slot) noMember .up) k) (getD ms (indexOf slot) noMember .up)) where
@@ -65,24 +103,14 @@ module _ (used : ℕ) (ms : List Member) (slot : ℕ) (m : Member) (b : Bool) (k
 
   is-slot : windowIn used (set ms (indexOf slot) m) slot ≡ windowsAfter (windowIn used ms) slot b k slot
   is-slot =
-      let n = index-lt slot in
-      ap (λ (t : Bool). cond t (getD (set ms (indexOf slot) m) (indexOf slot) noMember .up) freshOf) here
-      ∙ ap (λ (y : Member). y .up) (getD-set-same ms (indexOf slot) m noMember (omega arith))
+      window-new used ms slot m here long
       ∙ up
       ∙ same-b b (getD ms (indexOf slot) noMember .up)
       ∙ ap (λ (w : Window). cond (b && true) (landOf w k) w) (sym at-slot)
       ∙ ap (λ (t : Bool). cond (b && t) (landOf (windowIn used ms slot) k) (windowIn used ms slot)) (sym (eq-eqb slot slot refl))
 
   not-slot : (i : ℕ) → (i ≡ slot → ⊥) → windowIn used (set ms (indexOf slot) m) i ≡ windowIn used ms i
-  not-slot i z =
-      ⊎-elim (λ a.
-      ap (λ (t : Bool). cond t (getD (set ms (indexOf slot) m) (indexOf i) noMember .up) freshOf) (member-none used i a)
-      ∙ sym (ap (λ (t : Bool). cond t (getD ms (indexOf i) noMember .up) freshOf) (member-none used i a)))
-      (λ a.
-      ap (λ (y : Member). cond (isMember used i) (y .up) freshOf)
-      (getD-set-other ms (indexOf slot) (indexOf i) m noMember
-      (λ e. z (sym (index-is i a) ∙ e ∙ index-is slot (member-lt used slot here)))))
-      (le-or-lt 62 i)
+  not-slot i z = window-old used ms slot m here i z
 
   pub windows-after : (i : ℕ) → windowIn used (set ms (indexOf slot) m) i ≡ windowsAfter (windowIn used ms) slot b k i
   windows-after i =
@@ -119,6 +147,16 @@ module _ (a : Air) (slot : ℕ) (r : Accepted) (x : Reading) where
 
     pub piece-long : length (keptPiece a slot r x .station .members) ≡ 62
     piece-long = base-kept .long ∙ length-set (x .station .members) (indexOf slot) _ ∙ long
+
+-- a number barred with it
+module _ (slot : ℕ) (r : Accepted) (x : Reading) (here : isMember (x .station .used) slot ≡ true) (long : length (x .station .members) ≡ 62) where
+  pub barred-view : viewOf (barredPiece slot r x .station) (x .store) ≡ viewBarred (viewOf (x .station) (x .store)) slot r
+  barred-view =
+      view-is (tableOf (barredPiece slot r x .station)) (r .table) (x .store) (x .store) (windowAt (barredPiece slot r x .station)) (windowsBarred (windowAt (x .station)) slot (r .number))
+      refl refl (windows-barred (x .station .used) (x .station .members) slot (r .number) here long)
+
+  pub barred-long : length (barredPiece slot r x .station .members) ≡ 62
+  barred-long = length-set (x .station .members) (indexOf slot) _ ∙ long
 
 -- its events
 pub piece-events : (a : Air) (s : Station) (slot : ℕ) (r : Accepted) → slot < 64 → (hasLanded (r .landed) ≡ true → r .cell < 64)
@@ -158,16 +196,21 @@ frame-runs a (heard flags field p) x =
     frame-cases (Runs x) a x (untouched-runs x x (untouched x)) flags field p
     (cond-keeps (Runs x) (isMember (x .station .used) (flags % 64)) _ x
     (λ _. cond-keeps (Runs x) (accept (tableOf (x .station)) (memberAt (x .station) (flags % 64) .up) (x .store) (flags % 64) field p .lost) _ _
+    (λ _. cond-keeps (λ (y : Reading). Runs x (unkeptAt y)) (accept (tableOf (x .station)) (memberAt (x .station) (flags % 64) .up) (x .store) (flags % 64) field p .bars) _ x
     (λ _. record { frame = refl; seen = refl; other = λ i z. with-other (x .unkept) (x .frame) i (λ q. z (sym q)) })
+    (λ _. record { frame = refl; seen = refl; other = λ i z. with-other (x .unkept) (x .frame) i (λ q. z (sym q)) }))
     (λ _. record { frame = refl; seen = refl; other = λ i z. refl }))
     (λ _. untouched-runs x x (untouched x)))
     (untouched-runs x _ (control-untouched a (flags % 64) (getD p 0 0) (length p) p x))
 
 -- ---- the cells stay as many as they were
 
+barred-count : (t : Table) (room : Room) → barredTable t room .count ≡ t .count
+barred-count t room = cond-keeps (λ (y : Table). y .count ≡ t .count) (hasOwn room) (freedTable t (placeOf room)) t (λ _. refl) (λ _. refl)
+
 accept-count : (t : Table) (w : Window) (store : List ℕ) (slot field : ℕ) (p : List ℕ) → accept t w store slot field p .table .count ≡ t .count
 accept-count t w store slot field p =
-    accept-cases t w store slot field p (λ (y : Accepted). y .table .count ≡ t .count) (λ e. refl) (λ k e h. refl) (λ k o b q c. refl) (λ k o q. refl)
+    accept-cases t w store slot field p (λ (y : Accepted). y .table .count ≡ t .count) (λ e. refl) (λ k e h. refl) (λ k o b q c z. refl) (λ k o q. barred-count t (tableRoom t slot k)) (λ k o q. refl)
 
 count-kept : (n : ℕ) (s t : Station) → Change all s t → s .count ≡ n → t .count ≡ n
 count-kept n s t (others r m e k q) h = h
@@ -182,6 +225,7 @@ count-kept n s t (entered i call v now l free r) h = h
 count-kept n s t (piece a store slot field p m here f l d) h = accept-count (tableOf s) (memberAt s slot .up) store slot field p ∙ h
 count-kept n s t (landed a store slot field p m here f l d) h = accept-count (tableOf s) (memberAt s slot .up) store slot field p ∙ h
 count-kept n s t (freed a cell) h = h
+count-kept n s t (barred a store slot field p here b) h = accept-count (tableOf s) (memberAt s slot .up) store slot field p ∙ h
 count-kept n s t (signsOff a b slot here) h = ap (λ (x : Table). x .count) (sign-beside s slot .table) ∙ cleared slot (tableOf s) .count ∙ h
 
 pub chain-count : {s t : Station} → Chain all s t → t .count ≡ s .count

@@ -17,11 +17,11 @@ use Rattle.frames.specs.Frames.{frameStep, readFrames}
 use Rattle.promise.specs.Promise.{Sent, Message, Ledger, Entered, unchanged, same, alsoHanded, bookPiece, isBoats, bookFrame, bookFrames, Event2, eventsIn, enter, enterAll, FrameOk, FramesOk, Pairs, Later, Rising, Once}
 use Rattle.promise.proofs.Ledgers.{same-true, same-self, handed-self, handed-other}
 use Rattle.promise.proofs.Ties.{View, Tie}
-use Rattle.promise.proofs.Pieces.{alsoOne, Joint, eventFor, Good, piece-good}
+use Rattle.promise.proofs.Pieces.{alsoOne, Joint, eventFor, Good, piece-good, piece-unbarred}
 use Rattle.promise.proofs.Quiet.{viewOf}
 use Rattle.promise.proofs.QuietRx.{untouched}
 use Rattle.promise.proofs.Readings.{frame-runs, chain-count}
-use Rattle.promise.proofs.WalkFrames.{viewIn, offeredIn, isPiece, Seen, FrameRead, other, unkept, piece, step-reads}
+use Rattle.promise.proofs.WalkFrames.{viewIn, offeredIn, isPiece, Seen, FrameRead, other, unkept, barred, piece, step-reads}
 use Rattle.promise.proofs.Walk.{start}
 use Rattle.promise.proofs.WalkRx.{frames-walk}
 use Rattle.promise.proofs.WalkCalls.{all}
@@ -139,6 +139,8 @@ module _ (M : Sent) (small : (s k : ℕ) → length (M s k) ≤ 2046) (x y : Rea
       (sym
       (book-by M flags field p k (x .station .used) (hasBit (y .unkept) (x .frame)) l b
       ∙ ap (λ (t : Bool). cond (not t) (bookPiece M (flags % 64) k (field % 65536) (length p) l) (unchanged l)) marked)) (still-read _ s)
+  book-read h ok (barred flags field p b q s) =
+      absurd (never-both (offeredIn x flags field p .bars) q (piece-unbarred M small (viewIn x) l e tie (flags % 64) k field p (ok b)))
   book-read h ok (piece flags field p b q s) =
       let bare : hasBit (y .unkept) (x .frame) ≡ false = ap (λ (m : ℕ). hasBit m (x .frame)) (s .mask) ∙ clear in
       let n = bookPiece M (flags % 64) k (field % 65536) (length p) l in

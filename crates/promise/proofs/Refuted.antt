@@ -17,6 +17,7 @@ use Rattle.words.specs.Words.{Heard, lost, heard, wordOk, payloadOk, unpack, pa
 use Rattle.out.specs.Encode.{pack, framesWords}
 use Rattle.inbox.specs.Cells.{seek, next, grow, settle}
 use Rattle.inbox.specs.Cells as cells
+use Rattle.inbox.specs.Messages.{showsOf}
 use Rattle.stream.specs.Window.{slideOf}
 use Rattle.stream.specs.Table.{ownCell, putOf, accept}
 use Rattle.roster.specs.Members.{newMember}
@@ -183,7 +184,7 @@ pub record Readings (g : Settings) : Type 0 where
   pub short : ReadsAs (λ s k. 104 ∷ 105 ∷ 33 ∷ []) (some (message 0 0)) (with-hi g) 0 → ⊥
 
 pub readings : (g : Settings) → Readings g
-unfolding step after result admitOf admitRefusal newStation seatOf findCall first lowestFree hasBit withBit leadsTo unpacked digit char trimStart trimEnd receiveOf receiveRefusal parse headOk framesOf itemAt frameOf payload unpack payloadOk wordOk pack framesWords ncsRx readFrames frameStep readFrame pieceFrame replyEnd isMember accept widened widenedAt ownCell putOf cells.accept settle grow seek next slideOf stop readRefusal cellRefusal readingOf
+unfolding step after result admitOf admitRefusal newStation seatOf findCall first lowestFree hasBit withBit leadsTo unpacked digit char trimStart trimEnd receiveOf receiveRefusal parse headOk framesOf itemAt frameOf payload unpack payloadOk wordOk pack framesWords ncsRx readFrames frameStep readFrame pieceFrame replyEnd isMember accept widened widenedAt ownCell putOf cells.accept showsOf settle grow seek next slideOf stop readRefusal cellRefusal readingOf
 readings g =
     record {
       stale = λ h. let z : _≡_ {A = ℕ} 0 22 = h in omega arith;

@@ -18,7 +18,7 @@ use Rattle.words.specs.Words.{Heard, lost, heard, wordOk, payloadOk, unpack, pa
 use Rattle.out.specs.Encode.{pack, framesWords, burstWords}
 use Rattle.inbox.specs.Cells.{seek, next, grow, settle, store, await}
 use Rattle.inbox.specs.Cells as cells
-use Rattle.inbox.specs.Messages.{framed}
+use Rattle.inbox.specs.Messages.{framed, showsOf}
 use Rattle.stream.specs.Window.{slideOf, markOf}
 use Rattle.stream.specs.Table.{ownCell, putOf, accept, cellCount}
 use Rattle.net.specs.declared.Settings.{Settings}
@@ -110,7 +110,7 @@ pub record HiRun (g : Settings) : Type 0 where
   pub freed : outcome (reading 0 handed) (after (joins ∷ hi ∷ freeing 0 ∷ []) (one-cell g)) .refusal ≡ 22
 
 pub hi-run : (g : Settings) → HiRun g
-unfolding step after result admitOf admitRefusal newStation seatOf findCall first lowestFree hasBit withBit withoutBit leadsTo unpacked digit char trimStart trimEnd receiveOf receiveRefusal parse headOk framesOf itemAt frameOf payload unpack payloadOk wordOk pack framesWords ncsRx readFrames frameStep readFrame pieceFrame replyEnd isMember accept widened widenedAt ownCell putOf cells.accept settle grow seek next slideOf stop eventsIn handedIn bookFrames bookFrame cover alsoHanded allBelow nextOf nextRefusal readRefusal cellRefusal readingOf freeOf
+unfolding step after result admitOf admitRefusal newStation seatOf findCall first lowestFree hasBit withBit withoutBit leadsTo unpacked digit char trimStart trimEnd receiveOf receiveRefusal parse headOk framesOf itemAt frameOf payload unpack payloadOk wordOk pack framesWords ncsRx readFrames frameStep readFrame pieceFrame replyEnd isMember accept widened widenedAt ownCell putOf cells.accept showsOf settle grow seek next slideOf stop eventsIn handedIn bookFrames bookFrame cover alsoHanded allBelow nextOf nextRefusal readRefusal cellRefusal readingOf freeOf
 hi-run g = record { stranger = refl; unbooked = refl; member = refl; answers = refl; book = refl; read = refl; freed = refl }
 
 -- the premises hold of these calls
@@ -122,7 +122,7 @@ pub near : (k n : ℕ) → k ≤ 1 → (1 < n → ⊥) → (n ≤ k + 128) × (k
 near k n a z = ⊎-elim (λ b. (omega arith, omega arith)) (λ b. absurd (z b)) (le-or-lt n 1)
 
 pub hi-ok : (g : Settings) → CallsOk all-hi hi-calls (one-cell g) emptyBook
-unfolding CallsOk step after result admitOf admitRefusal newStation seatOf findCall first lowestFree hasBit withBit withoutBit leadsTo unpacked digit char trimStart trimEnd receiveOf receiveRefusal parse headOk framesOf itemAt frameOf payload unpack payloadOk wordOk pack framesWords ncsRx readFrames frameStep readFrame pieceFrame replyEnd isMember accept widened widenedAt ownCell putOf cells.accept settle grow seek next slideOf stop eventsIn handedIn bookFrames bookFrame cover alsoHanded allBelow nextOf nextRefusal readRefusal cellRefusal readingOf freeOf
+unfolding CallsOk step after result admitOf admitRefusal newStation seatOf findCall first lowestFree hasBit withBit withoutBit leadsTo unpacked digit char trimStart trimEnd receiveOf receiveRefusal parse headOk framesOf itemAt frameOf payload unpack payloadOk wordOk pack framesWords ncsRx readFrames frameStep readFrame pieceFrame replyEnd isMember accept widened widenedAt ownCell putOf cells.accept showsOf settle grow seek next slideOf stop eventsIn handedIn bookFrames bookFrame cover alsoHanded allBelow nextOf nextRefusal readRefusal cellRefusal readingOf freeOf
 hi-ok g = (
   tt,
   (
@@ -173,11 +173,11 @@ pub record PieceRun (g : Settings) : Type 0 where
   pub read : readingOf (after piece-calls (one-cell g) .station) (after piece-calls (one-cell g) .store) 0 ≡ 104 ∷ 105 ∷ []
 
 pub piece-run : (g : Settings) → PieceRun g
-unfolding step after result admitOf admitRefusal newStation seatOf findCall first lowestFree hasBit withBit withoutBit leadsTo unpacked digit char trimStart trimEnd receiveOf receiveRefusal parse headOk framesOf itemAt frameOf payload unpack payloadOk wordOk pack framesWords ncsRx readFrames frameStep readFrame pieceFrame replyEnd isMember accept widened widenedAt ownCell putOf cells.accept settle grow store await seek next slideOf markOf stop eventsIn handedIn bookFrames bookFrame cover alsoHanded allBelow nextOf nextRefusal readRefusal cellRefusal readingOf freeOf
+unfolding step after result admitOf admitRefusal newStation seatOf findCall first lowestFree hasBit withBit withoutBit leadsTo unpacked digit char trimStart trimEnd receiveOf receiveRefusal parse headOk framesOf itemAt frameOf payload unpack payloadOk wordOk pack framesWords ncsRx readFrames frameStep readFrame pieceFrame replyEnd isMember accept widened widenedAt ownCell putOf cells.accept showsOf settle grow store await seek next slideOf markOf stop eventsIn handedIn bookFrames bookFrame cover alsoHanded allBelow nextOf nextRefusal readRefusal cellRefusal readingOf freeOf
 piece-run g = record { full = refl; freed = refl; book = refl; read = refl }
 
 pub piece-ok : (g : Settings) → CallsOk all-hi piece-calls (one-cell g) emptyBook
-unfolding CallsOk step after result admitOf admitRefusal newStation seatOf findCall first lowestFree hasBit withBit withoutBit leadsTo unpacked digit char trimStart trimEnd receiveOf receiveRefusal parse headOk framesOf itemAt frameOf payload unpack payloadOk wordOk pack framesWords ncsRx readFrames frameStep readFrame pieceFrame replyEnd isMember accept widened widenedAt ownCell putOf cells.accept settle grow store await seek next slideOf markOf stop eventsIn handedIn bookFrames bookFrame cover alsoHanded allBelow nextOf nextRefusal readRefusal cellRefusal readingOf freeOf
+unfolding CallsOk step after result admitOf admitRefusal newStation seatOf findCall first lowestFree hasBit withBit withoutBit leadsTo unpacked digit char trimStart trimEnd receiveOf receiveRefusal parse headOk framesOf itemAt frameOf payload unpack payloadOk wordOk pack framesWords ncsRx readFrames frameStep readFrame pieceFrame replyEnd isMember accept widened widenedAt ownCell putOf cells.accept showsOf settle grow store await seek next slideOf markOf stop eventsIn handedIn bookFrames bookFrame cover alsoHanded allBelow nextOf nextRefusal readRefusal cellRefusal readingOf freeOf
 piece-ok g = (
   tt,
   (

@@ -17,7 +17,7 @@ use Rattle.inbox.specs.Stores.{cellOf}
 use Rattle.inbox.specs.Messages.{framed}
 use Rattle.inbox.proofs.Joined.{Inv}
 use Rattle.stream.specs.declared.window.Window.{Window}
-use Rattle.stream.specs.Window.{handedOf, freshOf}
+use Rattle.stream.specs.Window.{handedOf, freshOf, barredOf}
 use Rattle.stream.specs.Table.{Table, noCell}
 use Rattle.stream.proofs.Tables.{Tidy}
 use Rattle.stream.proofs.Windows.{Sound, sound-fresh, fresh-none}
@@ -31,6 +31,7 @@ use Rattle.net.proofs.Laws.{index-is, member-lt, member-is}
 use Rattle.station.specs.SignOff.{bereft, isCellOf, clearAll, signOff}
 use Rattle.promise.specs.Promise.{Sent, Message, Ledger, Book, strikeEntry, bookEnds, allBelow}
 use Rattle.promise.proofs.Ledgers.{Cov, none-below}
+use Rattle.promise.proofs.Modest.{fresh-free}
 use Rattle.promise.proofs.Ties.{Use, Vacant, Comes, Whole, useOf, useAt, heldAt, FineAt, entryOf, Tie, not-whole, comes-is}
 use Rattle.promise.proofs.Quiet.{windowAt, viewOf}
 use Rattle.promise.proofs.Signs.{Signed, signed, cleared, cleared-tidy}
@@ -229,11 +230,17 @@ module _ (N N′ : Sent) (slot : ℕ) (others : (s k : ℕ) → (s ≡ slot → 
       ∙ tie .bare s k (sym (ends-there slot b s k z) ∙ h) (λ c q. nowhere c (use-is c ∙ ap (λ (e : Bool). cond e Vacant (useAt t₀ c)) (not-its slot t₀ c s k q z) ∙ q)) i)
       (eq-or-not s slot)
 
+  free-is : (s k : ℕ) → barredOf (windowAt r s) k ≡ false
+  free-is s k =
+      ⊎-elim (λ e. ap (λ (y : ℕ). barredOf (windowAt r y) k) e ∙ ap (λ (w : Window). barredOf w k) here-fresh ∙ fresh-free k)
+      (λ z. ap (λ (w : Window). barredOf w k) (there-same s z) ∙ tie .free s k) (eq-or-not s slot)
+
   pub sign-tie : Tie N′ (viewOf r store) l₁ (bookEnds slot b .entry)
   sign-tie =
       record {
         tidy = subst (λ (t : Table). Tidy t store) (sym (signs .table)) (cleared-tidy slot t₀ store (tie .tidy));
         sound = sound-is;
+        free = free-is;
         numbers = numbers-is;
         says = says-is;
         cells = λ c a.

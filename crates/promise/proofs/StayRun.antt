@@ -19,7 +19,7 @@ use Rattle.words.specs.Words.{heard, wordOk, payloadOk, unpack, payload, frameO
 use Rattle.out.specs.Encode.{pack, framesWords}
 use Rattle.inbox.specs.Cells.{seek, next, grow, settle}
 use Rattle.inbox.specs.Cells as cells
-use Rattle.inbox.specs.Messages.{framed}
+use Rattle.inbox.specs.Messages.{framed, showsOf}
 use Rattle.stream.specs.Window.{slideOf}
 use Rattle.stream.specs.Table.{ownCell, putOf, accept}
 use Rattle.roster.specs.Members.{tally}
@@ -72,13 +72,13 @@ pub record StayRun (g : Settings) : Type 0 where
   pub read : readingOf (after stay-calls (one-cell g) .station) (after stay-calls (one-cell g) .store) 0 ≡ 104 ∷ 111 ∷ []
 
 pub stay-run : (g : Settings) → StayRun g
-unfolding step after result admitOf admitRefusal newStation seatOf findCall first fold lowestFree hasBit withBit withoutBit leadsTo unpacked digit char trimStart trimEnd receiveOf receiveRefusal parse headOk framesOf itemAt frameOf payload unpack payloadOk wordOk pack framesWords ncsRx readFrames frameStep readFrame pieceFrame replyEnd isMember accept widened widenedAt ownCell putOf cells.accept settle grow seek next slideOf stop eventsIn handedIn bookFrames bookFrame cover alsoHanded allBelow readRefusal cellRefusal readingOf signOffOf signOffRefusal signOff bereaveAll bereaveAt clearAll clearAt unhearAll unhearAt bookEnds tally
+unfolding step after result admitOf admitRefusal newStation seatOf findCall first fold lowestFree hasBit withBit withoutBit leadsTo unpacked digit char trimStart trimEnd receiveOf receiveRefusal parse headOk framesOf itemAt frameOf payload unpack payloadOk wordOk pack framesWords ncsRx readFrames frameStep readFrame pieceFrame replyEnd isMember accept widened widenedAt ownCell putOf cells.accept showsOf settle grow seek next slideOf stop eventsIn handedIn bookFrames bookFrame cover alsoHanded allBelow readRefusal cellRefusal readingOf signOffOf signOffRefusal signOff bereaveAll bereaveAt clearAll clearAt unhearAll unhearAt bookEnds tally
 stay-run g = record { taken = refl; freed = refl; gone = refl; silent = refl; nobody = refl; no-slot = refl; unread = refl; events = refl; book = refl; read = refl }
 
 -- the premises hold of it
 
 pub stay-ok : (g : Settings) → CallsOk hi-then-ho stay-calls (one-cell g) emptyBook
-unfolding CallsOk step after result admitOf admitRefusal newStation seatOf findCall first fold lowestFree hasBit withBit withoutBit leadsTo unpacked digit char trimStart trimEnd receiveOf receiveRefusal parse headOk framesOf itemAt frameOf payload unpack payloadOk wordOk pack framesWords ncsRx readFrames frameStep readFrame pieceFrame replyEnd isMember accept widened widenedAt ownCell putOf cells.accept settle grow seek next slideOf stop eventsIn handedIn bookFrames bookFrame cover alsoHanded allBelow readRefusal cellRefusal readingOf signOffOf signOffRefusal signOff bereaveAll bereaveAt clearAll clearAt unhearAll unhearAt bookEnds tally
+unfolding CallsOk step after result admitOf admitRefusal newStation seatOf findCall first fold lowestFree hasBit withBit withoutBit leadsTo unpacked digit char trimStart trimEnd receiveOf receiveRefusal parse headOk framesOf itemAt frameOf payload unpack payloadOk wordOk pack framesWords ncsRx readFrames frameStep readFrame pieceFrame replyEnd isMember accept widened widenedAt ownCell putOf cells.accept showsOf settle grow seek next slideOf stop eventsIn handedIn bookFrames bookFrame cover alsoHanded allBelow readRefusal cellRefusal readingOf signOffOf signOffRefusal signOff bereaveAll bereaveAt clearAll clearAt unhearAll unhearAt bookEnds tally
 stay-ok g = (
   tt,
   (
@@ -127,7 +127,7 @@ abbrev pub former : List Call
 former = joins ∷ signing 0 ∷ joins-too ∷ hi ∷ reading 0 handed ∷ []
 
 pub former-broken : (g : Settings) → Holds hi-then-ho 1 former (one-cell g) emptyBook → ⊥
-unfolding Holds step after result admitOf admitRefusal newStation seatOf findCall first fold lowestFree hasBit withBit withoutBit leadsTo unpacked digit char trimStart trimEnd receiveOf receiveRefusal parse headOk framesOf itemAt frameOf payload unpack payloadOk wordOk pack framesWords ncsRx readFrames frameStep readFrame pieceFrame replyEnd isMember accept widened widenedAt ownCell putOf cells.accept settle grow seek next slideOf stop eventsIn handedIn bookFrames bookFrame cover alsoHanded allBelow readRefusal cellRefusal readingOf signOffOf signOffRefusal signOff bereaveAll bereaveAt clearAll clearAt unhearAll unhearAt bookEnds tally
+unfolding Holds step after result admitOf admitRefusal newStation seatOf findCall first fold lowestFree hasBit withBit withoutBit leadsTo unpacked digit char trimStart trimEnd receiveOf receiveRefusal parse headOk framesOf itemAt frameOf payload unpack payloadOk wordOk pack framesWords ncsRx readFrames frameStep readFrame pieceFrame replyEnd isMember accept widened widenedAt ownCell putOf cells.accept showsOf settle grow seek next slideOf stop eventsIn handedIn bookFrames bookFrame cover alsoHanded allBelow readRefusal cellRefusal readingOf signOffOf signOffRefusal signOff bereaveAll bereaveAt clearAll clearAt unhearAll unhearAt bookEnds tally
 former-broken g h = let z : _≡_ {A = ℕ} 105 111 = ap (λ (l : List ℕ). getD l 1 0) (h .1 .1 .1 .1 .0 .1 (omega arith) .1) in omega arith
 
 -- ---- its cells, and the boats that are left
@@ -160,13 +160,13 @@ pub record LeftRun (g : Settings) : Type 0 where
   pub gone : (one-left g .used ≡ 14) × (memberAt (one-left g) 0 ≡ vacant)
 
 pub left-run : (g : Settings) → LeftRun g
-unfolding step after result admitOf admitRefusal newStation seatOf findCall first fold lowestFree hasBit withBit withoutBit leadsTo unpacked digit char trimStart trimEnd receiveOf receiveRefusal parse headOk framesOf itemAt frameOf payload unpack payloadOk wordOk pack framesWords ncsRx readFrames frameStep readFrame pieceFrame replyEnd isMember accept widened widenedAt ownCell putOf cells.accept settle grow seek next slideOf stop signOffOf signOffRefusal signOff bereaveAll bereaveAt clearAll clearAt unhearAll unhearAt tally
+unfolding step after result admitOf admitRefusal newStation seatOf findCall first fold lowestFree hasBit withBit withoutBit leadsTo unpacked digit char trimStart trimEnd receiveOf receiveRefusal parse headOk framesOf itemAt frameOf payload unpack payloadOk wordOk pack framesWords ncsRx readFrames frameStep readFrame pieceFrame replyEnd isMember accept widened widenedAt ownCell putOf cells.accept showsOf settle grow seek next slideOf stop signOffOf signOffRefusal signOff bereaveAll bereaveAt clearAll clearAt unhearAll unhearAt tally
 left-run g =
     record { cells = (refl, refl); freed = (refl, refl); relays = (refl, refl, refl); none = (refl, refl, refl); level = (refl, refl); missed = (refl, refl); waits = refl; gone = (refl, refl) }
 
 -- the total of silent boats, with a miss limit of 1
 pub three-silent : (all-here (settingsOf plain) .totals .silent ≡ 0) × (one-left (settingsOf plain) .totals .silent ≡ 3)
-unfolding step after result admitOf admitRefusal newStation seatOf findCall first fold lowestFree hasBit withBit withoutBit leadsTo unpacked digit char trimStart trimEnd receiveOf receiveRefusal parse headOk framesOf itemAt frameOf payload unpack payloadOk wordOk pack framesWords ncsRx readFrames frameStep readFrame pieceFrame replyEnd isMember accept widened widenedAt ownCell putOf cells.accept settle grow seek next slideOf stop signOffOf signOffRefusal signOff bereaveAll bereaveAt clearAll clearAt unhearAll unhearAt tally
+unfolding step after result admitOf admitRefusal newStation seatOf findCall first fold lowestFree hasBit withBit withoutBit leadsTo unpacked digit char trimStart trimEnd receiveOf receiveRefusal parse headOk framesOf itemAt frameOf payload unpack payloadOk wordOk pack framesWords ncsRx readFrames frameStep readFrame pieceFrame replyEnd isMember accept widened widenedAt ownCell putOf cells.accept showsOf settle grow seek next slideOf stop signOffOf signOffRefusal signOff bereaveAll bereaveAt clearAll clearAt unhearAll unhearAt tally
 three-silent = (refl, refl)
 
 -- its own turn ends with no deadline, and one that relays for it goes on with no source

@@ -12,19 +12,20 @@ use Rattle.bits.proofs.Lists.{eq-or-not, never-both}
 use Rattle.inbox.specs.declared.cell.Cell.{Cell}
 use Rattle.inbox.specs.Cells.{Held, held}
 use Rattle.inbox.specs.Stores.{cellOf, bodyOf}
-use Rattle.inbox.specs.Messages.{emptyCell, framed}
+use Rattle.inbox.specs.Messages.{emptyCell, framed, Cut, showsOf}
 use Rattle.inbox.proofs.Joined.{Inv}
 use Rattle.inbox.proofs.Parts.{cell-length}
 use Rattle.stream.specs.declared.window.Window.{Window}
 use Rattle.stream.specs.declared.table.Room.{Room}
 use Rattle.stream.specs.declared.table.Room.the-variants.{Own, Free, Full}
-use Rattle.stream.specs.Window.{handedOf}
-use Rattle.stream.specs.Table.{Table, cellAt, ownerOf, isOwn, cellCount, placeOf, hasRoom, cellFor, tableRoom}
+use Rattle.stream.specs.Window.{handedOf, barredOf}
+use Rattle.stream.specs.Table.{Table, cellAt, ownerOf, isOwn, cellCount, placeOf, hasRoom, cellFor, heldFor, tableRoom}
 use Rattle.stream.proofs.Rooms.{filling-own, RoomIs, cells-are}
 use Rattle.stream.proofs.Tables.{filling, Tidy, table-room}
 use Rattle.stream.proofs.Windows.{Sound}
 use Rattle.promise.specs.Promise.{Sent, Message, Ledger, same, allBelow}
 use Rattle.promise.proofs.Ledgers.{Cov, same-true, same-self, empty-inv}
+use Rattle.promise.proofs.Modest.{shows-modest, empty-modest}
 
 -- the cells, the store, and for each slot its window
 pub record View : Type 0 where
@@ -68,6 +69,8 @@ entryOf (Whole s k) = some (record { slot = s; number = k })
 pub record Tie (M : Sent) (v : View) (l : Ledger) (e : ℕ → Option Message) : Type 0 where
   pub tidy : Tidy (v .table) (v .store)
   pub sound : (s : ℕ) → Sound (v .windows s)
+  -- no message claims too much, so no number is barred
+  pub free : (s k : ℕ) → barredOf (v .windows s) k ≡ false
   -- handed over in the book is handed over in the window
   pub numbers : (s k : ℕ) → l .handed s k ≡ handedOf (v .windows s) k
   -- the book alone: handed over is covered whole
@@ -202,6 +205,19 @@ module _ (M : Sent) (small : (s k : ℕ) → length (M s k) ≤ 2046) (v : View)
       go (Free c) w = (zs, empty-inv (framed (M s k)) zs (l .covered s k) (omega (arith, small s k)) z (tie .bare s k hand (no-cell (w .none))))
       go Full w = (zs, empty-inv (framed (M s k)) zs (l .covered s k) (omega (arith, small s k)) z (tie .bare s k hand (no-cell (w .none))))
 
+  -- a piece of the message shows no length above 2,046
+  pub shows-none : (o : ℕ) (p : List ℕ) → Cut (framed (M s k)) o p
+      → showsOf (heldFor (tableRoom (v .table) s k) (cellAt (v .table) (placeOf (tableRoom (v .table) s k))) (v .store)) o p ≡ false
+  shows-none o p cut = go (tableRoom (v .table) s k) (table-room (v .table) (v .store) (tie .tidy) s k)
+    where
+      go : (r : Room) → RoomHere r → showsOf (heldFor r (cellAt (v .table) (placeOf r)) (v .store)) o p ≡ false
+      go (Own c) w =
+          let n = cells-are (v .table .count) (tie .tidy .most) in
+          let b = w .below in
+          shows-modest (M s k) (small s k) (Cov (l .covered s k)) (heldAt v c) (aim-has c (omega arith) (w .filling) .inv) o p cut
+      go (Free c) w = empty-modest (M s k) (small s k) o p cut
+      go Full w = empty-modest (M s k) (small s k) o p cut
+
 -- ---- a cell written anew
 
 -- how much of the book another message sees
@@ -230,6 +246,7 @@ module _ (M : Sent) (v : View) (l : Ledger) (e : ℕ → Option Message) (tie : 
     (held-there : (d : ℕ) → (d ≡ c → ⊥) → d < v .table .count → heldAt v′ d ≡ heldAt v d)
     (l′ : Ledger) (w : Apart s k l l′) (e′ : ℕ → Option Message)
     (sound : (a : ℕ) → Sound (v′ .windows a))
+    (free : (a b : ℕ) → barredOf (v′ .windows a) b ≡ false)
     (numbers : (a b : ℕ) → l′ .handed a b ≡ handedOf (v′ .windows a) b)
     (says : (a b : ℕ) → l′ .handed a b ≡ allBelow (2 + length (M a b)) (l′ .covered a b))
     (fine : FineAt M l′ u h)
@@ -272,6 +289,7 @@ module _ (M : Sent) (v : View) (l : Ledger) (e : ℕ → Option Message) (tie : 
         record {
           tidy = tidy;
           sound = sound;
+          free = free;
           numbers = numbers;
           says = says;
           cells = fine-at;

@@ -19,7 +19,7 @@ use Rattle.wire.specs.Fields.{snrFromQ}
 use Rattle.stream.specs.Window.{bitmapOf}
 use Rattle.stream.specs.Table.{Accepted, accept, freedTable, hasLanded}
 use Rattle.roster.specs.declared.Member.{Member}
-use Rattle.roster.specs.Members.{newMember, withLinks, withMissed, withBurst, withMark, knownCaps, knownVersion, withHeard, withDown, withDirect, receivedAt, promotedAt, reroutedTo, landedOne, toldNow}
+use Rattle.roster.specs.Members.{newMember, withLinks, withMissed, withBurst, withMark, knownCaps, knownVersion, withHeard, withDown, withDirect, receivedAt, promotedAt, reroutedTo, landedOne, barredOne, toldNow}
 use Rattle.roster.specs.Relays.{couldRelay, turnOver}
 use Rattle.net.specs.declared.Station.{Station}
 use Rattle.net.specs.declared.Round.{Round}
@@ -168,6 +168,9 @@ pub data Change (A : Allowed) (s : Station) : Station → Type 0 where
       → offered s store slot field p .lost ≡ false → hasLanded (offered s store slot field p .landed) ≡ true
       → Change A s (withMember (withTable s (offered s store slot field p .table)) slot (landedOne m (offered s store slot field p .number) (sizeOf (offered s store slot field p .landed))))
   freed : A .cells → (cell : ℕ) → Change A s (withTable s (freedTable (tableOf s) cell))
+  -- a boat's piece claims too much: its number is barred, and its message's cell is free
+  barred : A .cells → (store : List ℕ) (slot field : ℕ) (p : List ℕ) → isMember (s .used) slot ≡ true → offered s store slot field p .bars ≡ true
+      → Change A s (withMember (withTable s (offered s store slot field p .table)) slot (barredOne (memberAt s slot) (offered s store slot field p .number)))
   -- a boat signs off: one change, as no property is asked to hold half-way. Signs says what is left of every part
   signsOff : A .turns → A .cells → (slot : ℕ) → isMember (s .used) slot ≡ true → Change A s (signOff s slot)
 

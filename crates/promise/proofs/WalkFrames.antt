@@ -1,5 +1,5 @@
--- What reading a frame comes to, of cells, store, windows and events 2: it leaves them alone, or a boat's piece is offered to its cell, and is kept or not. A property of
--- these is proved by these three clauses, and holds then of every frame and of every reception. Assumes nothing.
+-- What reading a frame comes to, of cells, store, windows and events 2: it leaves them alone, or a boat's piece is offered to its cell, and is kept, or not, or its number
+-- is barred. A property of these is proved by these four clauses, and holds then of every frame and of every reception. Assumes nothing.
 use mathlib.Core.Path.{_≡_, refl, ap, _∙_, subst}
 use mathlib.Core.Bool.{Bool, true, false, cond, _&&_}
 use mathlib.Core.List.{List, [], _∷_, _++_}
@@ -22,17 +22,17 @@ use Rattle.net.specs.State.{memberAt, tableOf, withWait}
 use Rattle.net.specs.Net.{isMember}
 use Rattle.frames.specs.declared.Air.{Air}
 use Rattle.frames.specs.Reading.{Reading}
-use Rattle.frames.specs.Pieces.{pieceEvents, unkeptAt, keptPiece, takenPiece, pieceFrame}
+use Rattle.frames.specs.Pieces.{pieceEvents, unkeptAt, barredPiece, keptPiece, takenPiece, pieceFrame}
 use Rattle.frames.specs.Frames.{readFrame, controlFrame, frameStep, readFrames}
 use Rattle.rx.specs.Ending.{busyWait, idleEnd, replyEnd, nothingMore, Ended}
 use Rattle.rx.specs.Reception.{Received, airOf, firstReading, receivedOf, ncsRx}
 use Rattle.promise.specs.Promise.{isBoats, framesBy, Event2, eventsIn}
 use Rattle.promise.proofs.Ties.{View}
-use Rattle.promise.proofs.Pieces.{alsoOne, viewAfter, eventFor}
+use Rattle.promise.proofs.Pieces.{alsoOne, viewAfter, viewBarred, eventFor}
 use Rattle.promise.proofs.Quiet.{windowAt, kept-self, viewOf, kept-view}
 use Rattle.promise.proofs.Events.{events-none, events-append, append-quiet}
 use Rattle.promise.proofs.QuietRx.{Untouched, untouched, control-untouched, QuietEnd, idle-kept, reply-kept}
-use Rattle.promise.proofs.Readings.{piece-view, piece-long, piece-events}
+use Rattle.promise.proofs.Readings.{piece-view, piece-long, barred-view, barred-long, piece-events}
 
 -- cells, store and windows of a reading
 abbrev pub viewIn : Reading → View
@@ -58,6 +58,9 @@ pub data FrameRead (x y : Reading) : Heard → Type 0 where
   other : {h : Heard} → isPiece h (x .station .used) ≡ false → Seen x y (viewIn x) [] (x .unkept) → FrameRead x y h
   unkept : (flags field : ℕ) (p : List ℕ) → isBoats flags (x .station .used) ≡ true → offeredIn x flags field p .lost ≡ true → Seen x y (viewIn x) [] (withBit (x .unkept) (x .frame))
       → FrameRead x y (heard flags field p)
+  barred : (flags field : ℕ) (p : List ℕ) → isBoats flags (x .station .used) ≡ true → offeredIn x flags field p .bars ≡ true
+      → Seen x y (viewBarred (viewIn x) (flags % 64) (offeredIn x flags field p)) [] (withBit (x .unkept) (x .frame))
+      → FrameRead x y (heard flags field p)
   piece : (flags field : ℕ) (p : List ℕ) → isBoats flags (x .station .used) ≡ true → offeredIn x flags field p .lost ≡ false
       → Seen x y (viewAfter (viewIn x) (flags % 64) (offeredIn x flags field p)) (alsoOne (eventFor (flags % 64) (offeredIn x flags field p)) []) (x .unkept)
       → FrameRead x y (heard flags field p)
@@ -67,7 +70,7 @@ landed-fit : (t : Table) (w : Window) (store : List ℕ) (slot field : ℕ) (p :
     → hasLanded (accept t w store slot field p .landed) ≡ true → accept t w store slot field p .cell < 64
 landed-fit t w store slot field p tidy =
     accept-cases t w store slot field p (λ x. hasLanded (x .landed) ≡ true → x .cell < 64)
-    (λ e h. omega arith) (λ k e g h. omega arith) (λ k o a q c h. place-in t store tidy slot k .0) (λ k o q h. place-in t store tidy slot k .0)
+    (λ e h. omega arith) (λ k e g h. omega arith) (λ k o a q c z h. place-in t store tidy slot k .0) (λ k o q h. place-in t store tidy slot k .0) (λ k o q h. place-in t store tidy slot k .0)
 
 module _ (a : Air) (x : Reading) (tidy : Tidy (tableOf (x .station)) (x .store)) (long : length (x .station .members) ≡ 62) where
   untouched-seen : (y : Reading) → Untouched x y → Seen x y (viewIn x) [] (x .unkept)
@@ -98,8 +101,10 @@ module _ (a : Air) (x : Reading) (tidy : Tidy (tableOf (x .station)) (x .store))
 
         by-view : FrameRead x (takenPiece a (flags % 64) r x) (heard flags field p)
         by-view =
-            cond-keeps (λ (y : Reading). FrameRead x y (heard flags field p)) (r .lost) (unkeptAt x) (keptPiece a (flags % 64) r x)
-            (λ q. unkept flags field p boat q (record { view = refl; events = untouched x .events; long = long; mask = refl }))
+            cond-keeps (λ (y : Reading). FrameRead x y (heard flags field p)) (r .lost) (unkeptAt (cond (r .bars) (barredPiece (flags % 64) r x) x)) (keptPiece a (flags % 64) r x)
+            (λ q. cond-keeps (λ (y : Reading). FrameRead x (unkeptAt y) (heard flags field p)) (r .bars) (barredPiece (flags % 64) r x) x
+            (λ z. barred flags field p boat z (record { view = barred-view (flags % 64) r x here long; events = untouched x .events; long = barred-long (flags % 64) r x here long; mask = refl }))
+            (λ _. unkept flags field p boat q (record { view = refl; events = untouched x .events; long = long; mask = refl })))
             (λ q. piece flags field p boat q (kept-seen r (landed-fit (tableOf (x .station)) (windowAt (x .station) (flags % 64)) (x .store) (flags % 64) field p tidy)))
 
   frame-read : (h : Heard) → FrameRead x (readFrame a h x) h
@@ -129,6 +134,7 @@ module _ (a : Air) (x : Reading) (tidy : Tidy (tableOf (x .station)) (x .store))
   again : (y z : Reading) (h : Heard) → viewIn z ≡ viewIn y → z .words ≡ y .words → z .station ≡ y .station → z .unkept ≡ y .unkept → FrameRead x y h → FrameRead x z h
   again y z h p w t u (other q s) = other q (next-seen y z _ _ _ p w t u s)
   again y z h p w t u (unkept flags field c b q s) = unkept flags field c b q (next-seen y z _ _ _ p w t u s)
+  again y z h p w t u (barred flags field c b q s) = barred flags field c b q (next-seen y z _ _ _ p w t u s)
   again y z h p w t u (piece flags field c b q s) = piece flags field c b q (next-seen y z _ _ _ p w t u s)
 
   pub step-reads : (h : Heard) → FrameRead x (frameStep a h x) h

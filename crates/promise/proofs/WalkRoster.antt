@@ -1,6 +1,6 @@
 -- The walk for a property of the roster alone (the slots in use, the members but for most of their fields, and the total of silent boats), and for one of every
 -- member: fewer cases, the other changes being none to them. Assumes nothing.
-use mathlib.Core.Path.{_≡_, sym, subst}
+use mathlib.Core.Path.{_≡_, refl, sym, subst}
 use mathlib.Core.Bool.{true, false}
 use mathlib.Core.List.{List, [], _∷_}
 use Prim.Native.Nat.{ℕ, zero, suc, _<_}
@@ -13,7 +13,7 @@ use Rattle.bits.proofs.Loops.{fold-keeps}
 use Rattle.level.specs.Consts.{nought}
 use Rattle.level.specs.declared.Level.the-variants.{Decibels}
 use Rattle.roster.specs.declared.Member.{Member}
-use Rattle.roster.specs.Members.{noMember, newMember, withMissed, withMark, promotedAt, reroutedTo, landedOne, silentAt, tally}
+use Rattle.roster.specs.Members.{noMember, newMember, withMissed, withMark, promotedAt, reroutedTo, landedOne, barredOne, silentAt, tally}
 use Rattle.roster.specs.Relays.{couldRelay}
 use Rattle.net.specs.declared.Station.{Station}
 use Rattle.net.specs.declared.Settings.{Settings}
@@ -65,6 +65,8 @@ roster {s = s} (walk.piece a store slot field p m here f l d) = written (indexOf
 roster {s = s} (walk.landed a store slot field p m here f l d) =
     written (indexOf slot) _ (index-lt slot) (index-member (s .used) slot here) (record { call = stays f .call; via = stays f .via; missed = stays f .missed })
 roster (walk.freed a cell) = same
+roster {s = s} (walk.barred a store slot field p here b) =
+    written (indexOf slot) _ (index-lt slot) (index-member (s .used) slot here) (record { call = refl; via = refl; missed = refl })
 roster (walk.signsOff a b slot here) = signsOff slot here
 
 -- ---- every member
@@ -80,6 +82,7 @@ pub record Each (A : Allowed) (Q : Member → Type 0) : Type 0 where
   pub promoted : (m : Member) (snr : Float) → m .direct ≡ Decibels snr → Q m → Q (promotedAt m snr)
   pub moved : (m : Member) (r : ℕ) → Q m → Q (reroutedTo m r)
   pub landed : (m : Member) (number n : ℕ) → Q m → Q (landedOne m number n)
+  pub barred : (m : Member) (number : ℕ) → Q m → Q (barredOne m number)
   pub entered : (call : List ℕ) (v : ℕ) (now : Float) → Q (newMember call v now)
   pub cut : (m : Member) (limit : ℕ) → Q m → Q (cutOff limit m)
 
@@ -121,6 +124,7 @@ module _ (A : Allowed) (Q : Member → Type 0) (e : Each A Q) where
   every s t (walk.landed a store slot field p m here f h d) l =
       set-every Q (s .members) (indexOf slot) _ (e .landed m _ _ (fields-keep Q (e .field) f (l (indexOf slot)))) l
   every s t (walk.freed a cell) l = l
+  every s t (walk.barred a store slot field p here b) l = set-every Q (s .members) (indexOf slot) _ (e .barred _ _ (l (indexOf slot))) l
   every s t (walk.signsOff a b slot here) l = sign-every s slot l
 
 -- at a start

@@ -34,13 +34,13 @@ use Rattle.admit.specs.Admission.{seatOf, slotOf, admitBy}
 use Rattle.admit.proofs.Laws.{known-lt, known-used, seat-lt, seat-free}
 use Rattle.frames.specs.declared.Air.{Air}
 use Rattle.frames.specs.Reading.{Reading}
-use Rattle.frames.specs.Pieces.{isAsideLeaf, heardMember, isRelayed, trafficIf, relayIf, keptPiece, pieceFrame}
+use Rattle.frames.specs.Pieces.{isAsideLeaf, heardMember, isRelayed, trafficIf, relayIf, unkeptAt, barredPiece, keptPiece, pieceFrame}
 use Rattle.frames.specs.Control.{eachEntry, checkinMember, checkedIn, withActive, callAt, checkinFrame, isForwarded, reportMember, hearPair, reportStation, reportFrame, relayOf, newcomer, hearing, overheardBy, overheardEntry, overheardFrame, isKid, kidEntry, kidsFrame}
 use Rattle.frames.specs.Frames.{controlBy, readFrame, frameStep, readFrames}
 use Rattle.rx.specs.Ending.{isBusy, putOff, turnOverIn, idleHeard, idleBy, idleEnd, replyHeard, answerBy, goesOn, isReply, replyBy, replyEnd, Ended, busyWait}
 use Rattle.rx.specs.Reception.{Received, airOf, firstReading, ncsRx}
 use Rattle.promise.proofs.FrameCases.{control-cases, frame-cases}
-use Rattle.promise.proofs.Walk.{Allowed, Fields, none, also, burst, caps, version, down, received, direct, reached, Turned, still, ends, sends, goes, RelayOk, hears, entered, offered, piece, landed, Chain, start, more, chain-then}
+use Rattle.promise.proofs.Walk.{Allowed, Fields, none, also, burst, caps, version, down, received, direct, reached, Turned, still, ends, sends, goes, RelayOk, hears, entered, offered, piece, landed, barred, Chain, start, more, chain-then}
 use Rattle.promise.proofs.Walk as walk
 use Rattle.promise.proofs.WalkNext.{index-member, calm, ack, turn, over-walk, write, count}
 
@@ -248,7 +248,8 @@ module _ (A : Allowed) where
           let r = offered s (x .store) slot field p in
           let m = heardMember a (memberAt s slot) slot in
           cond-keeps Reads (isMember (s .used) slot) _ x
-          (λ here. cond-keeps Reads (r .lost) _ (keptPiece a slot r x) (λ _. k)
+          (λ here. cond-keeps Reads (r .lost) _ (keptPiece a slot r x)
+          (λ _. cond-keeps (λ (y : Reading). Reads (unkeptAt y)) (r .bars) (barredPiece slot r x) x (λ b. more k (barred cells (x .store) slot field p here b)) (λ _. k))
           (λ l.
           relay-walk (isRelayed a s slot r) _ (traffic-walk (hasLanded (r .landed)) _
           (cond-keeps (λ (y : Member). Chain A s₀ (withMember (withTable s (r .table)) slot y)) (hasLanded (r .landed)) _ m

@@ -26,7 +26,7 @@ use Rattle.admit.specs.declared.Seat.the-variants.{Known, Free, Full}
 use Rattle.admit.specs.Admission.{seatOf, admitBy}
 use Rattle.frames.specs.declared.Air.{Air}
 use Rattle.frames.specs.Reading.{Reading}
-use Rattle.frames.specs.Pieces.{isRelayed, keptPiece, pieceFrame}
+use Rattle.frames.specs.Pieces.{isRelayed, unkeptAt, keptPiece, pieceFrame}
 use Rattle.frames.specs.Control.{callAt, checkinFrame, isForwarded, reportSays, reportFrame, relayOf, overheardBy, overheardEntry, overheardFrame, isKid, kidEvents, kidEntry, kidsFrame}
 use Rattle.frames.specs.Frames.{controlBy, readFrame, frameStep, readFrames}
 use Rattle.promise.proofs.FrameCases.{control-cases, frame-cases}
@@ -139,7 +139,7 @@ module _ (W : List ℕ → Type 0) (w : Words W) where
       piece-words slot field p x h =
           let r = offered (x .station) (x .store) slot field p in
           cond-keeps Reads (isMember (x .station .used) slot) _ x
-          (λ _. cond-keeps Reads (r .lost) _ (keptPiece a slot r x) (λ _. h)
+          (λ _. cond-keeps Reads (r .lost) _ (keptPiece a slot r x) (λ _. cond-keeps (λ (y : Reading). Reads (unkeptAt y)) (r .bars) _ x (λ _. h) (λ _. h))
           (λ _. w .both (x .words) _ h (piece-events (hasLanded (r .landed)) (isRelayed a (x .station) slot r) slot (a .polled) (r .cell) (r .number))))
           (λ _. h)
 

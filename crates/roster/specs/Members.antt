@@ -12,13 +12,13 @@ use Rattle.level.specs.declared.Clock.the-variants.{Never, At}
 use Rattle.level.specs.Levels.{smoothed, orElse, isAt}
 use Rattle.wire.specs.Fields.{capsOf, relays}
 use Rattle.stream.specs.declared.window.Window.{Window}
-use Rattle.stream.specs.Window.{freshOf, bitmapOf, holesOf, landOf}
+use Rattle.stream.specs.Window.{freshOf, bitmapOf, holesOf, landOf, barOf}
 use Rattle.roster.specs.declared.Member.{Member}
 
 -- What an element past an array's end is taken for: 0, false, [] and the first variant, in each field
 abbrev pub noMember : Member
 noMember =
-    record { call = []; via = 0; hascaps = false; caps = 0; hasversion = false; version = 0; burst = 0; toldbits = 0; markbits = 0; missed = 0; toldnext = 0; marknext = 0; bytesin = 0; snrup = Unheard; snrdown = Unheard; direct = Unheard; lastheard = Never; up = record { next = 0; low = 0; high = 0 }; tried = 0 }
+    record { call = []; via = 0; hascaps = false; caps = 0; hasversion = false; version = 0; burst = 0; toldbits = 0; markbits = 0; missed = 0; toldnext = 0; marknext = 0; bytesin = 0; snrup = Unheard; snrdown = Unheard; direct = Unheard; lastheard = Never; up = freshOf; tried = 0 }
 
 -- ---- one group of fields written
 
@@ -105,6 +105,10 @@ missedOne m = withMissed m (stop (m .missed + 1))
 -- a message of n bytes has landed
 abbrev pub landedOne : Member → ℕ → ℕ → Member
 landedOne m number n = withUp m (landOf (m .up) number) (stop (m .bytesin + n))
+
+-- its message of this number claims too much
+abbrev pub barredOne : Member → ℕ → Member
+barredOne m number = withUp m (barOf (m .up) number) (m .bytesin)
 
 -- what a received list would say of it is noted
 abbrev pub toldNow : Member → Member

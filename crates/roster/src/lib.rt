@@ -1,7 +1,7 @@
 // The members of a net (Member of ncs.rs): what the control station knows of a boat, and the choices of relays.
 // A field's name has no underscore, since the definitions name the fields too.
 ghost use mathlib.Core.Path.{_≡_};
-ghost use Rattle.roster.specs.Members.{withLinks, withHeard, withDown, withDirect, heardBy, newMember, receivedAt, reachedAt, withCaps, withVersion, promotedAt, reroutedTo, missedOne, landedOne, toldNow, isNews, isWilling, downOrUp, isDirect, tally};
+ghost use Rattle.roster.specs.Members.{withLinks, withHeard, withDown, withDirect, heardBy, newMember, receivedAt, reachedAt, withCaps, withVersion, promotedAt, reroutedTo, missedOne, landedOne, barredOne, toldNow, isNews, isWilling, downOrUp, isDirect, tally};
 use level::Clock;
 use level::Level;
 use stream::window;
@@ -221,6 +221,17 @@ pub fn landed(m: Member, number: u32, n: u32) -> Member
     let mut k = m;
     k.up = v;
     k.bytesin = bits::more_by(m.bytesin, n);
+    k
+}
+
+// Its message of this number claims too much.
+pub fn barred(m: Member, number: u32) -> Member
+    ensures { λ r. ⌜ r ≡ barredOne m number ⌝ }
+{
+    let w = m.up;
+    let v = window::bar(w, number);
+    let mut k = m;
+    k.up = v;
     k
 }
 

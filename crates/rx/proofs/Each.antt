@@ -11,7 +11,7 @@ use Rattle.words.specs.declared.Item.the-variants as item
 use Rattle.inbox.specs.Sizes.{cellSize}
 use Rattle.stream.specs.declared.table.Taken.{Taken}
 use Rattle.stream.specs.declared.window.Window.{Window}
-use Rattle.stream.specs.Table.{Took, took, placeOf, changes, isLost, hasLanded, noCell}
+use Rattle.stream.specs.Table.{Took, took, placeOf, isLost, noCell}
 use Rattle.out.specs.Encode.{Wrote}
 use Rattle.out.proofs.Laws.{wrote-none}
 use Rattle.roster.specs.declared.Member.{Member}
@@ -27,7 +27,7 @@ use Rattle.frames.specs.declared.Frame.{Frame}
 use Rattle.frames.specs.Kinds.{Kind, Nothing, Piece, Checkin, Report, Overheard, Kids}
 use Rattle.frames.specs.declared.pieces.Piece as piece
 use Rattle.frames.specs.Reading.{Reading, alsoSaid, nextRx, reportRx}
-use Rattle.frames.specs.Pieces.{pieceOf, pieceFrame, takenOf, ownerAfter, withIf, memberAfter, relayedBy, roundAfter, totalsAfter, landedEvents, storedPiece, RoomIn}
+use Rattle.frames.specs.Pieces.{pieceOf, pieceFrame, takenOf, ownerAfter, busyAfter, landedAfter, withIf, memberAfter, relayedBy, roundAfter, totalsAfter, landedEvents, storedPiece, RoomIn}
 use Rattle.frames.specs.Control.{payloadIn, forwardedBy, isForwarded, reportMember, reportStation, reportFrame, hearPairs, isPending, controlSays}
 use Rattle.frames.specs.Frames.{readFrame, readBy, frameOf, kindOf}
 use Rattle.frames.proofs.Laws.{bytes-payload, peek-bytes}
@@ -139,7 +139,7 @@ module _ {a : Air} {ws : List ℕ} {n : ℕ} {s₀ : Station} {store₀ o₀ sto
       → c ≡ placeOf (p .room)
       → took d store′ ≡ takenOf p (getD (s .cells) c noCell) (bytesAt (drop (x .word) ws) (f .len)) store
       → owner ≡ ownerAfter (getD (s .owners) c 0) d p
-      → busy ≡ withIf (s .busy) (changes (d .kept)) c → landed ≡ withIf (s .landed) (hasLanded (d .landed)) c
+      → busy ≡ busyAfter (s .busy) d p c → landed ≡ landedAfter (s .landed) d p c
       → k ≡ memberAfter (getD (s .members) i noMember) d p a → relayed ≡ relayedBy d p a (s .used)
       → q ≡ roundAfter (s .round) d relayed → u ≡ totalsAfter (s .totals) relayed
       → Wrote o (x .at) (landedEvents d p c relayed (a .polled)) o′ end

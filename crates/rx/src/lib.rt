@@ -82,11 +82,10 @@ fn read_burst(
             let d = pieces::take(p, before, words, x.word, f.len, lent);
             let after = d.cell;
             let kept = d.kept;
-            let lands = d.landed;
             s.cells[c] = after;
             s.owners[c] = pieces::owner_after(s.owners[c], d, p);
-            s.busy = pieces::with_if(s.busy, table::changed(kept), c);
-            s.landed = pieces::with_if(s.landed, table::has_landed(lands), c);
+            s.busy = pieces::busy_after(s.busy, d, p, c);
+            s.landed = pieces::landed_after(s.landed, d, p, c);
             let k = pieces::member_after(m, d, p, a);
             s.members[i] = k;
             let relayed = pieces::is_relayed(d, p, a, s.used);

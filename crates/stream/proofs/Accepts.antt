@@ -1,6 +1,6 @@
 -- What a boat's piece does, by its four cases; and that table, store and window stay what they are known to be. Assumes nothing.
 use mathlib.Core.Path.{_≡_, refl, sym, ap, _∙_, subst}
-use mathlib.Core.Bool.{Bool, true, false, cond, _&&_, _||_, or-false}
+use mathlib.Core.Bool.{Bool, true, false, cond, _&&_, _||_}
 use mathlib.Core.List.{List}
 use mathlib.Core.Logic.{⊎-elim}
 use Prim.Native.Nat.{ℕ, _+_, _-_, _*_, _/_, _%_, _≤_}
@@ -9,17 +9,17 @@ use lib.ListN.{length, getD}
 use lib.Dec.{eqb, ltb}
 use borrow.Author.Tests.{ltb-true}
 use Rattle.bits.specs.Mask.{hasBit}
-use Rattle.bits.proofs.Lists.{cond-true, cond-false, cases, le-or-lt, never-both}
+use Rattle.bits.proofs.Lists.{cond-true, cond-false, cases, le-or-lt, never-both, or-false}
 use Rattle.wire.specs.declared.number.Number.{Number}
 use Rattle.wire.specs.declared.number.Number.the-variants.{Is, Before}
 use Rattle.wire.specs.Numbers.{widened, widenedAt, distance, numbers}
 use Rattle.wire.proofs.Near.{widened-at}
 use Rattle.inbox.specs.declared.cell.Cell.{Cell}
 use Rattle.inbox.specs.declared.keep.Kept.{Kept}
-use Rattle.inbox.specs.declared.keep.Kept.the-variants.{Needless, Yes, Late, Long, NoCell, NoPlace}
+use Rattle.inbox.specs.declared.keep.Kept.the-variants.{Needless, Yes, Late, Overlong, Long, NoCell, NoPlace}
 use Rattle.inbox.specs.declared.store.Landed.the-variants.{NotYet}
 use Rattle.inbox.specs.Cells.{Held, held}
-use Rattle.inbox.specs.Messages.{Fits}
+use Rattle.inbox.specs.Messages.{Fits, showsOf}
 use Rattle.inbox.specs.Stores.{cellOf, landedOf}
 use Rattle.inbox.proofs.Apart.{accept-fits, in-length, in-other}
 use Rattle.inbox.proofs.Rule.{KeptIs, yes-is}
@@ -27,23 +27,41 @@ use Rattle.inbox.proofs.Steps.{empty-fits}
 use Rattle.stream.specs.declared.window.Window.{Window}
 use Rattle.stream.specs.declared.table.Room.{Room}
 use Rattle.stream.specs.declared.table.Room.the-variants.{Own, Free, Full}
-use Rattle.stream.specs.Window.{handedOf, landOf}
-use Rattle.stream.specs.Table.{Table, Accepted, accept, acceptBy, acceptIn, accepted, passed, tableRoom, cellAt, cellFor, placeOf, hasRoom, ownerOf, keptFor, takeBy, putOf, putIn, joinedOf, changes, isLost, hasLanded}
-use Rattle.stream.proofs.Takes.{changes-yes, joined-length}
-use Rattle.stream.proofs.Tables.{Tidy, kept-tidy, kept-other, place-below, place-in, room-only}
-use Rattle.stream.proofs.Windows.{Sound, sound-next, sound-land, land-at, handed-low}
+use Rattle.stream.specs.Window.{handedOf, landOf, barredOf, barOf}
+use Rattle.stream.specs.Table.{Table, Accepted, accept, acceptBy, acceptIn, accepted, passed, tableRoom, cellAt, cellFor, heldFor, placeOf, hasRoom, ownerOf, isOver, keptFor, takeBy, putOf, putIn, joinedOf, changes, bars, isLost, hasLanded, barredTable}
+use Rattle.stream.proofs.Takes.{changes-yes, bars-over, joined-length}
+use Rattle.stream.proofs.Tables.{Tidy, kept-tidy, kept-other, freed-other, barred-tidy, place-below, place-in, room-only}
+use Rattle.stream.proofs.Windows.{Sound, sound-next, sound-land, sound-bar, land-at, land-bars, bar-handed, bar-bars, handed-low}
+
+or-no : (b : Bool) → b || false ≡ b
+or-no true = refl
+or-no false = refl
 
 -- ---- the cases
 
 -- a piece that the rule does not keep, or that changes nothing: only the answer tells of it
 abbrev pub leftAs : Table → Window → List ℕ → ℕ → ℕ → Kept → Accepted
 leftAs t w store c k a =
-    record { table = t; window = w; store = store; lost = isLost a; landed = NotYet; cell = c; number = k }
+    record { table = t; window = w; store = store; lost = isLost a; bars = false; landed = NotYet; cell = c; number = k }
+
+-- a piece of a message that claims too much: its own cell is free, and the number barred
+abbrev pub barredAs : Table → Window → List ℕ → ℕ → ℕ → Accepted
+barredAs t w store slot k =
+    record {
+      table = barredTable t (tableRoom t slot k);
+      window = barOf w k;
+      store = store;
+      lost = true;
+      bars = true;
+      landed = NotYet;
+      cell = placeOf (tableRoom t slot k);
+      number = k;
+    }
 
 -- the kept rule's answer to a piece of message k
-abbrev pub answerOf : Table → ℕ → ℕ → ℕ → List ℕ → Kept
-answerOf t slot k offset p =
-    keptFor (tableRoom t slot k) (cellAt t (placeOf (tableRoom t slot k))) k offset (length p)
+abbrev pub answerOf : Table → Window → List ℕ → ℕ → ℕ → ℕ → List ℕ → Kept
+answerOf t w store slot k offset p =
+    keptFor (barredOf w k) store (tableRoom t slot k) (cellAt t (placeOf (tableRoom t slot k))) k offset p
 
 -- the cell that a kept piece of message k goes into, and what it holds after the piece
 abbrev pub cellIn : Table → ℕ → ℕ → ℕ
@@ -55,20 +73,21 @@ heldAfter t store slot k offset p =
 
 abbrev pub putAs : Table → Window → List ℕ → ℕ → ℕ → ℕ → List ℕ → Accepted
 putAs t w store slot k offset p =
-    accepted t w (cellIn t slot k) slot k (putIn store (cellIn t slot k) (heldAfter t store slot k offset p))
+    accepted t w (tableRoom t slot k) slot k (putIn store (cellIn t slot k) (heldAfter t store slot k offset p))
 
 left-by : (t : Table) (w : Window) (store : List ℕ) (slot k offset : ℕ) (p : List ℕ) (room : Room) (cell : Cell) (a : Kept)
-    → changes a ≡ false → accepted t w (placeOf room) slot k (takeBy a store room cell offset p) ≡ leftAs t w store (placeOf room) k a
-left-by t w store slot k offset p room cell Yes e = absurd (never-both true refl e)
-left-by t w store slot k offset p room cell Needless e = refl
-left-by t w store slot k offset p room cell Late e = refl
-left-by t w store slot k offset p room cell Long e = refl
-left-by t w store slot k offset p room cell NoCell e = refl
-left-by t w store slot k offset p room cell NoPlace e = refl
+    → changes a ≡ false → bars a ≡ false → accepted t w room slot k (takeBy a store room cell offset p) ≡ leftAs t w store (placeOf room) k a
+left-by t w store slot k offset p room cell Yes e z = absurd (never-both true refl e)
+left-by t w store slot k offset p room cell Needless e z = refl
+left-by t w store slot k offset p room cell Late e z = refl
+left-by t w store slot k offset p room cell Overlong e z = absurd (never-both true refl z)
+left-by t w store slot k offset p room cell Long e z = refl
+left-by t w store slot k offset p room cell NoCell e z = refl
+left-by t w store slot k offset p room cell NoPlace e z = refl
 
 put-by : (t : Table) (w : Window) (store : List ℕ) (slot k offset : ℕ) (p : List ℕ) (room : Room) (cell : Cell)
-    → accepted t w (placeOf room) slot k (takeBy Yes store room cell offset p)
-    ≡ accepted t w (placeOf room) slot k (putIn store (placeOf room) (joinedOf store (placeOf room) (cellFor room cell) offset p))
+    → accepted t w room slot k (takeBy Yes store room cell offset p)
+    ≡ accepted t w room slot k (putIn store (placeOf room) (joinedOf store (placeOf room) (cellFor room cell) offset p))
 unfolding putOf
 put-by t w store slot k offset p room cell = refl
 
@@ -94,34 +113,47 @@ module _ (t : Table) (w : Window) (store : List ℕ) (slot field : ℕ) (p : Lis
   accept-open k o =
       ap (λ (n : Number). acceptBy n t w store slot (field % 65536) p) (o .is) ∙ cond-false (handedOf w k) _ _ (o .fresh)
 
+  -- what the rule's answer makes of the piece
+  abbrev answered : ℕ → Kept → Accepted
+  answered k a =
+      accepted t w (tableRoom t slot k) slot k (takeBy a store (tableRoom t slot k) (cellAt t (cellIn t slot k)) (field % 65536) p)
+
   in-cases : (P : Accepted → Type 0) (k : ℕ)
-      → ((a : Kept) → answerOf t slot k (field % 65536) p ≡ a → changes a ≡ false → P (leftAs t w store (cellIn t slot k) k a))
-      → (answerOf t slot k (field % 65536) p ≡ Yes → P (putAs t w store slot k (field % 65536) p))
+      → ((a : Kept) → answerOf t w store slot k (field % 65536) p ≡ a → changes a ≡ false → bars a ≡ false → P (leftAs t w store (cellIn t slot k) k a))
+      → (answerOf t w store slot k (field % 65536) p ≡ Overlong → P (barredAs t w store slot k))
+      → (answerOf t w store slot k (field % 65536) p ≡ Yes → P (putAs t w store slot k (field % 65536) p))
       → P (acceptIn t w store slot k (field % 65536) p (tableRoom t slot k))
-  in-cases P k left put =
+  in-cases P k left bar put =
       ⊎-elim
       (λ y.
-      let q = changes-yes (answerOf t slot k (field % 65536) p) y in
+      let q = changes-yes answer y in
       subst P
-      (sym
-      (ap (λ (b : Kept). accepted t w (cellIn t slot k) slot k (takeBy b store (tableRoom t slot k) (cellAt t (cellIn t slot k)) (field % 65536) p)) q
-      ∙ put-by t w store slot k (field % 65536) p (tableRoom t slot k) (cellAt t (cellIn t slot k))))
+      (sym (ap (answered k) q ∙ put-by t w store slot k (field % 65536) p (tableRoom t slot k) (cellAt t (cellIn t slot k))))
       (put q))
       (λ n.
+      ⊎-elim
+      (λ y. let q = bars-over answer y in subst P (sym (ap (answered k) q)) (bar q))
+      (λ z.
       subst P
-      (sym (left-by t w store slot k (field % 65536) p (tableRoom t slot k) (cellAt t (cellIn t slot k)) (answerOf t slot k (field % 65536) p) n))
-      (left (answerOf t slot k (field % 65536) p) refl n))
-      (cases (changes (answerOf t slot k (field % 65536) p)))
+      (sym (left-by t w store slot k (field % 65536) p (tableRoom t slot k) (cellAt t (cellIn t slot k)) answer n z))
+      (left answer refl n z))
+      (cases (bars answer)))
+      (cases (changes answer))
+    where
+      answer : Kept
+      answer = answerOf t w store slot k (field % 65536) p
 
-  -- what holds in each case holds of the piece: number none; handed over; not kept or needless; kept
+  -- what holds in each case holds of the piece: number none; handed over; not kept or needless; claiming too much; kept
   pub accept-cases : (P : Accepted → Type 0)
       → (widened (field / 65536 % 256) (w .next) ≡ Before → P (passed t w store 0))
       → ((k : ℕ) → widened (field / 65536 % 256) (w .next) ≡ Is k → handedOf w k ≡ true → P (passed t w store k))
-      → ((k : ℕ) → Open k → (a : Kept) → answerOf t slot k (field % 65536) p ≡ a → changes a ≡ false → P (leftAs t w store (cellIn t slot k) k a))
-      → ((k : ℕ) → Open k → answerOf t slot k (field % 65536) p ≡ Yes → P (putAs t w store slot k (field % 65536) p))
+      → ((k : ℕ) → Open k → (a : Kept) → answerOf t w store slot k (field % 65536) p ≡ a → changes a ≡ false → bars a ≡ false
+          → P (leftAs t w store (cellIn t slot k) k a))
+      → ((k : ℕ) → Open k → answerOf t w store slot k (field % 65536) p ≡ Overlong → P (barredAs t w store slot k))
+      → ((k : ℕ) → Open k → answerOf t w store slot k (field % 65536) p ≡ Yes → P (putAs t w store slot k (field % 65536) p))
       → P (accept t w store slot field p)
   unfolding accept
-  accept-cases P none old left put = go (widened (field / 65536 % 256) (w .next)) refl
+  accept-cases P none old left bar put = go (widened (field / 65536 % 256) (w .next)) refl
     where
       go : (n : Number) → widened (field / 65536 % 256) (w .next) ≡ n → P (acceptBy n t w store slot (field % 65536) p)
       go Before e = none e
@@ -131,7 +163,7 @@ module _ (t : Table) (w : Window) (store : List ℕ) (slot field : ℕ) (p : Lis
               → P (cond b (passed t w store k) (acceptIn t w store slot k (field % 65536) p (tableRoom t slot k)))
           by true h = old k e h
           by false h =
-              in-cases P k (λ a q c. left k (record { is = e; fresh = h }) a q c) (λ q. put k (record { is = e; fresh = h }) q)
+              let o : Open k = record { is = e; fresh = h } in in-cases P k (λ a q c z. left k o a q c z) (λ q. bar k o q) (λ q. put k o q)
 
 -- ---- the number, and the window
 
@@ -174,9 +206,15 @@ same-cell t s d = record { busy = refl; landed = refl; owner = refl; cell = refl
 
 module _ (t : Table) (w : Window) (store : List ℕ) (slot field : ℕ) (p : List ℕ) (tidy : Tidy t store) (short : length p ≤ 255) where
   -- a kept piece ends at 2,048 or before, and its number is below 4,294,967,040
-  module _ (k : ℕ) (yes : answerOf t slot k (field % 65536) p ≡ Yes) where
-    abbrev kept-is : KeptIs false k (field % 65536) (length p) (hasRoom (tableRoom t slot k)) (cellFor (tableRoom t slot k) (cellAt t (cellIn t slot k)))
-    kept-is = yes-is false k (field % 65536) (length p) (hasRoom (tableRoom t slot k)) (cellFor (tableRoom t slot k) (cellAt t (cellIn t slot k))) yes
+  module _ (k : ℕ) (yes : answerOf t w store slot k (field % 65536) p ≡ Yes) where
+    abbrev kept-is : KeptIs k (field % 65536) (length p) (isOver (barredOf w k) store (tableRoom t slot k) (cellAt t (cellIn t slot k)) (field % 65536) p) (hasRoom (tableRoom t slot k)) (cellFor (tableRoom t slot k) (cellAt t (cellIn t slot k)))
+    kept-is =
+        yes-is k (field % 65536) (length p) (isOver (barredOf w k) store (tableRoom t slot k) (cellAt t (cellIn t slot k)) (field % 65536) p)
+        (hasRoom (tableRoom t slot k)) (cellFor (tableRoom t slot k) (cellAt t (cellIn t slot k))) yes
+
+    -- its number is not barred, and it shows no length above 2,046
+    pub kept-modest : (barredOf w k ≡ false) × (showsOf (heldFor (tableRoom t slot k) (cellAt t (cellIn t slot k)) store) (field % 65536) p ≡ false)
+    kept-modest = or-false (barredOf w k) (showsOf (heldFor (tableRoom t slot k) (cellAt t (cellIn t slot k)) store) (field % 65536) p) (kept-is .modest)
 
     in-store : 6400 * cellIn t slot k + 6400 ≤ length store
     in-store = place-in t store tidy slot k .1
@@ -215,13 +253,13 @@ module _ (t : Table) (w : Window) (store : List ℕ) (slot field : ℕ) (p : Lis
   pub accept-length : length (accept t w store slot field p .store) ≡ length store
   accept-length =
       accept-cases t w store slot field p (λ x. length (x .store) ≡ length store)
-      (λ e. refl) (λ k e h. refl) (λ k o a q c. refl) (λ k o q. put-length k q)
+      (λ e. refl) (λ k e h. refl) (λ k o a q c z. refl) (λ k o q. refl) (λ k o q. put-length k q)
 
   -- the table stays what it is known to be
   pub accept-tidy : Tidy (accept t w store slot field p .table) (accept t w store slot field p .store)
   accept-tidy =
       accept-cases t w store slot field p (λ x. Tidy (x .table) (x .store))
-      (λ e. tidy) (λ k e h. tidy) (λ k o a q c. tidy) (λ k o q. put-tidy k q)
+      (λ e. tidy) (λ k e h. tidy) (λ k o a q c z. tidy) (λ k o q. barred-tidy t store tidy (tableRoom t slot k)) (λ k o q. put-tidy k q)
 
   -- every cell but the piece's own stays as it was, its bytes too
   pub accept-other : (d : ℕ) → (d ≡ accept t w store slot field p .cell → ⊥) → 6400 * d + 6400 ≤ length store
@@ -231,28 +269,56 @@ module _ (t : Table) (w : Window) (store : List ℕ) (slot field : ℕ) (p : Lis
       (λ x. (d ≡ x .cell → ⊥) → 6400 * d + 6400 ≤ length store → SameCell t (x .table) store (x .store) d)
       (λ e n l. same-cell t store d)
       (λ k e h n l. same-cell t store d)
-      (λ k o a q c n l. same-cell t store d)
+      (λ k o a q c z n l. same-cell t store d)
+      (λ k o q n l. bar-other (tableRoom t slot k) n)
       (λ k o q n l. put-other k q d n l)
+    where
+      bar-other : (room : Room) → (d ≡ placeOf room → ⊥) → SameCell t (barredTable t room) store store d
+      bar-other (Own c) n = let r = freed-other t store tidy c d n in record { busy = r .0; landed = r .1; owner = refl; cell = refl; bytes = refl }
+      bar-other (Free c) n = same-cell t store d
+      bar-other Full n = same-cell t store d
 
-  -- the window stays what it is known to be, and the landed number is the only one handed over with the piece
+  -- the window stays what it is known to be; the landed number is the only one handed over with the piece, and no number is barred but the piece's
   module _ (sound : Sound w) where
-    landed-window : (k : ℕ) → Open t w store slot field p k → answerOf t slot k (field % 65536) p ≡ Yes → (b : Bool)
-        → Sound (cond b (landOf w k) w) × ((j : ℕ) → handedOf (cond b (landOf w k) w) j ≡ handedOf w j || (b && eqb j k))
+    -- what a piece is to do to the window
+    abbrev Moves : Window → Bool → Bool → ℕ → Type 0
+    Moves v lands barring k =
+        Sound v
+        × ((j : ℕ) → handedOf v j ≡ handedOf w j || (lands && eqb j k))
+        × ((j : ℕ) → barredOf v j ≡ barredOf w j || (barring && eqb j k))
+
+    stays : (k : ℕ) → Moves w false false k
+    stays k = (sound, λ j. sym (or-no (handedOf w j)), λ j. sym (or-no (barredOf w j)))
+
+    landed-window : (k : ℕ) → Open t w store slot field p k → answerOf t w store slot k (field % 65536) p ≡ Yes → (b : Bool)
+        → Moves (cond b (landOf w k) w) b false k
     landed-window k o q true =
         let l = open-window w (field / 65536 % 256) k sound (o .is) (o .fresh) in
-        let n = sound-next w sound in (
-          sound-land w k sound (kept-is k q .low) (l .0) (omega arith),
+        let n = sound-next w sound in
+        let f = kept-modest k q .0 in (
+          sound-land w sound k f (kept-is k q .low) (l .0) (omega arith),
           land-at w k (sound .low) (sound .high) (omega arith) (l .0) (omega arith),
+          λ j. land-bars w sound k f (l .0) j ∙ sym (or-no (barredOf w j)),
         )
-    landed-window k o q false = (sound, λ j. sym (or-false (handedOf w j)))
+    landed-window k o q false = stays k
+
+    barred-window : (k : ℕ) → Open t w store slot field p k → Moves (barOf w k) false true k
+    barred-window k o =
+        let l = open-window w (field / 65536 % 256) k sound (o .is) (o .fresh) in (
+          sound-bar w k (l .0) (l .1) sound (o .fresh),
+          λ j. bar-handed w k j ∙ sym (or-no (handedOf w j)),
+          bar-bars w k (l .0) (l .1),
+        )
 
     pub accept-window : Sound (accept t w store slot field p .window)
         × ((j : ℕ) → handedOf (accept t w store slot field p .window) j
         ≡ handedOf w j || (hasLanded (accept t w store slot field p .landed) && eqb j (accept t w store slot field p .number)))
+        × ((j : ℕ) → barredOf (accept t w store slot field p .window) j
+        ≡ barredOf w j || (accept t w store slot field p .bars && eqb j (accept t w store slot field p .number)))
     accept-window =
-        accept-cases t w store slot field p
-        (λ x. Sound (x .window) × ((j : ℕ) → handedOf (x .window) j ≡ handedOf w j || (hasLanded (x .landed) && eqb j (x .number))))
-        (λ e. (sound, λ j. sym (or-false (handedOf w j))))
-        (λ k e h. (sound, λ j. sym (or-false (handedOf w j))))
-        (λ k o a q c. (sound, λ j. sym (or-false (handedOf w j))))
+        accept-cases t w store slot field p (λ x. Moves (x .window) (hasLanded (x .landed)) (x .bars) (x .number))
+        (λ e. stays 0)
+        (λ k e h. stays k)
+        (λ k o a q c z. stays k)
+        (λ k o q. barred-window k o)
         (λ k o q. landed-window k o q (hasLanded (landedOf (heldAfter t store slot k (field % 65536) p))))

@@ -15,7 +15,7 @@ use Rattle.inbox.proofs.Steps.{empty-fits}
 use Rattle.stream.specs.declared.table.Room.{Room}
 use Rattle.stream.specs.declared.table.Room.the-variants.{Own, Free, Full}
 use Rattle.stream.specs.declared.table.Taken.{Taken}
-use Rattle.stream.specs.Table.{Table, noCell, cellAt, ownerOf, cellCount, placeOf, hasRoom, hasLanded, keptTable, freedTable, startTable, tableRoom}
+use Rattle.stream.specs.Table.{Table, noCell, cellAt, ownerOf, cellCount, placeOf, hasRoom, hasLanded, keptTable, freedTable, barredTable, startTable, tableRoom}
 use Rattle.stream.proofs.Rooms.{Filling, filling-own, RoomIs, room-is, cells-are}
 
 -- cell c is filling with the message `owner`
@@ -89,9 +89,9 @@ module _ (t : Table) (c owner : ℕ) (x : Taken) where
   landed-other : (j : ℕ) → (c ≡ j → ⊥) → hasBit (keptTable t c owner x .landed) j ≡ hasBit (t .landed) j
   landed-other j n = go (hasLanded (x .landed))
     where
-      go : (b : Bool) → hasBit (cond b (withBit (t .landed) c) (t .landed)) j ≡ hasBit (t .landed) j
+      go : (b : Bool) → hasBit (cond b (withBit (t .landed) c) (withoutBit (t .landed) c)) j ≡ hasBit (t .landed) j
       go true = with-other (t .landed) c j n
-      go false = refl
+      go false = without-other (t .landed) c j n
 
   -- another cell stays as it was
   pub kept-other : (j : ℕ) → (j ≡ c → ⊥)
@@ -154,9 +154,9 @@ module _ (t : Table) (c owner : ℕ) (x : Taken) where
           one = one-more;
         }
       where
-        landed-fits : (b : Bool) → cond b (withBit (t .landed) c) (t .landed) < 2 ^ 64
+        landed-fits : (b : Bool) → cond b (withBit (t .landed) c) (withoutBit (t .landed) c) < 2 ^ 64
         landed-fits true = with-fits (t .landed) c (tidy .landed)
-        landed-fits false = tidy .landed
+        landed-fits false = without-fits (t .landed) c (tidy .landed)
 
         at-c : (j : ℕ) → j ≡ c → hasBit (withBit (t .busy) c) j ≡ true
         at-c j q = let m = tidy .most in ap (hasBit (withBit (t .busy) c)) q ∙ with-same (t .busy) c (omega arith)
@@ -180,6 +180,11 @@ module _ (t : Table) (store : List ℕ) (tidy : Tidy t store) (c : ℕ) where
       let r = kept-bit (t .busy) j (f .taken) in
       record { taken = r .1; open-yet = sym (without-other (t .landed) c j (λ q. r .0 (sym q))) ∙ f .open-yet; holds = f .holds }
 
+  -- another cell stays as it was
+  pub freed-other : (j : ℕ) → (j ≡ c → ⊥)
+      → (hasBit (freedTable t c .busy) j ≡ hasBit (t .busy) j) × (hasBit (freedTable t c .landed) j ≡ hasBit (t .landed) j)
+  freed-other j n = (without-other (t .busy) c j (λ q. n (sym q)), without-other (t .landed) c j (λ q. n (sym q)))
+
   pub freed-tidy : Tidy (freedTable t c) store
   freed-tidy =
       record {
@@ -197,3 +202,11 @@ module _ (t : Table) (store : List ℕ) (tidy : Tidy t store) (c : ℕ) where
         fits = tidy .fits;
         one = λ j d o f g. tidy .one j d o (freed-filling j o f) (freed-filling d o g);
       }
+
+-- ---- a message barred: its own cell, if it has one, is given back
+
+module _ (t : Table) (store : List ℕ) (tidy : Tidy t store) where
+  pub barred-tidy : (room : Room) → Tidy (barredTable t room) store
+  barred-tidy (Own c) = freed-tidy t store tidy c
+  barred-tidy (Free c) = tidy
+  barred-tidy Full = tidy

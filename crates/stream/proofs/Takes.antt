@@ -8,7 +8,7 @@ use lib.ListN.{length, drop, length-drop}
 use lib.Seq.{length-take-le}
 use Rattle.inbox.specs.declared.cell.Cell.{Cell}
 use Rattle.inbox.specs.declared.keep.Kept.{Kept}
-use Rattle.inbox.specs.declared.keep.Kept.the-variants.{Needless, Yes, Late, Long, NoCell, NoPlace}
+use Rattle.inbox.specs.declared.keep.Kept.the-variants.{Needless, Yes, Late, Overlong, Long, NoCell, NoPlace}
 use Rattle.inbox.specs.declared.store.Landed.{Landed}
 use Rattle.inbox.specs.Cells.{held}
 use Rattle.inbox.specs.Stores.{cellOf, inCell, landedOf}
@@ -18,13 +18,14 @@ use Rattle.inbox.proofs.Rule.{yes-is}
 use Rattle.bits.proofs.Lists.{cond-true, cond-false}
 use Rattle.stream.specs.declared.table.Room.{Room}
 use Rattle.stream.specs.declared.table.Taken.{Taken}
-use Rattle.stream.specs.Table.{Took, took, joinedOf, putOf, leftOf, changes, placeOf, hasRoom, cellFor, keptFor, takeOf}
+use Rattle.stream.specs.Table.{Took, took, joinedOf, putOf, leftOf, changes, bars, placeOf, hasRoom, cellFor, isOver, keptFor, takeOf}
 
 -- only the answer Yes changes a cell
 pub changes-yes : (k : Kept) → changes k ≡ true → k ≡ Yes
 changes-yes Yes e = refl
 changes-yes Needless e = absurd (let z : _≡_ {A = ℕ} 0 1 = cc in omega arith)
 changes-yes Late e = absurd (let z : _≡_ {A = ℕ} 0 1 = cc in omega arith)
+changes-yes Overlong e = absurd (let z : _≡_ {A = ℕ} 0 1 = cc in omega arith)
 changes-yes Long e = absurd (let z : _≡_ {A = ℕ} 0 1 = cc in omega arith)
 changes-yes NoCell e = absurd (let z : _≡_ {A = ℕ} 0 1 = cc in omega arith)
 changes-yes NoPlace e = absurd (let z : _≡_ {A = ℕ} 0 1 = cc in omega arith)
@@ -54,25 +55,38 @@ module _ (s : List ℕ) (c : ℕ) (cell : Cell) (o : ℕ) (p : List ℕ) (fits :
           → took (record { cell = r; kept = Yes; landed = x }) t ≡ took (record { cell = r₁; kept = Yes; landed = x₁ }) t₁
       same-took r r₁ x x₁ t t₁ a b d = rw (a, b, d)
 
--- the calls of `take`: the place, the cell asked, the flag for a cell, the rule's answer, and whether it changes the cell
-module _ (s : List ℕ) (room : Room) (cell : Cell) (number o : ℕ) (p : List ℕ)
-    (c : ℕ) (old : Cell) (some : Bool) (k : Kept) (yes : Bool)
-    (at : c ≡ placeOf room) (of : old ≡ cellFor room cell) (has : some ≡ hasRoom room)
-    (by : k ≡ keptOf false number o (length p) some old) (test : yes ≡ changes k) where
-  rule : k ≡ keptFor room cell number o (length p)
-  rule = by ∙ ap₂ (keptOf false number o (length p)) has of
+-- only the answer Overlong bars a number
+pub bars-over : (k : Kept) → bars k ≡ true → k ≡ Overlong
+bars-over Overlong e = refl
+bars-over Yes e = absurd (let z : _≡_ {A = ℕ} 0 1 = cc in omega arith)
+bars-over Needless e = absurd (let z : _≡_ {A = ℕ} 0 1 = cc in omega arith)
+bars-over Late e = absurd (let z : _≡_ {A = ℕ} 0 1 = cc in omega arith)
+bars-over Long e = absurd (let z : _≡_ {A = ℕ} 0 1 = cc in omega arith)
+bars-over NoCell e = absurd (let z : _≡_ {A = ℕ} 0 1 = cc in omega arith)
+bars-over NoPlace e = absurd (let z : _≡_ {A = ℕ} 0 1 = cc in omega arith)
+
+-- the calls of `take`: the place, the cell asked, the flag for a cell, whether too much is claimed, the rule's answer, and whether it changes the cell
+module _ (barred : Bool) (s : List ℕ) (room : Room) (cell : Cell) (number o : ℕ) (p : List ℕ)
+    (c : ℕ) (old : Cell) (some over : Bool) (k : Kept) (yes : Bool)
+    (at : c ≡ placeOf room) (of : old ≡ cellFor room cell) (has : some ≡ hasRoom room) (claim : over ≡ isOver barred s room cell o p)
+    (by : k ≡ keptOf number o (length p) over some old) (test : yes ≡ changes k) where
+  rule : k ≡ keptFor barred s room cell number o p
+  rule =
+      by
+      ∙ ap (λ (b : Bool). keptOf number o (length p) b some old) claim
+      ∙ ap₂ (keptOf number o (length p) (isOver barred s room cell o p)) has of
 
   pub take-fits : yes ≡ true → o + length p ≤ 2048
-  take-fits e = yes-is false number o (length p) some old (sym by ∙ changes-yes k (sym test ∙ e)) .fits
+  take-fits e = yes-is number o (length p) over some old (sym by ∙ changes-yes k (sym test ∙ e)) .fits
 
-  pub take-yes : yes ≡ true → (x : Took) → x ≡ putOf s c old o p → x ≡ takeOf s room cell number o p
+  pub take-yes : yes ≡ true → (x : Took) → x ≡ putOf s c old o p → x ≡ takeOf barred s room cell number o p
   take-yes e x q =
       q
       ∙ ap₂ (λ (i : ℕ) (y : Cell). putOf s i y o p) at of
-      ∙ sym (cond-true (changes (keptFor room cell number o (length p))) _ _ (ap changes (sym rule) ∙ sym test ∙ e))
+      ∙ sym (cond-true (changes (keptFor barred s room cell number o p)) _ _ (ap changes (sym rule) ∙ sym test ∙ e))
 
-  pub take-no : yes ≡ false → (x : Taken) → x ≡ leftOf cell k → took x s ≡ takeOf s room cell number o p
+  pub take-no : yes ≡ false → (x : Taken) → x ≡ leftOf cell k → took x s ≡ takeOf barred s room cell number o p
   take-no e x q =
       ap (λ (y : Taken). took y s) q
       ∙ ap (λ (y : Kept). took (leftOf cell y) s) rule
-      ∙ sym (cond-false (changes (keptFor room cell number o (length p))) _ _ (ap changes (sym rule) ∙ sym test ∙ e))
+      ∙ sym (cond-false (changes (keptFor barred s room cell number o p)) _ _ (ap changes (sym rule) ∙ sym test ∙ e))

@@ -1,7 +1,7 @@
 -- `MsgIn::accept` of stream.rs, with the cells of document 01 ('Message cell') for its map of messages: the table of the station's cells,
--- and what a boat's piece does to it, to the lent store and to the boat's window.
+-- and what a boat's piece does to it, to the lent store and to the boat's window. Messages that claim too much are document 02's, U4.
 use Prim.Native.Nat.{ℕ, _+_, _*_, _/_, _%_, _^_}
-use mathlib.Core.Bool.{Bool, true, false, not, cond, _&&_}
+use mathlib.Core.Bool.{Bool, true, false, not, cond, _&&_, _||_}
 use mathlib.Core.List.{List, []}
 use lib.ListN.{length, getD, set, replicate}
 use lib.Dec.{eqb, ltb}
@@ -14,19 +14,19 @@ use Rattle.wire.specs.declared.number.Number.the-variants.{Is, Before}
 use Rattle.wire.specs.Numbers.{widened}
 use Rattle.inbox.specs.declared.cell.Cell.{Cell}
 use Rattle.inbox.specs.declared.keep.Kept.{Kept}
-use Rattle.inbox.specs.declared.keep.Kept.the-variants.{Needless, Yes, Late, Long, NoCell, NoPlace}
+use Rattle.inbox.specs.declared.keep.Kept.the-variants.{Needless, Yes, Late, Overlong, Long, NoCell, NoPlace}
 use Rattle.inbox.specs.declared.store.Landed.{Landed}
 use Rattle.inbox.specs.declared.store.Landed.the-variants.{Bytes, NotYet}
 use Rattle.inbox.specs.Cells.{Held, held}
 use Rattle.inbox.specs.Cells as cells
-use Rattle.inbox.specs.Keeping.{keptOf}
-use Rattle.inbox.specs.Messages.{emptyCell}
+use Rattle.inbox.specs.Keeping.{keptOf, testOf}
+use Rattle.inbox.specs.Messages.{emptyCell, empty, showsOf}
 use Rattle.inbox.specs.Stores.{cellOf, inCell, landedOf}
 use Rattle.stream.specs.declared.window.Window.{Window}
 use Rattle.stream.specs.declared.table.Room.{Room}
 use Rattle.stream.specs.declared.table.Room.the-variants.{Own, Free, Full}
 use Rattle.stream.specs.declared.table.Taken.{Taken}
-use Rattle.stream.specs.Window.{handedOf, landOf}
+use Rattle.stream.specs.Window.{handedOf, landOf, barredOf, barOf}
 
 -- ---- the cell that a piece goes into
 
@@ -65,11 +65,22 @@ hasRoom (Own c) = true
 hasRoom (Free c) = true
 hasRoom Full = false
 
+abbrev pub hasOwn : Room → Bool
+hasOwn (Own c) = true
+hasOwn (Free c) = false
+hasOwn Full = false
+
 -- the cell that a piece is asked of: its message's own, or an empty one
 abbrev pub cellFor : Room → Cell → Cell
 cellFor (Own c) cell = cell
 cellFor (Free c) cell = emptyCell
 cellFor Full cell = emptyCell
+
+-- the same with its bytes
+abbrev pub heldFor : Room → Cell → List ℕ → Held
+heldFor (Own c) cell store = held cell (cellOf store c)
+heldFor (Free c) cell store = empty []
+heldFor Full cell store = empty []
 
 -- ---- what becomes of a piece
 
@@ -95,26 +106,37 @@ putOf store c cell offset piece = putIn store c (joinedOf store c cell offset pi
 abbrev pub leftOf : Cell → Kept → Taken
 leftOf cell kept = record { cell = cell; kept = kept; landed = NotYet }
 
+-- its message claims too much: the number is barred, or the piece would show a length above 2,046
+abbrev pub isOver : Bool → List ℕ → Room → Cell → ℕ → List ℕ → Bool
+isOver barred store room cell offset piece = barred || showsOf (heldFor room cell store) offset piece
+
 -- the kept rule of a message that is not handed over
-abbrev pub keptFor : Room → Cell → ℕ → ℕ → ℕ → Kept
-keptFor room cell number offset n = keptOf false number offset n (hasRoom room) (cellFor room cell)
+abbrev pub keptFor : Bool → List ℕ → Room → Cell → ℕ → ℕ → List ℕ → Kept
+keptFor barred store room cell number offset piece =
+    keptOf number offset (length piece) (isOver barred store room cell offset piece) (hasRoom room) (cellFor room cell)
 
 abbrev pub changes : Kept → Bool
 changes Yes = true
 changes Needless = false
 changes Late = false
+changes Overlong = false
 changes Long = false
 changes NoCell = false
 changes NoPlace = false
 
--- not kept: the reception's mask marks the piece
+-- the number is barred from now on, and the message's cell is free
+abbrev pub bars : Kept → Bool
+bars Yes = false
+bars Needless = false
+bars Late = false
+bars Overlong = true
+bars Long = false
+bars NoCell = false
+bars NoPlace = false
+
+-- one of the tests refused it: the reception's mask marks the piece
 abbrev pub isLost : Kept → Bool
-isLost Yes = false
-isLost Needless = false
-isLost Late = true
-isLost Long = true
-isLost NoCell = true
-isLost NoPlace = true
+isLost kept = ltb 0 (testOf kept)
 
 abbrev pub hasLanded : Landed → Bool
 hasLanded (Bytes n) = true
@@ -125,9 +147,9 @@ abbrev pub takeBy : Kept → List ℕ → Room → Cell → ℕ → List ℕ →
 takeBy kept store room cell offset piece =
     cond (changes kept) (putOf store (placeOf room) (cellFor room cell) offset piece) (took (leftOf cell kept) store)
 
-abbrev pub takeOf : List ℕ → Room → Cell → ℕ → ℕ → List ℕ → Took
-takeOf store room cell number offset piece =
-    takeBy (keptFor room cell number offset (length piece)) store room cell offset piece
+abbrev pub takeOf : Bool → List ℕ → Room → Cell → ℕ → ℕ → List ℕ → Took
+takeOf barred store room cell number offset piece =
+    takeBy (keptFor barred store room cell number offset piece) store room cell offset piece
 
 -- ---- the table
 
@@ -168,22 +190,31 @@ keptTable t c owner x =
     record {
       count = t .count;
       busy = withBit (t .busy) c;
-      landed = cond (hasLanded (x .landed)) (withBit (t .landed) c) (t .landed);
+      landed = cond (hasLanded (x .landed)) (withBit (t .landed) c) (withoutBit (t .landed) c);
       owners = set (t .owners) c owner;
       cells = set (t .cells) c (x .cell);
     }
 
-abbrev pub tookTable : Table → ℕ → ℕ → Taken → Table
-tookTable t c owner x = cond (changes (x .kept)) (keptTable t c owner x) t
+-- a barred message's own cell is free; one that has none leaves the table as it is
+abbrev pub barredTable : Table → Room → Table
+barredTable t room = cond (hasOwn room) (freedTable t (placeOf room)) t
+
+abbrev pub tookTable : Table → Room → ℕ → Taken → Table
+tookTable t room owner x =
+    cond (changes (x .kept)) (keptTable t (placeOf room) owner x) (cond (bars (x .kept)) (barredTable t room) t)
+
+abbrev pub tookWindow : Window → ℕ → Taken → Window
+tookWindow w k x = cond (hasLanded (x .landed)) (landOf w k) (cond (bars (x .kept)) (barOf w k) w)
 
 -- ---- a piece of a boat
 
--- `lost`: the piece is not kept; `landed`: its message landed with it, number `number`, in the cell `cell`
+-- `lost`: the piece is not kept; `bars`: its number is barred with it; `landed`: its message landed with it, number `number`, in the cell `cell`
 pub record Accepted : Type 0 where
   pub table : Table
   pub window : Window
   pub store : List ℕ
   pub lost : Bool
+  pub bars : Bool
   pub landed : Landed
   pub cell : ℕ
   pub number : ℕ
@@ -191,24 +222,25 @@ pub record Accepted : Type 0 where
 -- a piece that needs no place: its number is none, or its message is handed over
 abbrev pub passed : Table → Window → List ℕ → ℕ → Accepted
 passed t w store k =
-    record { table = t; window = w; store = store; lost = false; landed = NotYet; cell = 0; number = k }
+    record { table = t; window = w; store = store; lost = false; bars = false; landed = NotYet; cell = 0; number = k }
 
 -- what became of a piece, put into the table and the boat's window
-abbrev pub accepted : Table → Window → ℕ → ℕ → ℕ → Took → Accepted
-accepted t w c slot k x =
+abbrev pub accepted : Table → Window → Room → ℕ → ℕ → Took → Accepted
+accepted t w room slot k x =
     record {
-      table = tookTable t c (ownerOf slot k) (x .taken);
-      window = cond (hasLanded (x .taken .landed)) (landOf w k) w;
+      table = tookTable t room (ownerOf slot k) (x .taken);
+      window = tookWindow w k (x .taken);
       store = x .store;
       lost = isLost (x .taken .kept);
+      bars = bars (x .taken .kept);
       landed = x .taken .landed;
-      cell = c;
+      cell = placeOf room;
       number = k;
     }
 
 abbrev pub acceptIn : Table → Window → List ℕ → ℕ → ℕ → ℕ → List ℕ → Room → Accepted
 acceptIn t w store slot k offset piece room =
-    accepted t w (placeOf room) slot k (takeOf store room (cellAt t (placeOf room)) k offset piece)
+    accepted t w room slot k (takeOf (barredOf w k) store room (cellAt t (placeOf room)) k offset piece)
 
 abbrev pub tableRoom : Table → ℕ → ℕ → Room
 tableRoom t slot k = roomFor (t .owners) (t .busy) (t .landed) (t .count) (ownerOf slot k)

@@ -4,7 +4,7 @@ ghost use mathlib.Core.Path.{_≡_};
 ghost use Prim.Native.Nat.{_+_, _*_, _≤_, _<_};
 ghost use lib.ListN.{length};
 ghost use Rattle.inbox.specs.Sizes.{cellSize, messageRoom};
-ghost use Rattle.stream.specs.Table.{ownerOf, isOwn, cellCount, ownCell, roomOf, roomFor, placeOf, hasRoom, cellFor, changes, isLost, hasLanded, took, putOf, leftOf, takeOf};
+ghost use Rattle.stream.specs.Table.{ownerOf, isOwn, cellCount, ownCell, roomOf, roomFor, placeOf, hasRoom, hasOwn, cellFor, isOver, changes, bars, isLost, hasLanded, took, putOf, leftOf, takeOf};
 use bits::Found;
 use inbox::cell::Cell;
 use inbox::keep;
@@ -53,24 +53,37 @@ pub fn place_of(room: Room) -> usize
     }
 }
 
-// A piece taken into the cell that the room names, where the kept rule keeps it.
+// Whether the message has a cell.
+pub fn has_own(room: Room) -> bool
+    ensures { λ r. ⌜ r ≡ hasOwn room ⌝ }
+{
+    match room {
+        Room::Own(_) => true,
+        Room::Free(_) => false,
+        Room::Full => false,
+    }
+}
+
+// A piece taken into the cell that the room names, where the kept rule keeps it. barred: its message's number is.
 pub fn take(
     store: &mut [u8],
     room: Room,
     cell: Cell,
+    barred: bool,
     number: u32,
     offset: u16,
     piece: &[u8],
 ) -> Taken
     requires { ⌜ (placeOf room < 64) × (cellSize * placeOf room + cellSize ≤ length (now store)) ⌝ }
     requires { ⌜ length (now piece) ≤ 255 ⌝ }
-    ensures { λ r. ⌜ took r (now (store .exit)) ≡ takeOf (now (store .entry)) room cell number offset (now (piece .entry)) ⌝ }
+    ensures { λ r. ⌜ took r (now (store .exit)) ≡ takeOf barred (now (store .entry)) room cell number offset (now (piece .entry)) ⌝ }
 {
     let c = place_of(room);
     let old = cell_for(room, cell);
     let some = has_room(room);
     let n = piece.len() as u8;
-    let kept = keep::keeping(false, number, offset, n, some, old);
+    let over = is_over(store, room, cell, barred, offset, piece);
+    let kept = keep::keeping(number, offset, n, over, some, old);
     if changed(kept) {
         return put(store, c, old, offset, piece);
     }
@@ -85,6 +98,22 @@ pub fn changed(kept: Kept) -> bool
         Kept::Yes => true,
         Kept::Needless => false,
         Kept::Late => false,
+        Kept::Overlong => false,
+        Kept::Long => false,
+        Kept::NoCell => false,
+        Kept::NoPlace => false,
+    }
+}
+
+// Whether the number is barred with a piece, and the message's cell freed.
+pub fn barring(kept: Kept) -> bool
+    ensures { λ r. ⌜ r ≡ bars kept ⌝ }
+{
+    match kept {
+        Kept::Yes => false,
+        Kept::Needless => false,
+        Kept::Late => false,
+        Kept::Overlong => true,
         Kept::Long => false,
         Kept::NoCell => false,
         Kept::NoPlace => false,
@@ -99,6 +128,7 @@ pub fn lost(kept: Kept) -> bool
         Kept::Yes => false,
         Kept::Needless => false,
         Kept::Late => true,
+        Kept::Overlong => true,
         Kept::Long => true,
         Kept::NoCell => true,
         Kept::NoPlace => true,
@@ -174,6 +204,22 @@ fn cell_for(room: Room, cell: Cell) -> Cell
         Room::Own(_) => cell,
         Room::Free(_) => inbox::store::empty_cell(),
         Room::Full => inbox::store::empty_cell(),
+    }
+}
+
+// Whether a piece's message claims too much: its number is barred, or the piece would show a length above 2,046.
+fn is_over(store: &[u8], room: Room, cell: Cell, barred: bool, offset: u16, piece: &[u8]) -> bool
+    requires { ⌜ (placeOf room < 64) × (cellSize * placeOf room + cellSize ≤ length (now store)) ⌝ }
+    requires { ⌜ length (now piece) ≤ 255 ⌝ }
+    ensures { λ r. ⌜ r ≡ isOver barred (now (store .entry)) room cell offset (now (piece .entry)) ⌝ }
+{
+    if barred {
+        return true;
+    }
+    match room {
+        Room::Own(c) => inbox::store::shows_in(store, c, cell, offset, piece),
+        Room::Free(_) => inbox::cell::shows_first(offset, piece),
+        Room::Full => inbox::cell::shows_first(offset, piece),
     }
 }
 

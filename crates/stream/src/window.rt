@@ -1,15 +1,18 @@
 // What is whole of a boat's messages: every number below next, and the marked ones of the 128 after it.
-// Bit d of low is the number next + 1 + d, bit d of high the number next + 65 + d. No value of a Window is wrong.
+// Bit d of low is the number next + 1 + d, bit d of high the number next + 65 + d. The barred numbers (request U4) in the same way, from
+// next on: bit d of barlow is the number next + d, bit d of barhigh the number next + 64 + d. No value of a Window is wrong.
 ghost use mathlib.Core.Path.{_≡_};
 ghost use mathlib.Core.Bool.{true, false};
-ghost use Prim.Native.Nat.{_+_, _-_};
+ghost use Prim.Native.Nat.{_+_, _-_, _*_, _^_};
 ghost use Rattle.bits.specs.Mask.{hasBit};
-ghost use Rattle.stream.specs.Window.{freshOf, marksOf, bitmapOf, holesOf, handedOf, slidOf, slideOf, markOf, landOf};
+ghost use Rattle.stream.specs.Window.{freshOf, marksOf, bitmapOf, holesOf, handedOf, barsOf, barredOf, barOf, slidOf, slideOf, markOf, landOf};
 
 pub struct Window {
     pub next: u32,
     pub low: u64,
     pub high: u64,
+    pub barlow: u64,
+    pub barhigh: u64,
 }
 
 // A boat's window before its first message.
@@ -20,6 +23,8 @@ pub fn fresh() -> Window
         next: 0,
         low: 0,
         high: 0,
+        barlow: 0,
+        barhigh: 0,
     }
 }
 
@@ -49,7 +54,37 @@ pub fn handed(w: Window, number: u32) -> bool
         return false;
     }
     let d = (number - next - 1) as usize;
-    marked(w, d)
+    has(w.low, w.high, d)
+}
+
+// Whether this number is barred.
+pub fn barred(w: Window, number: u32) -> bool
+    ensures { λ r. ⌜ r ≡ barredOf w number ⌝ }
+{
+    let next = w.next;
+    if number < next {
+        return false;
+    }
+    let d = (number - next) as usize;
+    has(w.barlow, w.barhigh, d)
+}
+
+// This number is barred from now on.
+pub fn bar(w: Window, number: u32) -> Window
+    ensures { λ r. ⌜ r ≡ barOf w number ⌝ }
+{
+    let next = w.next;
+    if number < next {
+        return w;
+    }
+    let d = (number - next) as usize;
+    let mut t = w;
+    if d < 64 {
+        t.barlow = bits::with(w.barlow, d);
+        return t;
+    }
+    t.barhigh = bits::with(w.barhigh, d - 64);
+    t
 }
 
 // The message of this number has landed.
@@ -64,30 +99,33 @@ pub fn land(w: Window, number: u32) -> Window
     mark(w, d)
 }
 
-fn marked(w: Window, d: usize) -> bool
-    ensures { λ r. ⌜ r ≡ hasBit (marksOf w) d ⌝ }
+// Bit d of 128, the low 64 and the high 64.
+fn has(low: u64, high: u64, d: usize) -> bool
+    ensures { λ r. ⌜ r ≡ hasBit (low + 2 ^ 64 * high) d ⌝ }
 {
     if d < 64 {
-        return bits::has(w.low, d);
+        return bits::has(low, d);
     }
-    bits::has(w.high, d - 64)
+    bits::has(high, d - 64)
 }
 
 // One on: the number next is whole.
 fn slid(w: Window) -> Window
-    ensures { λ r. ⌜ r ≡ slidOf (w .next) (marksOf w) ⌝ }
+    ensures { λ r. ⌜ r ≡ slidOf (w .next) (marksOf w) (barsOf w) ⌝ }
 {
     let next = bits::one_more(w.next);
     Window {
         next: next,
         low: w.low / 2 + w.high % 2 * 9223372036854775808,
         high: w.high / 2,
+        barlow: w.barlow / 2 + w.barhigh % 2 * 9223372036854775808,
+        barhigh: w.barhigh / 2,
     }
 }
 
 // The number next is whole, and with it the marked ones right after it.
 fn slide(w: Window) -> Window
-    ensures { λ r. ⌜ r ≡ slideOf 128 (w .next) (marksOf w) ⌝ }
+    ensures { λ r. ⌜ r ≡ slideOf 128 (w .next) (marksOf w) (barsOf w) ⌝ }
 {
     let mut t = w;
     let mut i: usize = 0;

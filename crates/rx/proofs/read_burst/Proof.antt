@@ -77,26 +77,20 @@ mul-s c = omega (arith, cell-lt _ _ _ _ _ _ _ _ (c .before .before .before .befo
 element-write-s : tie.Need-element-write-s Inv-loop μ-loop
 element-write-s c = omega (arith, cell-lt _ _ _ _ _ _ _ _ (c .before .before .before .before .before .before .before .before .before .piece-of .ensures) (c .before .before .before .before .before .before .before .before .place-of .ensures))
 
-changed-requires : tie.Need-changed-requires Inv-loop μ-loop
-changed-requires c κs = search needs
+busy-after-requires : tie.Need-busy-after-requires Inv-loop μ-loop
+busy-after-requires c κs = search needs
 
-with-if-requires : tie.Need-with-if-requires Inv-loop μ-loop
-with-if-requires c κs = search needs
-
-has-landed-requires : tie.Need-has-landed-requires Inv-loop μ-loop
-has-landed-requires c κs = search needs
-
-with-if-requires-2 : tie.Need-with-if-requires-2 Inv-loop μ-loop
-with-if-requires-2 c κs = search needs
+landed-after-requires : tie.Need-landed-after-requires Inv-loop μ-loop
+landed-after-requires c κs = search needs
 
 member-after-requires : tie.Need-member-after-requires Inv-loop μ-loop
 member-after-requires c κs = search needs
 
 mul-k : tie.Need-mul-k Inv-loop μ-loop
-mul-k c = omega (arith, rw (← c .before .before .before .before .before .before .before .before .before .before .before .before .before .before .before .before .before .before .before .before .index .ensures) at (index-lt (c .before .before .before .before .before .before .before .before .before .before .before .before .before .before .before .before .before .before .before .before .before .before .before .frame-at .result .slot)))
+mul-k c = omega (arith, rw (← c .before .before .before .before .before .before .before .before .before .before .before .before .before .before .before .before .before .before .index .ensures) at (index-lt (c .before .before .before .before .before .before .before .before .before .before .before .before .before .before .before .before .before .before .before .before .before .frame-at .result .slot)))
 
 element-set-from-k : tie.Need-element-set-from-k Inv-loop μ-loop
-element-set-from-k c = omega (arith, rw (← c .before .before .before .before .before .before .before .before .before .before .before .before .before .before .before .before .before .before .before .before .index .ensures) at (index-lt (c .before .before .before .before .before .before .before .before .before .before .before .before .before .before .before .before .before .before .before .before .before .before .before .frame-at .result .slot)))
+element-set-from-k c = omega (arith, rw (← c .before .before .before .before .before .before .before .before .before .before .before .before .before .before .before .before .before .before .index .ensures) at (index-lt (c .before .before .before .before .before .before .before .before .before .before .before .before .before .before .before .before .before .before .before .before .before .frame-at .result .slot)))
 
 is-relayed-requires : tie.Need-is-relayed-requires Inv-loop μ-loop
 is-relayed-requires c κs = search needs
@@ -113,33 +107,33 @@ landed-events-requires c κs = search needs
 lost-requires : tie.Need-lost-requires Inv-loop μ-loop
 lost-requires c κs = search needs
 
-with-if-requires-3 : tie.Need-with-if-requires-3 Inv-loop μ-loop
-with-if-requires-3 c κs = search needs
+with-if-requires : tie.Need-with-if-requires Inv-loop μ-loop
+with-if-requires c κs = search needs
 
 next-frame-requires : tie.Need-next-frame-requires Inv-loop μ-loop
-next-frame-requires c κs = fits (c .before .before .before .before .before .before .before .before .before .before .before .before .before .before .before .before .before .before .before .before .before .before .before .before .before .before .before .before .before .before .before .before .before .before .before .before .before .loop .inv) (c .before .before .before .before .before .before .before .before .before .before .before .before .before .before .before .before .before .before .before .before .before .before .before .before .before .before .before .before .before .before .before .before .before .before .before .if1 .taken) (c .before .before .before .before .before .before .before .before .before .before .before .before .before .before .before .before .before .before .before .before .before .before .before .before .before .before .before .before .before .before .before .before .before .before .frame-at .result) (c .before .before .before .before .before .before .before .before .before .before .before .before .before .before .before .before .before .before .before .before .before .before .before .before .before .before .before .before .before .before .before .before .before .before .frame-at .ensures) (c .before .before .before .before .before .before .before .before .before .before .before .before .before .before .before .before .before .before .before .before .before .before .before .before .before .before .before .before .before .before .before .before .before .before .before .before .before .before .before .before .before .before .good .1 .1 .1 .0 .0)
+next-frame-requires c κs = fits (c .before .before .before .before .before .before .before .before .before .before .before .before .before .before .before .before .before .before .before .before .before .before .before .before .before .before .before .before .before .before .before .before .before .before .before .loop .inv) (c .before .before .before .before .before .before .before .before .before .before .before .before .before .before .before .before .before .before .before .before .before .before .before .before .before .before .before .before .before .before .before .before .before .if1 .taken) (c .before .before .before .before .before .before .before .before .before .before .before .before .before .before .before .before .before .before .before .before .before .before .before .before .before .before .before .before .before .before .before .before .frame-at .result) (c .before .before .before .before .before .before .before .before .before .before .before .before .before .before .before .before .before .before .before .before .before .before .before .before .before .before .before .before .before .before .before .before .frame-at .ensures) (c .before .before .before .before .before .before .before .before .before .before .before .before .before .before .before .before .before .before .before .before .before .before .before .before .before .before .before .before .before .before .before .before .before .before .before .before .before .before .before .before .good .1 .1 .1 .0 .0)
 
 loop-less : tie.Need-loop-less Inv-loop μ-loop
-loop-less c = fewer (ap (λ (k : Rx). k .frame) (c .next-frame .ensures)) (c .before .before .before .before .before .before .before .before .before .before .before .before .before .before .before .before .before .before .before .before .before .before .before .before .before .before .before .before .before .before .before .before .before .before .before .before .if1 .taken)
+loop-less c = fewer (ap (λ (k : Rx). k .frame) (c .next-frame .ensures)) (c .before .before .before .before .before .before .before .before .before .before .before .before .before .before .before .before .before .before .before .before .before .before .before .before .before .before .before .before .before .before .before .before .before .before .if1 .taken)
 
 loop-again : tie.Need-loop-again Inv-loop μ-loop
 loop-again c =
-    turn-piece (c .before .before .before .before .before .before .before .before .before .before .before .before .before .before .before .before .before .before .before .before .before .before .before .before .before .before .before .before .before .before .before .before .before .before .before .before .before .before .loop .inv) (c .before .before .before .before .before .before .before .before .before .before .before .before .before .before .before .before .before .before .before .before .before .before .before .before .before .before .before .before .before .before .before .before .before .before .before .before .if1 .taken) (c .before .before .before .before .before .before .before .before .before .before .before .before .before .before .before .before .before .before .before .before .before .before .before .before .before .before .before .before .before .before .before .before .before .before .before .frame-at .result) (c .before .before .before .before .before .before .before .before .before .before .before .before .before .before .before .before .before .before .before .before .before .before .before .before .before .before .before .before .before .before .before .before .before .before .before .frame-at .ensures) Piece (kind-up _ _ (c .before .before .before .before .before .before .before .before .before .before .before .before .before .before .before .before .before .before .before .before .before .before .before .before .before .before .before .before .before .before .before .before .before .if2 .taken)) refl
-    (c .before .before .before .before .before .before .before .before .before .before .before .before .before .before .before .before .before .before .before .before .before .before .before .before .before .before .before .before .before .before .before .before .index .ensures)
-    (c .before .before .before .before .before .before .before .before .before .before .before .before .before .before .before .before .before .before .before .before .before .before .before .before .before .before .before .before .before .is-member .ensures)
-    (c .before .before .before .before .before .before .before .before .before .before .before .before .before .before .before .before .before .before .before .before .before .before .before .before .before .before .piece-of .ensures)
-    (c .before .before .before .before .before .before .before .before .before .before .before .before .before .before .before .before .before .before .before .before .before .before .before .before .before .place-of .ensures)
-    (c .before .before .before .before .before .before .before .before .before .before .before .before .before .before .before .before .before .before .before .before .before .before .take .ensures)
-    (c .before .before .before .before .before .before .before .before .before .before .before .before .before .before .before .before .before .owner-after .ensures)
-    (rw (c .before .before .before .before .before .before .before .before .before .before .before .before .before .before .before .before .changed .ensures) at (c .before .before .before .before .before .before .before .before .before .before .before .before .before .before .before .with-if .ensures))
-    (rw (c .before .before .before .before .before .before .before .before .before .before .before .before .before .before .has-landed .ensures) at (c .before .before .before .before .before .before .before .before .before .before .before .before .before .with-if2 .ensures))
+    turn-piece (c .before .before .before .before .before .before .before .before .before .before .before .before .before .before .before .before .before .before .before .before .before .before .before .before .before .before .before .before .before .before .before .before .before .before .before .before .loop .inv) (c .before .before .before .before .before .before .before .before .before .before .before .before .before .before .before .before .before .before .before .before .before .before .before .before .before .before .before .before .before .before .before .before .before .before .if1 .taken) (c .before .before .before .before .before .before .before .before .before .before .before .before .before .before .before .before .before .before .before .before .before .before .before .before .before .before .before .before .before .before .before .before .before .frame-at .result) (c .before .before .before .before .before .before .before .before .before .before .before .before .before .before .before .before .before .before .before .before .before .before .before .before .before .before .before .before .before .before .before .before .before .frame-at .ensures) Piece (kind-up _ _ (c .before .before .before .before .before .before .before .before .before .before .before .before .before .before .before .before .before .before .before .before .before .before .before .before .before .before .before .before .before .before .before .if2 .taken)) refl
+    (c .before .before .before .before .before .before .before .before .before .before .before .before .before .before .before .before .before .before .before .before .before .before .before .before .before .before .before .before .before .before .index .ensures)
+    (c .before .before .before .before .before .before .before .before .before .before .before .before .before .before .before .before .before .before .before .before .before .before .before .before .before .before .before .is-member .ensures)
+    (c .before .before .before .before .before .before .before .before .before .before .before .before .before .before .before .before .before .before .before .before .before .before .before .before .piece-of .ensures)
+    (c .before .before .before .before .before .before .before .before .before .before .before .before .before .before .before .before .before .before .before .before .before .before .before .place-of .ensures)
+    (c .before .before .before .before .before .before .before .before .before .before .before .before .before .before .before .before .before .before .before .before .take .ensures)
+    (c .before .before .before .before .before .before .before .before .before .before .before .before .before .before .before .owner-after .ensures)
+    (c .before .before .before .before .before .before .before .before .before .before .before .before .before .before .busy-after .ensures)
+    (c .before .before .before .before .before .before .before .before .before .before .before .before .before .landed-after .ensures)
     (c .before .before .before .before .before .before .before .before .before .before .before .before .member-after .ensures)
     (c .before .before .before .before .before .before .before .before .before .before .before .is-relayed .ensures)
     (c .before .before .before .before .before .before .before .before .before .round-after .ensures)
     (c .before .before .before .before .before .before .before .totals-after .ensures)
     (c .before .before .before .before .before .landed-events .ensures)
-    (rw (c .before .before .lost .ensures) at (c .before .with-if3 .ensures))
-    (c .before .before .before .before .before .before .before .before .before .before .before .before .before .before .before .before .before .before .before .before .before .before .take .kept .1 .1 .1 .1 .1 .0)
+    (rw (c .before .before .lost .ensures) at (c .before .with-if .ensures))
+    (c .before .before .before .before .before .before .before .before .before .before .before .before .before .before .before .before .before .before .before .before .take .kept .1 .1 .1 .1 .1 .0)
     (c .next-frame .ensures)
 
 control-byte-requires : tie.Need-control-byte-requires Inv-loop μ-loop
@@ -262,10 +256,8 @@ read-burst-spec =
     owner-after-requires
     mul-s
     element-write-s
-    changed-requires
-    with-if-requires
-    has-landed-requires
-    with-if-requires-2
+    busy-after-requires
+    landed-after-requires
     member-after-requires
     mul-k
     element-set-from-k
@@ -274,7 +266,7 @@ read-burst-spec =
     totals-after-requires
     landed-events-requires
     lost-requires
-    with-if-requires-3
+    with-if-requires
     next-frame-requires
     loop-less
     loop-again

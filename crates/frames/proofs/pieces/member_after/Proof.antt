@@ -6,8 +6,15 @@ use Rattle.frames.proofs.pieces.member_after.Tie as tie
 lost-requires : tie.Need-lost-requires
 lost-requires c κs = search needs
 
+barring-requires : tie.Need-barring-requires
+barring-requires c κs = search needs
+
+barred-if-requires : tie.Need-barred-if-requires
+barred-if-requires c κs = search needs
+
 returns : tie.Need-returns
-returns c = rw (← c .before .lost .ensures, c .if1 .taken)
+returns c =
+    rw (← c .before .before .before .lost .ensures, c .before .before .if1 .taken, ← c .before .barring .ensures) (c .barred-if .ensures)
 
 heard-member-requires : tie.Need-heard-member-requires
 heard-member-requires c κs = search needs
@@ -48,6 +55,8 @@ member-after-spec =
     tie.close
     (tie.spec
     lost-requires
+    barring-requires
+    barred-if-requires
     returns
     heard-member-requires
     has-landed-requires

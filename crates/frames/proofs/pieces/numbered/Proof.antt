@@ -15,6 +15,9 @@ returns c = rw (← c .before .before .handed .ensures, c .before .if1 .taken) (
 low16-requires : tie.Need-low16-requires
 low16-requires c κs = search needs
 
+barred-requires : tie.Need-barred-requires
+barred-requires c κs = search needs
+
 owner-of-requires : tie.Need-owner-of-requires
 owner-of-requires c κs = search needs
 
@@ -22,7 +25,15 @@ room-for-requires : tie.Need-room-for-requires
 room-for-requires c κs = search needs
 
 returns-2 : tie.Need-returns-2
-returns-2 c = rw (← c .before .before .before .before .handed .ensures, c .before .before .before .if1 .left, c .before .before .low16 .ensures, c .room-for .ensures, c .before .owner-of .ensures)
+returns-2 c =
+    rw (
+      ← c .before .before .before .before .before .handed .ensures,
+      c .before .before .before .before .if1 .left,
+      c .before .before .before .low16 .ensures,
+      c .before .before .barred .ensures,
+      c .room-for .ensures,
+      c .before .owner-of .ensures,
+    )
 
 pub numbered-spec : {M : Type 1} → statement M
 numbered-spec =
@@ -32,6 +43,7 @@ numbered-spec =
     unwanted-requires
     returns
     low16-requires
+    barred-requires
     owner-of-requires
     room-for-requires
     returns-2)

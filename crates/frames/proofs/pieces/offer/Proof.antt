@@ -19,6 +19,9 @@ returns c = search needs
 cast-n : tie.Need-cast-n
 cast-n c = search needs
 
+shows-first-requires : tie.Need-shows-first-requires
+shows-first-requires c κs = search needs
+
 empty-cell-requires : tie.Need-empty-cell-requires
 empty-cell-requires c κs = search needs
 
@@ -30,9 +33,14 @@ left-requires c κs = search needs
 
 returns-2 : tie.Need-returns-2
 returns-2 c =
-    let b = c .before .before .before .before .before .before in
-    rw (c .left .ensures, c .before .keeping .ensures, c .before .before .empty-cell .ensures)
-    (no-room (b .args .lent .now) (b .args .room) (b .args .c) (b .args .number) (b .args .offset) (b .args .piece .now) (b .pre .0) (omega arith))
+    let b = c .before .before .before .before .before .before .before in
+    rw (
+      c .left .ensures,
+      c .before .keeping .ensures,
+      c .before .before .empty-cell .ensures,
+      c .before .before .before .shows-first .ensures,
+    )
+    (no-room (b .args .barred) (b .args .lent .now) (b .args .room) (b .args .c) (b .args .number) (b .args .offset) (b .args .piece .now) (b .pre .0) (omega arith))
 
 pub offer-spec : {M : Type 1} → statement M
 offer-spec =
@@ -42,6 +50,7 @@ offer-spec =
     same-length
     returns
     cast-n
+    shows-first-requires
     empty-cell-requires
     keeping-requires
     left-requires

@@ -8,15 +8,8 @@ use Rattle.inbox.proofs.keep.keeping.Statement.{statement}
 use Rattle.inbox.proofs.keep.keeping.Tie as tie
 
 returns : tie.Need-returns
-returns c = search needs
-
-returns-2 : tie.Need-returns-2
-returns-2 c =
-    let a = c .before .before .args in
-    simp (
-      c .before .if1 .left,
-      eq-eqb _ _ (c .if2 .taken),
-    )
+returns c =
+    simp (eq-eqb _ _ (c .if1 .taken))
 
 wide16-requires : tie.Need-wide16-requires
 wide16-requires c κs = search needs
@@ -30,48 +23,56 @@ add-end c = search needs
 wide16-requires-2 : tie.Need-wide16-requires-2
 wide16-requires-2 c κs = search needs
 
-returns-3 : tie.Need-returns-3
-returns-3 c =
-    let a = c .before .before .before .before .before .before .args in
+returns-2 : tie.Need-returns-2
+returns-2 c =
+    let a = c .before .before .before .before .before .args in
     simp (
-      c .before .before .before .before .before .if1 .left,
-      ne-eqb _ _ (c .before .before .before .before .if2 .left),
+      ne-eqb _ _ (c .before .before .before .before .if1 .left),
       le-leb (a .offset + a .n) (a .cell .joined) (omega arith),
     )
 
 shorter-requires : tie.Need-shorter-requires
 shorter-requires c κs = search needs
 
+returns-3 : tie.Need-returns-3
+returns-3 c =
+    let a = c .before .before .before .before .before .before .before .args in
+    simp (
+      ne-eqb _ _ (c .before .before .before .before .before .before .if1 .left),
+      lt-leb (a .offset + a .n) (a .cell .joined) (omega arith),
+      sym (c .before .shorter .ensures) ∙ c .if3 .taken,
+    )
+
 returns-4 : tie.Need-returns-4
 returns-4 c =
     let a = c .before .before .before .before .before .before .before .before .args in
     simp (
-      c .before .before .before .before .before .before .before .if1 .left,
-      ne-eqb _ _ (c .before .before .before .before .before .before .if2 .left),
+      ne-eqb _ _ (c .before .before .before .before .before .before .before .if1 .left),
       lt-leb (a .offset + a .n) (a .cell .joined) (omega arith),
-      sym (c .before .shorter .ensures) ∙ c .if4 .taken,
+      sym (c .before .before .shorter .ensures) ∙ c .before .if3 .left,
+      le-leb _ _ (c .if4 .taken),
     )
 
 returns-5 : tie.Need-returns-5
 returns-5 c =
     let a = c .before .before .before .before .before .before .before .before .before .args in
     simp (
-      c .before .before .before .before .before .before .before .before .if1 .left,
-      ne-eqb _ _ (c .before .before .before .before .before .before .before .if2 .left),
+      ne-eqb _ _ (c .before .before .before .before .before .before .before .before .if1 .left),
       lt-leb (a .offset + a .n) (a .cell .joined) (omega arith),
-      sym (c .before .before .shorter .ensures) ∙ c .before .if4 .left,
-      le-leb _ _ (c .if5 .taken),
+      sym (c .before .before .before .shorter .ensures) ∙ c .before .before .if3 .left,
+      lt-leb _ _ (c .before .if4 .left),
+      c .if5 .taken,
     )
 
 returns-6 : tie.Need-returns-6
 returns-6 c =
     let a = c .before .before .before .before .before .before .before .before .before .before .args in
     simp (
-      c .before .before .before .before .before .before .before .before .before .if1 .left,
-      ne-eqb _ _ (c .before .before .before .before .before .before .before .before .if2 .left),
+      ne-eqb _ _ (c .before .before .before .before .before .before .before .before .before .if1 .left),
       lt-leb (a .offset + a .n) (a .cell .joined) (omega arith),
-      sym (c .before .before .before .shorter .ensures) ∙ c .before .before .if4 .left,
-      lt-leb _ _ (c .before .if5 .left),
+      sym (c .before .before .before .before .shorter .ensures) ∙ c .before .before .before .if3 .left,
+      lt-leb _ _ (c .before .before .if4 .left),
+      c .before .if5 .left,
       lt-ltb 2048 (a .offset + a .n) (omega arith),
     )
 
@@ -79,11 +80,11 @@ returns-7 : tie.Need-returns-7
 returns-7 c =
     let a = c .before .before .before .before .before .before .before .before .before .before .before .args in
     simp (
-      c .before .before .before .before .before .before .before .before .before .before .if1 .left,
-      ne-eqb _ _ (c .before .before .before .before .before .before .before .before .before .if2 .left),
+      ne-eqb _ _ (c .before .before .before .before .before .before .before .before .before .before .if1 .left),
       lt-leb (a .offset + a .n) (a .cell .joined) (omega arith),
-      sym (c .before .before .before .before .shorter .ensures) ∙ c .before .before .before .if4 .left,
-      lt-leb _ _ (c .before .before .if5 .left),
+      sym (c .before .before .before .before .before .shorter .ensures) ∙ c .before .before .before .before .if3 .left,
+      lt-leb _ _ (c .before .before .before .if4 .left),
+      c .before .before .if5 .left,
       le-ltb 2048 (a .offset + a .n) (omega arith),
       c .if7 .taken,
     )
@@ -95,11 +96,11 @@ returns-8 : tie.Need-returns-8
 returns-8 c =
     let a = c .before .before .before .before .before .before .before .before .before .before .before .before .before .args in
     simp (
-      c .before .before .before .before .before .before .before .before .before .before .before .before .if1 .left,
-      ne-eqb _ _ (c .before .before .before .before .before .before .before .before .before .before .before .if2 .left),
+      ne-eqb _ _ (c .before .before .before .before .before .before .before .before .before .before .before .before .if1 .left),
       lt-leb (a .offset + a .n) (a .cell .joined) (omega arith),
-      sym (c .before .before .before .before .before .before .shorter .ensures) ∙ c .before .before .before .before .before .if4 .left,
-      lt-leb _ _ (c .before .before .before .before .if5 .left),
+      sym (c .before .before .before .before .before .before .before .shorter .ensures) ∙ c .before .before .before .before .before .before .if3 .left,
+      lt-leb _ _ (c .before .before .before .before .before .if4 .left),
+      c .before .before .before .before .if5 .left,
       le-ltb 2048 (a .offset + a .n) (omega arith),
       c .before .before .if7 .left,
       sym (c .before .full .ensures) ∙ c .if8 .taken,
@@ -109,11 +110,11 @@ returns-9 : tie.Need-returns-9
 returns-9 c =
     let a = c .before .before .before .before .before .before .before .before .before .before .before .before .before .args in
     simp (
-      c .before .before .before .before .before .before .before .before .before .before .before .before .if1 .left,
-      ne-eqb _ _ (c .before .before .before .before .before .before .before .before .before .before .before .if2 .left),
+      ne-eqb _ _ (c .before .before .before .before .before .before .before .before .before .before .before .before .if1 .left),
       lt-leb (a .offset + a .n) (a .cell .joined) (omega arith),
-      sym (c .before .before .before .before .before .before .shorter .ensures) ∙ c .before .before .before .before .before .if4 .left,
-      lt-leb _ _ (c .before .before .before .before .if5 .left),
+      sym (c .before .before .before .before .before .before .before .shorter .ensures) ∙ c .before .before .before .before .before .before .if3 .left,
+      lt-leb _ _ (c .before .before .before .before .before .if4 .left),
+      c .before .before .before .before .if5 .left,
       le-ltb 2048 (a .offset + a .n) (omega arith),
       c .before .before .if7 .left,
       sym (c .before .full .ensures) ∙ c .if8 .left,
@@ -124,13 +125,13 @@ keeping-spec =
     tie.close
     (tie.spec
     returns
-    returns-2
     wide16-requires
     wide8-requires
     add-end
     wide16-requires-2
-    returns-3
+    returns-2
     shorter-requires
+    returns-3
     returns-4
     returns-5
     returns-6

@@ -16,6 +16,9 @@ has-room-requires c κs = search needs
 cast-n : tie.Need-cast-n
 cast-n c = search needs
 
+is-over-requires : tie.Need-is-over-requires
+is-over-requires c κs = search needs
+
 keeping-requires : tie.Need-keeping-requires
 keeping-requires c κs = search needs
 
@@ -25,13 +28,14 @@ changed-requires c κs = search needs
 put-requires : tie.Need-put-requires
 put-requires c κs =
     let k = c .before .before .before in
-    let h = k .before in
+    let o = k .before in
+    let h = o .before .before in
     let p = h .before .before in
     let a = p .before .before .before in
     let e = p .place-of .ensures in
     let f =
-    take-fits (a .args .store .now) (a .args .room) (a .args .cell) (a .args .number) (a .args .offset) (a .args .piece .now) _ _ _ _ _
-    e (h .before .cell-for .ensures) (h .has-room .ensures) (k .keeping .ensures) (c .before .before .changed .ensures) (c .before .if1 .taken) in
+    take-fits (a .args .barred) (a .args .store .now) (a .args .room) (a .args .cell) (a .args .number) (a .args .offset) (a .args .piece .now) _ _ _ _ _ _
+    e (h .before .cell-for .ensures) (h .has-room .ensures) (o .is-over .ensures) (k .keeping .ensures) (c .before .before .changed .ensures) (c .before .if1 .taken) in
     (rw e (a .pre .0), (a .pre .1, f))
 
 same-length : tie.Need-same-length
@@ -41,24 +45,29 @@ returns : tie.Need-returns
 returns c =
     let i = c .before .before .before .before in
     let k = i .before .before in
-    let h = k .before in
+    let o = k .before in
+    let h = o .before .before in
     let p = h .before .before in
     let a = p .before .before .before in
-    take-yes (a .args .store .now) (a .args .room) (a .args .cell) (a .args .number) (a .args .offset) (a .args .piece .now) _ _ _ _ _
-    (p .place-of .ensures) (h .before .cell-for .ensures) (h .has-room .ensures) (k .keeping .ensures) (i .before .changed .ensures)
+    take-yes (a .args .barred) (a .args .store .now) (a .args .room) (a .args .cell) (a .args .number) (a .args .offset) (a .args .piece .now) _ _ _ _ _ _
+    (p .place-of .ensures) (h .before .cell-for .ensures) (h .has-room .ensures) (o .is-over .ensures) (k .keeping .ensures) (i .before .changed .ensures)
     (i .if1 .taken) _ (c .before .before .put .ensures)
 
 left-requires : tie.Need-left-requires
 left-requires c κs = search needs
 
+same-length-2 : tie.Need-same-length-2
+same-length-2 c = search needs
+
 returns-2 : tie.Need-returns-2
 returns-2 c =
     let k = c .before .before .before in
-    let h = k .before in
+    let o = k .before in
+    let h = o .before .before in
     let p = h .before .before in
     let a = p .before .before .before in
-    take-no (a .args .store .now) (a .args .room) (a .args .cell) (a .args .number) (a .args .offset) (a .args .piece .now) _ _ _ _ _
-    (p .place-of .ensures) (h .before .cell-for .ensures) (h .has-room .ensures) (k .keeping .ensures) (c .before .before .changed .ensures)
+    take-no (a .args .barred) (a .args .store .now) (a .args .room) (a .args .cell) (a .args .number) (a .args .offset) (a .args .piece .now) _ _ _ _ _ _
+    (p .place-of .ensures) (h .before .cell-for .ensures) (h .has-room .ensures) (o .is-over .ensures) (k .keeping .ensures) (c .before .before .changed .ensures)
     (c .before .if1 .left) _ (c .left .ensures)
 
 pub take-spec : {M : Type 1} → statement M
@@ -69,10 +78,12 @@ take-spec =
     cell-for-requires
     has-room-requires
     cast-n
+    is-over-requires
     keeping-requires
     changed-requires
     put-requires
     same-length
     returns
     left-requires
+    same-length-2
     returns-2)

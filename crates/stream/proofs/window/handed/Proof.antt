@@ -20,13 +20,13 @@ sub-d c = search needs
 cast-d : tie.Need-cast-d
 cast-d c = search needs
 
-marked-requires : tie.Need-marked-requires
-marked-requires c κs = search needs
+has-requires : tie.Need-has-requires
+has-requires c κs = search needs
 
 returns-3 : tie.Need-returns-3
 returns-3 c =
     let a = c .before .before .before .args in
-    rw (le-ltb (a .number) (a .w .next) (omega arith), lt-ltb (a .w .next) (a .number) (omega arith)) (c .marked .ensures)
+    rw (le-ltb (a .number) (a .w .next) (omega arith), lt-ltb (a .w .next) (a .number) (omega arith)) (c .has .ensures)
 
 pub handed-spec : {M : Type 1} → statement M
-handed-spec = tie.close (tie.spec returns returns-2 sub-d cast-d marked-requires returns-3)
+handed-spec = tie.close (tie.spec returns returns-2 sub-d cast-d has-requires returns-3)

@@ -3,8 +3,8 @@ use mathlib.Core.Path.{sym, _∙_}
 use native.Mathlib.Omega.{arith}
 use borrow.Author.Needs.{needs}
 use Rattle.stream.proofs.Marks.{mark-in-low, mark-in-high}
-use Rattle.stream.proofs.window.marked.Statement.{statement}
-use Rattle.stream.proofs.window.marked.Tie as tie
+use Rattle.stream.proofs.window.has.Statement.{statement}
+use Rattle.stream.proofs.window.has.Tie as tie
 
 has-requires : tie.Need-has-requires
 has-requires c κs = search needs
@@ -18,5 +18,5 @@ has-requires-2 c κs = search needs
 returns-2 : tie.Need-returns-2
 returns-2 c = c .has2 .ensures ∙ sym (mark-in-high _ _ _ (omega arith) (c .before .if1 .left))
 
-pub marked-spec : {M : Type 1} → statement M
-marked-spec = tie.close (tie.spec has-requires returns has-requires-2 returns-2)
+pub has-spec : {M : Type 1} → statement M
+has-spec = tie.close (tie.spec has-requires returns has-requires-2 returns-2)
