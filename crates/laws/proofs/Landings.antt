@@ -11,24 +11,24 @@ use lib.Seq.{getD-set-same}
 use lib.Dec.{eqb}
 use lib.Ieee.{Float}
 use borrow.Author.Tests.{eqb-true, eq-eqb, ne-eqb}
-use Rattle.bits.specs.Mask.{hasBit, withBit}
+use Rattle.bits.specs.Mask.{hasBit, withBit, withoutBit}
 use Rattle.bits.proofs.Laws.{with-same}
 use Rattle.bits.proofs.Lists.{cond-keeps, cond-true, cases, eq-or-not, never-both}
 use Rattle.words.specs.Words.{Heard, Burst, parsed}
 use Rattle.words.specs.Fine.{Fine, AllFine}
 use Rattle.inbox.specs.declared.keep.Kept.the-variants.{Yes}
-use Rattle.inbox.proofs.Rule.{yes-is}
+use Rattle.inbox.proofs.Rule.{yes-is, KeptIs}
 use Rattle.stream.specs.declared.window.Window.{Window}
 use Rattle.stream.specs.declared.table.Room.{Room}
 use Rattle.stream.specs.declared.table.Room.the-variants.{Own, Free, Full}
-use Rattle.stream.specs.Window.{handedOf, landOf}
-use Rattle.stream.specs.Table.{Table, Accepted, passed, accept, cellAt, cellFor, cellCount, ownerOf, placeOf, hasRoom, hasLanded, putIn, tableRoom}
+use Rattle.stream.specs.Window.{handedOf, landOf, barredOf, barOf}
+use Rattle.stream.specs.Table.{Table, Accepted, passed, accept, cellAt, cellFor, cellCount, ownerOf, placeOf, hasRoom, hasLanded, putIn, tableRoom, isOver, barredTable}
 use Rattle.stream.proofs.Rooms.{RoomIs}
-use Rattle.stream.proofs.Tables.{Tidy, table-room, place-in, kept-other}
-use Rattle.stream.proofs.Accepts.{leftAs, answerOf, cellIn, heldAfter, putAs, accept-cases, accept-window}
+use Rattle.stream.proofs.Tables.{Tidy, table-room, place-in, kept-other, freed-other}
+use Rattle.stream.proofs.Accepts.{leftAs, answerOf, cellIn, heldAfter, putAs, barredAs, accept-cases, accept-window}
 use Rattle.net.specs.declared.Station.{Station}
 use Rattle.net.proofs.Laws.{member-lt}
-use Rattle.stream.proofs.Windows.{fresh-none}
+use Rattle.stream.proofs.Windows.{fresh-none, bar-handed}
 use Rattle.station.specs.SignOff.{signOff, signOffRefusal, signOffOf}
 use Rattle.frames.specs.declared.Air.{Air}
 use Rattle.frames.specs.Reading.{Reading}
@@ -39,10 +39,10 @@ use Rattle.promise.specs.Promise.{lentTo, Net, net, Call, admission, reception,
 use Rattle.laws.specs.Marks.{alsoLanded, landedBy, landedIn}
 use Rattle.promise.proofs.Ledgers.{handed-other}
 use Rattle.promise.proofs.Ties.{View}
-use Rattle.promise.proofs.Pieces.{alsoOne, windowsAfter, viewAfter, eventFor}
+use Rattle.promise.proofs.Pieces.{alsoOne, windowsAfter, viewAfter, viewBarred, eventFor}
 use Rattle.promise.proofs.Quiet.{windowAt, Keeps, viewOf}
 use Rattle.promise.proofs.Events.{events-none}
-use Rattle.promise.proofs.WalkFrames.{viewIn, offeredIn, FrameRead, other, unkept, piece, firstIn, rx-end}
+use Rattle.promise.proofs.WalkFrames.{viewIn, offeredIn, FrameRead, other, unkept, barred, piece, firstIn, rx-end}
 use Rattle.promise.proofs.Signs.{sign-member}
 use Rattle.promise.proofs.SignTies.{window-gone, window-still}
 use Rattle.promise.proofs.Messages.{admission-kept, decision-kept, sending-kept, closing-kept, reading-kept, charging-kept}
@@ -59,11 +59,15 @@ pub record Landing (t : Table) (x : Accepted) : Type 0 where
   pub number : hasLanded (x .landed) ≡ true → getD (x .table .owners) (x .cell) 0 % 4294967296 ≡ x .number
 
 module _ (t : Table) (w : Window) (store : List ℕ) (slot field : ℕ) (p : List ℕ) (tidy : Tidy t store) where
-  module _ (k : ℕ) (yes : answerOf t slot k (field % 65536) p ≡ Yes) where
+  module _ (k : ℕ) (yes : answerOf t w store slot k (field % 65536) p ≡ Yes) where
+    abbrev over : Bool
+    over = isOver (barredOf w k) store (tableRoom t slot k) (cellAt t (cellIn t slot k)) (field % 65536) p
+
+    kept-is : KeptIs k (field % 65536) (length p) over (hasRoom (tableRoom t slot k)) (cellFor (tableRoom t slot k) (cellAt t (cellIn t slot k)))
+    kept-is = yes-is k (field % 65536) (length p) over (hasRoom (tableRoom t slot k)) (cellFor (tableRoom t slot k) (cellAt t (cellIn t slot k))) yes
+
     open-cell : hasBit (t .landed) (cellIn t slot k) ≡ false
-    open-cell =
-        go (tableRoom t slot k) (table-room t store tidy slot k)
-        (yes-is false k (field % 65536) (length p) (hasRoom (tableRoom t slot k)) (cellFor (tableRoom t slot k) (cellAt t (cellIn t slot k))) yes .celled)
+    open-cell = go (tableRoom t slot k) (table-room t store tidy slot k) (kept-is .celled)
       where
         go : (r : Room) → RoomIs (t .owners) (t .busy) (t .landed) (ownerOf slot k) (cellCount (t .count)) r → hasRoom r ≡ true → hasBit (t .landed) (placeOf r) ≡ false
         go (Own c) q h = q .filling .open-yet
@@ -73,7 +77,7 @@ module _ (t : Table) (w : Window) (store : List ℕ) (slot field : ℕ) (p : Lis
     put-landing : Landing t (putAs t w store slot k (field % 65536) p)
     put-landing =
         let low = place-in t store tidy slot k .0 in
-        let small = yes-is false k (field % 65536) (length p) (hasRoom (tableRoom t slot k)) (cellFor (tableRoom t slot k) (cellAt t (cellIn t slot k))) yes .low in
+        let small = kept-is .low in
         let long = tidy .owners in
         record {
           stays = λ c h.
@@ -82,7 +86,7 @@ module _ (t : Table) (w : Window) (store : List ℕ) (slot field : ℕ) (p : Lis
               (r .1 ∙ h, r .2);
           fit = λ b. low;
           whole = λ b.
-              ap (λ (u : Bool). hasBit (cond u (withBit (t .landed) (cellIn t slot k)) (t .landed)) (cellIn t slot k)) b
+              ap (λ (u : Bool). hasBit (cond u (withBit (t .landed) (cellIn t slot k)) (withoutBit (t .landed) (cellIn t slot k))) (cellIn t slot k)) b
               ∙ with-same (t .landed) (cellIn t slot k) low;
           number = λ b.
               ap (λ (o : ℕ). o % 4294967296) (getD-set-same (t .owners) (cellIn t slot k) (ownerOf slot k) 0 (omega arith)) ∙ omega arith;
@@ -98,11 +102,28 @@ module _ (t : Table) (w : Window) (store : List ℕ) (slot field : ℕ) (p : Lis
         number = λ h. absurd (never-both (hasLanded (x .landed)) h q);
       }
 
+  -- a message that claims too much has not landed
+  bar-landing : (k : ℕ) → Landing t (barredAs t w store slot k)
+  bar-landing k =
+      record {
+        stays = λ c h. go (tableRoom t slot k) (table-room t store tidy slot k) c h;
+        fit = λ h. absurd (never-both false h refl);
+        whole = λ h. absurd (never-both false h refl);
+        number = λ h. absurd (never-both false h refl);
+      }
+    where
+      go : (r : Room) → RoomIs (t .owners) (t .busy) (t .landed) (ownerOf slot k) (cellCount (t .count)) r → (c : ℕ) → hasBit (t .landed) c ≡ true
+          → (hasBit (barredTable t r .landed) c ≡ true) × (getD (barredTable t r .owners) c 0 ≡ getD (t .owners) c 0)
+      go (Own d) q c h =
+          (freed-other t store tidy d c (λ e. never-both (hasBit (t .landed) c) h (ap (hasBit (t .landed)) e ∙ q .filling .open-yet)) .1 ∙ h, refl)
+      go (Free d) q c h = (h, refl)
+      go Full q c h = (h, refl)
+
   accept-landing : Landing t (accept t w store slot field p)
   accept-landing =
       accept-cases t w store slot field p (Landing t)
       (λ e. still (passed t w store 0) refl refl) (λ k e h. still (passed t w store k) refl refl)
-      (λ k o a q c. still (leftAs t w store (cellIn t slot k) k a) refl refl) (λ k o q. put-landing k q)
+      (λ k o a q c z. still (leftAs t w store (cellIn t slot k) k a) refl refl) (λ k o q. bar-landing k) (λ k o q. put-landing k q)
 
 -- ---- the events so far
 
@@ -168,7 +189,7 @@ module _ (f : ℕ → ℕ → Bool) (v : View) (es : List Event2) (log : Log f v
   land-handed : hasLanded (r .landed) ≡ true → (j : ℕ) → handedOf (landOf (v .windows slot) (r .number)) j ≡ handedOf (v .windows slot) j || eqb j (r .number)
   land-handed q j =
       ap (λ (w : Window). handedOf w j)
-      (sym (accept-land (v .table) (v .windows slot) (v .store) slot field p ∙ cond-true (hasLanded (r .landed)) (landOf (v .windows slot) (r .number)) (v .windows slot) q))
+      (sym (accept-land (v .table) (v .windows slot) (v .store) slot field p ∙ cond-true (hasLanded (r .landed)) (landOf (v .windows slot) (r .number)) _ q))
       ∙ accept-window (v .table) (v .windows slot) (v .store) slot field p (fit .tidy) short (fit .sound slot) .1 j
       ∙ ap (λ (t : Bool). handedOf (v .windows slot) j || (t && eqb j (r .number))) q
 
@@ -206,6 +227,14 @@ module _ (f : ℕ → ℕ → Bool) (v : View) (es : List Event2) (log : Log f v
             (after-whole (hasLanded (r .landed)) refl);
       }
 
+  -- a message that claims too much
+  barred-log : Log f (viewBarred v slot r) es
+  barred-log = record { numbers = λ i k. before i k ∙ at i k (eqb slot i); whole = whole-stays (v .table) r landing es (log .whole) }
+    where
+      at : (i k : ℕ) (t : Bool) → handedOf (v .windows i) k ≡ handedOf (cond t (barOf (v .windows i) (r .number)) (v .windows i)) k
+      at i k true = sym (bar-handed (v .windows i) (r .number) k)
+      at i k false = refl
+
 -- ---- a reception
 
 abbrev LogRead : (ℕ → ℕ → Bool) → Reading → Type 0
@@ -218,7 +247,10 @@ module _ (f : ℕ → ℕ → Bool) where
 
   read-log : (x y : Reading) (h : Heard) → Fine h → FitRead x → FrameRead x y h → LogRead f x → LogRead f y
   read-log x y h k fit (other q s) log = quiet-log (viewIn x) (viewIn y) (eventsIn (x .words)) (eventsIn (y .words)) (s .view) (s .events) log
-  read-log x y h k fit (unkept flags field p b q s) log = quiet-log (viewIn x) (viewIn y) (eventsIn (x .words)) (eventsIn (y .words)) (s .view) (s .events) log
+  read-log x y h k fit (unkept flags field p b q z s) log = quiet-log (viewIn x) (viewIn y) (eventsIn (x .words)) (eventsIn (y .words)) (s .view) (s .events) log
+  read-log x y h k fit (barred flags field p b q s) log =
+      quiet-log (viewBarred (viewIn x) (flags % 64) (offeredIn x flags field p)) (viewIn y) (eventsIn (x .words)) (eventsIn (y .words)) (s .view) (s .events)
+      (barred-log f (viewIn x) (eventsIn (x .words)) log (fit .view) (flags % 64) field p (omega (arith, k .2)))
   read-log x y h k fit (piece flags field p b q s) log =
       let z = piece-log f (viewIn x) (eventsIn (x .words)) log (fit .view) (flags % 64) field p (omega (arith, k .2)) in
       subst (λ (u : View). Log f u (eventsIn (y .words))) (sym (s .view)) (subst (Log f (viewAfter (viewIn x) (flags % 64) (offeredIn x flags field p))) (sym (s .events)) z)

@@ -1,28 +1,28 @@
 -- Pieces of two boats, each with a cell and no message landing, in either order: each piece changes what is held of its own message by what was held of it, and leaves
 -- what is held of every other. Assumes nothing.
 use mathlib.Core.Path.{_≡_, refl, sym, ap, ap₂, _∙_, subst}
-use mathlib.Core.Bool.{Bool, true, false, cond, _&&_}
-use mathlib.Core.List.{List}
+use mathlib.Core.Bool.{Bool, true, false, cond, _&&_, _||_}
+use mathlib.Core.List.{List, []}
 use mathlib.Core.Logic.{_⊎_, inl, inr, ⊎-elim}
 use Prim.Native.Nat.{ℕ, _+_, _*_, _/_, _%_, _^_, _≤_, _<_}
 use native.Mathlib.Omega.{arith}
 use lib.Dec.{leb, eqb}
-use lib.ListN.{length, getD, take}
+use lib.ListN.{length, getD, take, length-set}
 use lib.Seq.{getD-set-same, getD-take, length-take-le}
 use borrow.Author.Tests.{leb-true}
-use Rattle.bits.specs.Mask.{hasBit, withBit}
-use Rattle.bits.proofs.Laws.{with-same}
+use Rattle.bits.specs.Mask.{hasBit, withBit, withoutBit}
+use Rattle.bits.proofs.Laws.{with-same, without-same, without-other}
 use Rattle.bits.proofs.Lists.{cond-true, cond-false, cond-keeps, cases, eq-or-not, never-both}
 use Rattle.wire.specs.declared.number.Number.{Number}
 use Rattle.wire.specs.declared.number.Number.the-variants.{Is, Before}
 use Rattle.wire.specs.Numbers.{widened}
 use Rattle.inbox.specs.declared.cell.Cell.{Cell}
 use Rattle.inbox.specs.declared.keep.Kept.{Kept}
-use Rattle.inbox.specs.declared.keep.Kept.the-variants.{Yes}
+use Rattle.inbox.specs.declared.keep.Kept.the-variants.{Yes, Overlong}
 use Rattle.inbox.specs.Cells.{Held, held}
 use Rattle.inbox.specs.Keeping.{keptOf}
 use Rattle.inbox.specs.declared.store.Landed.the-variants.{Bytes, NotYet}
-use Rattle.inbox.specs.Messages.{Fits, emptyCell, announced, landed}
+use Rattle.inbox.specs.Messages.{Fits, emptyCell, empty, announced, landed, showsOf}
 use Rattle.inbox.specs.Stores.{cellOf, landedOf}
 use Rattle.inbox.specs.Box.{Box, take-in, pieces-of, box-of}
 use Rattle.inbox.proofs.Apart.{in-same, in-other}
@@ -33,25 +33,26 @@ use Rattle.inbox.proofs.Steps.{empty-fits}
 use Rattle.stream.specs.declared.window.Window.{Window}
 use Rattle.stream.specs.declared.table.Room.{Room}
 use Rattle.stream.specs.declared.table.Room.the-variants.{Own, Free, Full}
-use Rattle.stream.specs.Window.{handedOf, freshOf, landOf}
-use Rattle.stream.specs.Table.{Table, Accepted, accept, noCell, isOwn, cellAt, cellCount, cellFor, placeOf, hasRoom, ownerOf, roomFor, tableRoom, changes, hasLanded, putIn}
+use Rattle.stream.specs.Window.{handedOf, barredOf, freshOf, landOf}
+use Rattle.stream.specs.Table.{Table, Accepted, accept, noCell, isOwn, cellAt, cellCount, cellFor, heldFor, placeOf, hasRoom, ownerOf, roomFor, tableRoom, changes, bars, hasLanded, putIn, barredTable}
 use Rattle.stream.proofs.Rooms.{RoomIs, room-is, own-filling, filling-own, owner-same, cells-are}
-use Rattle.stream.proofs.Tables.{Tidy, filling, kept-other, filling-other, place-in}
+use Rattle.stream.proofs.Tables.{Tidy, filling, kept-other, filling-other, freed-other, place-in}
 use Rattle.stream.proofs.Windows.{Sound, sound-next}
-use Rattle.stream.proofs.Accepts.{leftAs, answerOf, cellIn, heldAfter, putAs, accept-cases, accept-tidy, after-length, after-fits, open-window}
+use Rattle.stream.proofs.Accepts.{leftAs, barredAs, answerOf, cellIn, heldAfter, putAs, accept-cases, accept-tidy, after-length, after-fits, open-window}
+use Rattle.roster.specs.Members.{barredOne}
 use Rattle.net.specs.declared.Station.{Station}
-use Rattle.net.specs.State.{memberAt, tableOf}
+use Rattle.net.specs.State.{indexOf, memberAt, tableOf}
 use Rattle.net.specs.Net.{isMember}
 use Rattle.frames.specs.declared.Air.{Air}
 use Rattle.frames.specs.Reading.{Reading}
-use Rattle.frames.specs.Pieces.{isRelayed, relayIf, trafficIf, unkeptAt, keptPiece, pieceFrame}
+use Rattle.frames.specs.Pieces.{isRelayed, relayIf, trafficIf, unkeptAt, barredPiece, keptPiece, pieceFrame}
 use Rattle.rx.specs.Reception.{firstReading}
 use Rattle.promise.specs.Promise.{Net}
 use Rattle.laws.specs.Laws.{noneYet, boxIn, Up, readsUp, both, IsUp, numberOf, CellFor, Cells, LandsNone, Commutes}
 use Rattle.promise.proofs.Ties.{View}
 use Rattle.promise.proofs.Quiet.{windowAt}
-use Rattle.promise.proofs.Readings.{piece-view, piece-long}
-use Rattle.promise.proofs.Sounds.{Fit}
+use Rattle.promise.proofs.Readings.{piece-view, piece-long, written-keeps}
+use Rattle.promise.proofs.Sounds.{Fit, accept-bar}
 
 -- ---- what is held of the message of an owner
 
@@ -64,6 +65,10 @@ boxAt t store o = boxIn (roomAt t o) t store
 -- the numbers that the kept rule is asked of
 abbrev asked : Table → ℕ → Cell
 asked t o = cellFor (roomAt t o) (cellAt t (placeOf (roomAt t o)))
+
+-- the same with its bytes
+abbrev shown : Table → List ℕ → ℕ → Held
+shown t store o = heldFor (roomAt t o) (cellAt t (placeOf (roomAt t o))) store
 
 abbrev NotOwn : Room → Type 0
 NotOwn (Own c) = ⊥
@@ -105,6 +110,19 @@ same-asked t store t′ store′ o (inl (c, w)) =
     ∙ sym (ap (λ (r : Room). cellFor r (cellAt t (placeOf r))) (w .was))
 same-asked t store t′ store′ o (inr w) =
     none-asked (roomAt t′ o) (cellAt t′ (placeOf (roomAt t′ o))) (w .1) ∙ sym (none-asked (roomAt t o) (cellAt t (placeOf (roomAt t o))) (w .0))
+
+none-shown : (r : Room) (x : Cell) (store : List ℕ) → NotOwn r → heldFor r x store ≡ empty []
+none-shown (Own c) x store z = absurd z
+none-shown (Free c) x store z = refl
+none-shown Full x store z = refl
+
+same-shown : (t : Table) (store : List ℕ) (t′ : Table) (store′ : List ℕ) (o : ℕ) → SameAt t store t′ store′ o → shown t′ store′ o ≡ shown t store o
+same-shown t store t′ store′ o (inl (c, w)) =
+    ap (λ (r : Room). heldFor r (cellAt t′ (placeOf r)) store′) (w .is)
+    ∙ ap₂ (λ (x : Cell) (bs : List ℕ). held x bs) (w .cell) (w .bytes)
+    ∙ sym (ap (λ (r : Room). heldFor r (cellAt t (placeOf r)) store) (w .was))
+same-shown t store t′ store′ o (inr w) =
+    none-shown (roomAt t′ o) (cellAt t′ (placeOf (roomAt t′ o))) store′ (w .1) ∙ sym (none-shown (roomAt t o) (cellAt t (placeOf (roomAt t o))) store (w .0))
 
 -- ---- rooms of a tidy table
 
@@ -206,9 +224,13 @@ number-same n k j p q = cc
 number-none : (n : Number) (k : ℕ) → n ≡ Is k → n ≡ Before → ⊥
 number-none n k p q = let z : _≡_ {A = ℕ} 0 1 = cc in omega arith
 
--- what a piece of message k makes of what is held of it
-abbrev grown : ℕ → ℕ → List ℕ → Cell → Box → Box
-grown k o p x b = cond (changes (keptOf false k o (length p) true x)) (take-in b o p) b
+-- the rule's answer, by the cell that is asked and whether the number is barred
+abbrev ruled : ℕ → ℕ → List ℕ → Bool → Held → Cell → Kept
+ruled k o p barred g x = keptOf k o (length p) (barred || showsOf g o p) true x
+
+-- what a piece of message k makes of what is held of it: it is taken, or nothing is held any more, or it changes nothing
+abbrev grownBy : Kept → ℕ → List ℕ → Box → Box
+grownBy a o p b = cond (changes a) (take-in b o p) (cond (bars a) noneYet b)
 
 -- the message has landed, by what is held of it
 abbrev landsIn : Box → Bool
@@ -232,8 +254,8 @@ lands-box h fits =
     front a = ap₂ (λ (x y : ℕ). x + 256 * y) (getD-take j (h .bytes) 0 0 (omega arith)) (getD-take j (h .bytes) 1 0 (omega arith))
 
 -- a piece of message k lands it
-abbrev landsBy : ℕ → ℕ → List ℕ → Cell → Box → Bool
-landsBy k o p x b = changes (keptOf false k o (length p) true x) && landsIn (take-in b o p)
+abbrev landsBy : Kept → ℕ → List ℕ → Box → Bool
+landsBy a o p b = changes a && landsIn (take-in b o p)
 
 module _ (t : Table) (w : Window) (store : List ℕ) (slot field : ℕ) (p : List ℕ) (tidy : Tidy t store) (short : length p ≤ 255) where
   abbrev off : ℕ
@@ -251,7 +273,7 @@ module _ (t : Table) (w : Window) (store : List ℕ) (slot field : ℕ) (p : Lis
       (λ none. inr (not-own t store tidy o none, not-own t store tidy o none)) (by-room t store tidy o)
 
   -- ---- a kept piece of message k
-  module _ (k : ℕ) (yes : answerOf t slot k off p ≡ Yes) where
+  module _ (k : ℕ) (yes : answerOf t w store slot k off p ≡ Yes) where
     abbrev c : ℕ
     c = cellIn t slot k
 
@@ -265,10 +287,10 @@ module _ (t : Table) (w : Window) (store : List ℕ) (slot field : ℕ) (p : Lis
     store′ = putAs t w store slot k off p .store
 
     celled : hasRoom (tableRoom t slot k) ≡ true
-    celled = yes-is false k off (length p) (hasRoom (tableRoom t slot k)) (asked t (ownerOf slot k)) yes .celled
+    celled = yes-is _ _ _ _ _ _ yes .celled
 
     ends : off + length p ≤ 2048
-    ends = yes-is false k off (length p) (hasRoom (tableRoom t slot k)) (asked t (ownerOf slot k)) yes .fits
+    ends = yes-is _ _ _ _ _ _ yes .fits
 
     low : c < 64
     low = place-in t store tidy slot k .0
@@ -318,11 +340,71 @@ module _ (t : Table) (w : Window) (store : List ℕ) (slot field : ℕ) (p : Lis
         let n = tidy .cells in
         let l = low in
         let open-yet : hasBit (t′ .landed) c ≡ false =
-        ap (λ (b : Bool). hasBit (cond b (withBit (t .landed) c) (t .landed)) c) quiet ∙ open-here t store tidy (ownerOf slot k) celled in
+        ap (λ (b : Bool). hasBit (cond b (withBit (t .landed) c) (withoutBit (t .landed) c)) c) quiet ∙ without-same (t .landed) c in
         ap (λ (x : Room). boxIn x t′ store′)
         (own-room t′ store′ tidy′ (ownerOf slot k) c (record { taken = with-same (t .busy) c low; open-yet = open-yet; holds = owner-here }))
         ∙ ap₂ (λ (x : Cell) (bs : List ℕ). box-of (held x bs)) (getD-set-same (t .cells) c (h .cell) noCell (omega arith)) (in-same store c (h .bytes) in-store long)
         ∙ box-after
+
+  -- ---- a piece of message k, which claims too much: nothing is held of it any more
+  module _ (k : ℕ) where
+    abbrev barredNow : Table
+    barredNow = barredTable t (tableRoom t slot k)
+
+    -- a cell that fills after it filled before, and with another message
+    barred-filling : (r : Room) → RoomIs (t .owners) (t .busy) (t .landed) (ownerOf slot k) (cellCount (t .count)) r → (d o : ℕ) → filling (barredTable t r) d o
+        → filling t d o × (o ≡ ownerOf slot k → ⊥)
+    barred-filling (Own c) q d o f =
+        let n : d ≡ c → ⊥ = λ e. never-both (hasBit (withoutBit (t .busy) c) d) (f .taken) (ap (hasBit (withoutBit (t .busy) c)) e ∙ without-same (t .busy) c) in
+        let r = freed-other t store tidy c d n in
+        let g : filling t d o = record { taken = sym (r .0) ∙ f .taken; open-yet = sym (r .1) ∙ f .open-yet; holds = f .holds } in
+        (g, λ e. n (tidy .one d c (ownerOf slot k) (subst (filling t d) e g) (q .filling)))
+    barred-filling (Free c) q d o f = (f, λ e. found t store tidy (ownerOf slot k) d (subst (filling t d) e f) (q .none))
+    barred-filling Full q d o f = (f, λ e. found t store tidy (ownerOf slot k) d (subst (filling t d) e f) (q .none))
+
+    was-filling : (d o : ℕ) → filling barredNow d o → filling t d o × (o ≡ ownerOf slot k → ⊥)
+    was-filling = barred-filling (tableRoom t slot k) (here t store tidy (ownerOf slot k))
+
+    own-barred : Tidy barredNow store → boxAt barredNow store (ownerOf slot k) ≡ noneYet
+    own-barred tidy′ =
+        none-box (roomAt barredNow (ownerOf slot k)) barredNow store
+        (not-own barredNow store tidy′ (ownerOf slot k) (λ d f. was-filling d (ownerOf slot k) f .1 refl))
+
+    still-filling : (r : Room) → RoomIs (t .owners) (t .busy) (t .landed) (ownerOf slot k) (cellCount (t .count)) r → (d o : ℕ) → (o ≡ ownerOf slot k → ⊥) → filling t d o
+        → filling (barredTable t r) d o
+    still-filling (Own c) q d o z f =
+        let r = freed-other t store tidy c d (λ e. z (sym (f .holds) ∙ ap (λ (y : ℕ). getD (t .owners) y 0) e ∙ q .filling .holds)) in
+        record { taken = r .0 ∙ f .taken; open-yet = r .1 ∙ f .open-yet; holds = f .holds }
+    still-filling (Free c) q d o z f = f
+    still-filling Full q d o z f = f
+
+    cells-barred : (r : Room) → barredTable t r .cells ≡ t .cells
+    cells-barred (Own c) = refl
+    cells-barred (Free c) = refl
+    cells-barred Full = refl
+
+    other-barred : Tidy barredNow store → (o : ℕ) → (o ≡ ownerOf slot k → ⊥) → SameAt t store barredNow store o
+    other-barred tidy′ o z =
+        ⊎-elim
+        (λ f.
+        inl (
+          f .0,
+          record {
+            was = own-room t store tidy o (f .0) (f .1);
+            is = own-room barredNow store tidy′ o (f .0) (still-filling (tableRoom t slot k) (here t store tidy (ownerOf slot k)) (f .0) o z (f .1));
+            cell = ap (λ (l : List Cell). getD l (f .0) noCell) (cells-barred (tableRoom t slot k));
+            bytes = refl;
+          },
+        ))
+        (λ none. inr (not-own t store tidy o none, not-own barredNow store tidy′ o (λ d f. none d (was-filling d o f .0))))
+        (by-room t store tidy o)
+
+    free-barred : (r : Room) (a : ℕ) → a < t .count → hasBit (t .busy) a ≡ false
+        → (a < barredTable t r .count) × (hasBit (barredTable t r .busy) a ≡ false)
+    free-barred (Own c) a l e =
+        (l, ⊎-elim (λ q. ap (hasBit (withoutBit (t .busy) c)) q ∙ without-same (t .busy) c) (λ q. without-other (t .busy) c a (λ v. q (sym v)) ∙ e) (eq-or-not a c))
+    free-barred (Free c) a l e = (l, e)
+    free-barred Full a l e = (l, e)
 
   -- ---- any piece
 
@@ -330,61 +412,74 @@ module _ (t : Table) (w : Window) (store : List ℕ) (slot field : ℕ) (p : Lis
   other : (o : ℕ) → ((k : ℕ) → Named w field k → o ≡ ownerOf slot k → ⊥) → SameAt t store (r .table) (r .store) o
   other o z =
       accept-cases t w store slot field p (λ x. Tidy (x .table) (x .store) → SameAt t store (x .table) (x .store) o)
-      (λ e d. same-at o) (λ k e h d. same-at o) (λ k u a q c d. same-at o)
+      (λ e d. same-at o) (λ k e h d. same-at o) (λ k u a q c v d. same-at o)
+      (λ k u q d. other-barred k d o (z k (record { is = u .is; fresh = u .fresh })))
       (λ k u q d. other-put k q d o (z k (record { is = u .is; fresh = u .fresh }))) tidy-after
 
   -- its own message is held as the rule says, by what was held of it
+  abbrev rule : ℕ → Kept
+  rule k = ruled k off p (barredOf w k) (shown t store (ownerOf slot k)) (asked t (ownerOf slot k))
+
+  -- the rule's answer is this, where there is room
+  rule-is : (k : ℕ) (a : Kept) → answerOf t w store slot k off p ≡ a → hasRoom (tableRoom t slot k) ≡ true → rule k ≡ a
+  rule-is k a q room =
+      ap (λ (b : Bool). keptOf k off (length p) (barredOf w k || showsOf (shown t store (ownerOf slot k)) off p) b (asked t (ownerOf slot k))) (sym room) ∙ q
+
   abbrev Grows : Accepted → ℕ → Type 0
   Grows x k =
-      hasRoom (tableRoom t slot k) ≡ true → boxAt (x .table) (x .store) (ownerOf slot k) ≡ grown k off p (asked t (ownerOf slot k)) (boxAt t store (ownerOf slot k))
+      hasRoom (tableRoom t slot k) ≡ true → boxAt (x .table) (x .store) (ownerOf slot k) ≡ grownBy (rule k) off p (boxAt t store (ownerOf slot k))
 
   own : (k : ℕ) → Named w field k → hasLanded (r .landed) ≡ false → Grows r k
   own k m quiet =
       accept-cases t w store slot field p (λ x. Tidy (x .table) (x .store) → hasLanded (x .landed) ≡ false → Grows x k)
       (λ e d q. absurd (number-none _ k (m .is) e))
       (λ j e h d q. absurd (never-both (handedOf w j) h (ap (handedOf w) (number-same _ j k e (m .is)) ∙ m .fresh)))
-      (λ j u a q c d v. subst (Grows (leftAs t w store (cellIn t slot j) j a)) (number-same _ j k (u .is) (m .is)) (left j a q c))
+      (λ j u a q c z d v. subst (Grows (leftAs t w store (cellIn t slot j) j a)) (number-same _ j k (u .is) (m .is)) (left j a q c z))
+      (λ j u q d v. subst (Grows (barredAs t w store slot j)) (number-same _ j k (u .is) (m .is)) (bar j q d))
       (λ j u q d v. subst (Grows (putAs t w store slot j off p)) (number-same _ j k (u .is) (m .is)) (put j q d v))
       tidy-after quiet
     where
-      left : (j : ℕ) (a : Kept) → answerOf t slot j off p ≡ a → changes a ≡ false → Grows (leftAs t w store (cellIn t slot j) j a) j
-      left j a q c room =
-          sym (cond-false (changes (keptOf false j off (length p) true (asked t (ownerOf slot j)))) _ _
-          (ap (λ (b : Bool). changes (keptOf false j off (length p) b (asked t (ownerOf slot j)))) (sym room) ∙ ap changes q ∙ c))
+      left : (j : ℕ) (a : Kept) → answerOf t w store slot j off p ≡ a → changes a ≡ false → bars a ≡ false → Grows (leftAs t w store (cellIn t slot j) j a) j
+      left j a q c z room =
+          let b = boxAt t store (ownerOf slot j) in
+          sym
+          (ap (λ (x : Kept). grownBy x off p b) (rule-is j a q room)
+          ∙ cond-false (changes a) (take-in b off p) (cond (bars a) noneYet b) c
+          ∙ cond-false (bars a) noneYet b z)
 
-      put : (j : ℕ) (q : answerOf t slot j off p ≡ Yes) → Tidy (putAs t w store slot j off p .table) (putAs t w store slot j off p .store)
+      bar : (j : ℕ) → answerOf t w store slot j off p ≡ Overlong → Tidy (barredAs t w store slot j .table) store → Grows (barredAs t w store slot j) j
+      bar j q d room = own-barred j d ∙ sym (ap (λ (x : Kept). grownBy x off p (boxAt t store (ownerOf slot j))) (rule-is j Overlong q room))
+
+      put : (j : ℕ) (q : answerOf t w store slot j off p ≡ Yes) → Tidy (putAs t w store slot j off p .table) (putAs t w store slot j off p .store)
           → hasLanded (putAs t w store slot j off p .landed) ≡ false → Grows (putAs t w store slot j off p) j
-      put j q d v room =
-          own-put j q d v
-          ∙ sym (cond-true (changes (keptOf false j off (length p) true (asked t (ownerOf slot j)))) _ _
-          (ap (λ (b : Bool). changes (keptOf false j off (length p) b (asked t (ownerOf slot j)))) (sym room) ∙ ap changes q))
+      put j q d v room = own-put j q d v ∙ sym (ap (λ (x : Kept). grownBy x off p (boxAt t store (ownerOf slot j))) (rule-is j Yes q room))
 
   -- it lands as the rule says
   abbrev Lands : Accepted → ℕ → Type 0
   Lands x k =
-      hasRoom (tableRoom t slot k) ≡ true → hasLanded (x .landed) ≡ landsBy k off p (asked t (ownerOf slot k)) (boxAt t store (ownerOf slot k))
+      hasRoom (tableRoom t slot k) ≡ true → hasLanded (x .landed) ≡ landsBy (rule k) off p (boxAt t store (ownerOf slot k))
 
   lands : (k : ℕ) → Named w field k → Lands r k
   lands k m =
       accept-cases t w store slot field p (λ x. Lands x k)
       (λ e. absurd (number-none _ k (m .is) e))
       (λ j e h. absurd (never-both (handedOf w j) h (ap (handedOf w) (number-same _ j k e (m .is)) ∙ m .fresh)))
-      (λ j u a q c. subst (Lands (leftAs t w store (cellIn t slot j) j a)) (number-same _ j k (u .is) (m .is)) (left j a q c))
+      (λ j u a q c z. subst (Lands (leftAs t w store (cellIn t slot j) j a)) (number-same _ j k (u .is) (m .is)) (left j a q c))
+      (λ j u q. subst (Lands (barredAs t w store slot j)) (number-same _ j k (u .is) (m .is)) (left j Overlong q refl))
       (λ j u q. subst (Lands (putAs t w store slot j off p)) (number-same _ j k (u .is) (m .is)) (put j q))
     where
-      left : (j : ℕ) (a : Kept) → answerOf t slot j off p ≡ a → changes a ≡ false → Lands (leftAs t w store (cellIn t slot j) j a) j
+      left : (j : ℕ) (a : Kept) → answerOf t w store slot j off p ≡ a → changes a ≡ false
+          → hasRoom (tableRoom t slot j) ≡ true → false ≡ landsBy (rule j) off p (boxAt t store (ownerOf slot j))
       left j a q c room =
-          sym (ap (λ (b : Bool). b && landsIn (take-in (boxAt t store (ownerOf slot j)) off p))
-          (ap (λ (b : Bool). changes (keptOf false j off (length p) b (asked t (ownerOf slot j)))) (sym room) ∙ ap changes q ∙ c))
+          sym (ap (λ (b : Bool). b && landsIn (take-in (boxAt t store (ownerOf slot j)) off p)) (ap changes (rule-is j a q room) ∙ c))
 
-      put : (j : ℕ) (q : answerOf t slot j off p ≡ Yes) → Lands (putAs t w store slot j off p) j
+      put : (j : ℕ) (q : answerOf t w store slot j off p ≡ Yes) → Lands (putAs t w store slot j off p) j
       put j q room =
           let f = after-fits t w store slot field p tidy short j q .joined in
           let l = long j q in
           lands-box (h j q) (omega arith)
           ∙ ap landsIn (box-after j q)
-          ∙ sym (ap (λ (b : Bool). b && landsIn (take-in (boxAt t store (ownerOf slot j)) off p))
-          (ap (λ (b : Bool). changes (keptOf false j off (length p) b (asked t (ownerOf slot j)))) (sym room) ∙ ap changes q))
+          ∙ sym (ap (λ (b : Bool). b && landsIn (take-in (boxAt t store (ownerOf slot j)) off p)) (ap changes (rule-is j Yes q room)))
 
   -- ---- a cell is free after a piece: a, which was, or else b, which was for the piece
 
@@ -394,10 +489,11 @@ module _ (t : Table) (w : Window) (store : List ℕ) (slot field : ℕ) (p : Lis
   spare : (a b : ℕ) → (a ≡ b → ⊥) → a < t .count → hasBit (t .busy) a ≡ false → CellFor (widened (field / 65536 % 256) (w .next)) slot t b → Spare (r .table)
   spare a b z low-a free-a for-b =
       accept-cases t w store slot field p (λ x. Spare (x .table))
-      (λ e. (a, low-a, free-a)) (λ k e h. (a, low-a, free-a)) (λ k u y q v. (a, low-a, free-a))
+      (λ e. (a, low-a, free-a)) (λ k e h. (a, low-a, free-a)) (λ k u y q v z. (a, low-a, free-a))
+      (λ k u q. let i = free-barred k (tableRoom t slot k) a low-a free-a in (a, i .0, i .1))
       (λ k u q. put k q (subst (λ (n : Number). CellFor n slot t b) (u .is) for-b))
     where
-      put : (k : ℕ) (q : answerOf t slot k off p ≡ Yes) → CellFor (Is k) slot t b → Spare (putAs t w store slot k off p .table)
+      put : (k : ℕ) (q : answerOf t w store slot k off p ≡ Yes) → CellFor (Is k) slot t b → Spare (putAs t w store slot k off p .table)
       put k q g =
           ⊎-elim (λ e. ⊎-elim (λ i. absurd (z (e ∙ own-is i))) (λ i. (b, i .0, stays b (λ j. z (e ∙ sym j)) (i .1))) g)
           (λ n. (a, low-a, stays a n free-a)) (eq-or-not a (cellIn t slot k))
@@ -478,13 +574,23 @@ module _ (n : Net) (f : Fit n) where
         same-box (one x .table) (one x .store) (two n x y .table) (two n x y .store) o
         (other (one x .table) (win y) (one x .store) (y .slot) (y .field) (y .bytes) (tidy-one x u) (v .short) o (not-its k m))
         ∙ own-at t₀ (n .store) (f .view .tidy) a
-        ∙ sym (ap₂ (grown k (x .field % 65536) (x .bytes)) (same-asked t₀ (n .store) (one y .table) (one y .store) o ty) (same-box t₀ (n .store) (one y .table) (one y .store) o ty))
+        ∙ sym
+        (ap (λ (g : Held). grownBy (ruled k off₀ (x .bytes) bar₀ g (asked (one y .table) o)) off₀ (x .bytes) (boxAt (one y .table) (one y .store) o))
+        (same-shown t₀ (n .store) (one y .table) (one y .store) o ty)
+        ∙ ap₂ (λ (c : Cell) (b : Box). grownBy (ruled k off₀ (x .bytes) bar₀ (shown t₀ (n .store) o) c) off₀ (x .bytes) b)
+        (same-asked t₀ (n .store) (one y .table) (one y .store) o ty) (same-box t₀ (n .store) (one y .table) (one y .store) o ty))
         ∙ sym (own-at (one y .table) (one y .store) (tidy-one y v) b)
       where
+        off₀ : ℕ
+        off₀ = x .field % 65536
+
+        bar₀ : Bool
+        bar₀ = barredOf (win x) k
+
         own-at : (t : Table) (store : List ℕ) → Tidy t store → Calm x k t store
-            → boxAt (takes s x t store .table) (takes s x t store .store) o ≡ grown k (x .field % 65536) (x .bytes) (asked t o) (boxAt t store o)
+            → boxAt (takes s x t store .table) (takes s x t store .store) o ≡ grownBy (ruled k off₀ (x .bytes) bar₀ (shown t store o) (asked t o)) off₀ (x .bytes) (boxAt t store o)
         own-at t store tidy calm =
-            subst (λ (z : ℕ). boxAt (takes s x t store .table) (takes s x t store .store) z ≡ grown k (x .field % 65536) (x .bytes) (asked t z) (boxAt t store z))
+            subst (λ (z : ℕ). boxAt (takes s x t store .table) (takes s x t store .store) z ≡ grownBy (ruled k off₀ (x .bytes) bar₀ (shown t store z) (asked t z)) off₀ (x .bytes) (boxAt t store z))
             (sym (m .1))
             (own t (win x) store (x .slot) (x .field) (x .bytes) tidy (u .short) k (m .0) (calm .quiet) (calm .room))
 
@@ -514,7 +620,9 @@ module _ (n : Net) (f : Fit n) where
         record {
           room = room;
           quiet = lands (one y .table) (win x) (one y .store) (x .slot) (x .field) (x .bytes) (tidy-one y v) (u .short) k (m .0) room
-              ∙ ap₂ (landsBy k (x .field % 65536) (x .bytes))
+              ∙ ap (λ (g : Held). landsBy (ruled k (x .field % 65536) (x .bytes) (barredOf (win x) k) g (asked (one y .table) (ownerOf (x .slot) k))) (x .field % 65536) (x .bytes) (boxAt (one y .table) (one y .store) (ownerOf (x .slot) k)))
+              (same-shown t₀ (n .store) (one y .table) (one y .store) (ownerOf (x .slot) k) same)
+              ∙ ap₂ (λ (c : Cell) (b : Box). landsBy (ruled k (x .field % 65536) (x .bytes) (barredOf (win x) k) (shown t₀ (n .store) (ownerOf (x .slot) k)) c) (x .field % 65536) (x .bytes) b)
               (same-asked t₀ (n .store) (one y .table) (one y .store) (ownerOf (x .slot) k) same) (same-box t₀ (n .store) (one y .table) (one y .store) (ownerOf (x .slot) k) same)
               ∙ sym (lands t₀ (win x) (n .store) (x .slot) (x .field) (x .bytes) (f .view .tidy) (u .short) k (m .0) (calm-alone k m c g q .room))
               ∙ q;
@@ -559,12 +667,14 @@ module _ (n : Net) (f : Fit n) where
 
 -- ---- as frames are read
 
--- a piece that is not kept changes no cell
+-- a piece that is not kept changes no cell, where its message claims no more than a cell can join
 lost-same : (t : Table) (w : Window) (store : List ℕ) (slot field : ℕ) (p : List ℕ) → accept t w store slot field p .lost ≡ true
+    → accept t w store slot field p .bars ≡ false
     → (accept t w store slot field p .table ≡ t) × (accept t w store slot field p .store ≡ store)
 lost-same t w store slot field p =
-    accept-cases t w store slot field p (λ x. x .lost ≡ true → (x .table ≡ t) × (x .store ≡ store))
-    (λ e q. absurd (never-both false q refl)) (λ k e h q. absurd (never-both false q refl)) (λ k u a e c q. (refl, refl)) (λ k u e q. absurd (never-both false q refl))
+    accept-cases t w store slot field p (λ x. x .lost ≡ true → x .bars ≡ false → (x .table ≡ t) × (x .store ≡ store))
+    (λ e q z. absurd (never-both false q refl)) (λ k e h q z. absurd (never-both false q refl)) (λ k u a e c y q z. (refl, refl))
+    (λ k u e q z. absurd (never-both true refl z)) (λ k u e q z. absurd (never-both false q refl))
 
 module _ (a : Air) (x : Up) (r : Reading) (here : isMember (r .station .used) (x .slot) ≡ true) (many : length (r .station .members) ≡ 62) where
   abbrev d : Accepted
@@ -575,7 +685,7 @@ module _ (a : Air) (x : Up) (r : Reading) (here : isMember (r .station .used) (x
     pub store : z .store ≡ d .store
     pub used : z .station .used ≡ r .station .used
     pub long : length (z .station .members) ≡ 62
-    pub windows : hasLanded (d .landed) ≡ false → (i : ℕ) → windowAt (z .station) i ≡ windowAt (r .station) i
+    pub windows : hasLanded (d .landed) ≡ false → (i : ℕ) → (i ≡ x .slot → ⊥) → windowAt (z .station) i ≡ windowAt (r .station) i
 
   relay-used : (b : Bool) (s : Station) → relayIf b s .used ≡ s .used
   relay-used true s = refl
@@ -593,7 +703,7 @@ module _ (a : Air) (x : Up) (r : Reading) (here : isMember (r .station .used) (x
         store = refl;
         used = relay-used (isRelayed a (r .station) (x .slot) d) _ ∙ traffic-used (hasLanded (d .landed)) _;
         long = piece-long a (x .slot) d r here many;
-        windows = λ q i.
+        windows = λ q i z.
             ap (λ (y : View). y .windows i) v
             ∙ ap (λ (b : Bool). cond (b && eqb (x .slot) i) (landOf (windowAt (r .station) i) (d .number)) (windowAt (r .station) i)) q;
       }
@@ -602,18 +712,30 @@ module _ (a : Air) (x : Up) (r : Reading) (here : isMember (r .station .used) (x
   unfolding pieceFrame
   read-as =
       cond-keeps ReadAs (isMember (r .station .used) (x .slot)) _ r
-      (λ _. cond-keeps ReadAs (d .lost) (unkeptAt r) (keptPiece a (x .slot) d r)
+      (λ _. cond-keeps ReadAs (d .lost) (unkeptAt (cond (d .bars) (barredPiece (x .slot) d r) r)) (keptPiece a (x .slot) d r)
       (λ q.
-      let z = lost-same (tableOf (r .station)) (memberAt (r .station) (x .slot) .up) (r .store) (x .slot) (x .field) (x .bytes) q in
-      record { table = sym (z .0); store = sym (z .1); used = refl; long = many; windows = λ _ i. refl })
+      cond-keeps (λ (y : Reading). ReadAs (unkeptAt y)) (d .bars) (barredPiece (x .slot) d r) r
+      (λ b.
+      record {
+        table = refl;
+        store = sym (accept-bar (tableOf (r .station)) (memberAt (r .station) (x .slot) .up) (r .store) (x .slot) (x .field) (x .bytes) b .1);
+        used = refl;
+        long = length-set (r .station .members) (indexOf (x .slot)) _ ∙ many;
+        windows = λ _.
+            written-keeps (λ i w. (i ≡ x .slot → ⊥) → w ≡ windowAt (r .station) i) (r .station .used) (r .station .members) (x .slot)
+            (barredOne (memberAt (r .station) (x .slot)) (d .number)) here many (λ z. absurd (z refl)) (λ i z. refl);
+      })
+      (λ b.
+      let z = lost-same (tableOf (r .station)) (memberAt (r .station) (x .slot) .up) (r .store) (x .slot) (x .field) (x .bytes) q b in
+      record { table = sym (z .0); store = sym (z .1); used = refl; long = many; windows = λ _ i _. refl }))
       (λ q. kept-as))
       (λ q. absurd (never-both (isMember (r .station .used) (x .slot)) here q))
 
 module _ (n : Net) (f : Fit n) where
   -- the cells and the store after two frames
-  both-is : (a b : Air) (x y : Up) → IsUp (n .station) x → IsUp (n .station) y → LandsNone n x
+  both-is : (a b : Air) (x y : Up) → IsUp (n .station) x → IsUp (n .station) y → (y .slot ≡ x .slot → ⊥) → LandsNone n x
       → (tableOf (both n a x b y .station) ≡ two n x y .table) × (both n a x b y .store ≡ two n x y .store)
-  both-is a b x y u v q =
+  both-is a b x y u v apart q =
       let r = firstReading (n .station) (n .store) in
       let z = readsUp a x r in
       let one = read-as a x r (u .boat) (f .long) in
@@ -621,7 +743,7 @@ module _ (n : Net) (f : Fit n) where
       let next = read-as b y z here (one .long) in
       let same : memberAt (z .station) (y .slot) .up ≡ memberAt (n .station) (y .slot) .up =
       sym (cond-true (isMember (z .station .used) (y .slot)) (memberAt (z .station) (y .slot) .up) freshOf here)
-      ∙ one .windows q (y .slot)
+      ∙ one .windows q (y .slot) apart
       ∙ cond-true (isMember (n .station .used) (y .slot)) (memberAt (n .station) (y .slot) .up) freshOf (v .boat) in
       let all : takes (z .station) y (tableOf (z .station)) (z .store) ≡ two n x y =
       ap (λ (w : Window). accept (tableOf (z .station)) w (z .store) (y .slot) (y .field) (y .bytes)) same
@@ -630,8 +752,8 @@ module _ (n : Net) (f : Fit n) where
 
   pub commutes : Commutes n
   commutes x y u v apart cells qx qy a b i k =
-      let p = both-is a b x y u v qx in
-      let q = both-is b a y x v u qy in
+      let p = both-is a b x y u v (λ e. apart (sym e)) qx in
+      let q = both-is b a y x v u apart qy in
       ap₂ (λ (t : Table) (store : List ℕ). boxAt t store (ownerOf i k)) (p .0) (p .1)
       ∙ either-way n f x y u v apart cells qx qy i k
       ∙ sym (ap₂ (λ (t : Table) (store : List ℕ). boxAt t store (ownerOf i k)) (q .0) (q .1))

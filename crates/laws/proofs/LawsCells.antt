@@ -31,10 +31,10 @@ use Rattle.inbox.proofs.Steps.{empty-fits}
 use Rattle.stream.specs.declared.window.Window.{Window}
 use Rattle.stream.specs.declared.table.Room.{Room}
 use Rattle.stream.specs.declared.table.Room.the-variants.{Own, Free, Full}
-use Rattle.stream.specs.Window.{freshOf}
-use Rattle.stream.specs.Table.{Table, noCell, cellAt, cellFor, cellCount, ownerOf, placeOf, hasRoom, joinedOf, putIn, tableRoom, freedTable}
+use Rattle.stream.specs.Window.{freshOf, barredOf}
+use Rattle.stream.specs.Table.{Table, noCell, cellAt, cellFor, cellCount, ownerOf, placeOf, hasRoom, hasOwn, isOver, joinedOf, putIn, tableRoom, freedTable}
 use Rattle.stream.specs.Table as table
-use Rattle.stream.proofs.Accepts.{answerOf, cellIn, heldAfter, putAs, accept-cases, after-length}
+use Rattle.stream.proofs.Accepts.{answerOf, cellIn, heldAfter, putAs, barredAs, accept-cases, after-length}
 use Rattle.stream.proofs.Rooms.{RoomIs}
 use Rattle.stream.proofs.Tables.{Tidy, table-room, place-in, kept-other}
 use Rattle.stream.proofs.Takes.{cell-length}
@@ -53,11 +53,11 @@ use Rattle.promise.specs.Promise.{lentTo, Net, net, ofBurst, Call, admission, r
 use Rattle.laws.specs.Laws.{from, InCells, alsoIn, wentBy, wentIn, wentAll, wentRx, wentWith, inCells, StoreOk, StoresOk, AllCut, Splits, AllSplit}
 use Rattle.promise.proofs.Ties.{View}
 use Rattle.promise.proofs.Quiet.{windowAt, viewOf}
-use Rattle.promise.proofs.WalkFrames.{viewIn, isPiece, FrameRead, other, unkept, piece, firstIn, rx-end}
+use Rattle.promise.proofs.WalkFrames.{viewIn, isPiece, FrameRead, other, unkept, barred, piece, firstIn, rx-end}
 use Rattle.promise.proofs.Messages.{admission-kept, decision-kept, sending-kept, closing-kept, reading-kept, charging-kept, same-cond}
 use Rattle.promise.proofs.Outcomes.{refusedBy, receive-cases, lent-is}
 use Rattle.promise.proofs.Signs.{sign-beside, Cleared, cleared}
-use Rattle.promise.proofs.Sounds.{Fit, FitRead, fit-frame, step-read-fit, read-fine, first-fit, quiet-view, step-fit, runs-fit}
+use Rattle.promise.proofs.Sounds.{Fit, FitRead, accept-bar, fit-frame, step-read-fit, read-fine, first-fit, quiet-view, step-fit, runs-fit}
 use Rattle.promise.proofs.Turns.{start-is}
 use Rattle.laws.proofs.LawsParts.{Took, Made, made-splits}
 
@@ -93,11 +93,24 @@ also-other (Own c) x f d n = ap (λ (b : Bool). cond b (f d ++ (x ∷ [])) (f d)
 also-other (Free c) x f d n = ap (λ (b : Bool). cond b (x ∷ []) (f d)) (ne-eqb c d (λ e. n (sym e)))
 also-other Full x f d n = refl
 
+-- fewer cells are taken, and the cells stay as they are
+fewer-traced : (f : InCells) (t u : Table) (store : List ℕ) → u .cells ≡ t .cells → ((c : ℕ) → hasBit (u .busy) c ≡ true → hasBit (t .busy) c ≡ true) → Traced f t store → Traced f u store
+fewer-traced f t u store e g d c b = subst (λ (l : List Cell). Made (held (getD l c noCell) (cellOf store c)) (f c)) (sym e) (d c (g c b))
+
+-- a cell given back
+freed-traced : (f : InCells) (t : Table) (store : List ℕ) (cell : ℕ) → Traced f t store → Traced f (freedTable t cell) store
+freed-traced f t store cell = fewer-traced f t (freedTable t cell) store refl still
+  where
+    still : (j : ℕ) → hasBit (withoutBit (t .busy) cell) j ≡ true → hasBit (t .busy) j ≡ true
+    still j b =
+        ⊎-elim (λ e. absurd (never-both _ b (ap (hasBit (withoutBit (t .busy) cell)) (sym e) ∙ without-same (t .busy) cell)))
+        (λ z. sym (without-other (t .busy) cell j z) ∙ b) (eq-or-not cell j)
+
 module _ (t : Table) (w : Window) (store : List ℕ) (slot field : ℕ) (p : List ℕ) (tidy : Tidy t store) (short : length p ≤ 255) (f : InCells) (old : Traced f t store) where
   abbrev o : ℕ
   o = field % 65536
 
-  module _ (k : ℕ) (yes : answerOf t slot k o p ≡ Yes) where
+  module _ (k : ℕ) (yes : answerOf t w store slot k o p ≡ Yes) where
     abbrev c : ℕ
     c = cellIn t slot k
 
@@ -106,17 +119,17 @@ module _ (t : Table) (w : Window) (store : List ℕ) (slot field : ℕ) (p : Lis
     own-made = go (tableRoom t slot k) (table-room t store tidy slot k) yes (place-in t store tidy slot k .1)
       where
         go : (r : Room) → RoomIs (t .owners) (t .busy) (t .landed) (ownerOf slot k) (cellCount (t .count)) r
-            → keptOf false k o (length p) (hasRoom r) (cellFor r (cellAt t (placeOf r))) ≡ Yes → 6400 * placeOf r + 6400 ≤ length store
+            → keptOf k o (length p) (isOver (barredOf w k) store r (cellAt t (placeOf r)) o p) (hasRoom r) (cellFor r (cellAt t (placeOf r))) ≡ Yes → 6400 * placeOf r + 6400 ≤ length store
             → Made (joinedOf store (placeOf r) (cellFor r (cellAt t (placeOf r))) o p) (alsoIn r (from o p) f (placeOf r))
         go (Own d) q y l =
             subst (λ (b : Bool). Made (accept (held (cellAt t d) (cellOf store d)) o p) (cond b (f d ++ (from o p ∷ [])) (f d))) (sym (eq-eqb d d refl))
-            (made-more (held (cellAt t d) (cellOf store d)) (f d) o p (old d (q .filling .taken)) (yes-is false k o (length p) true (cellAt t d) y .fits)
-            (kept-room k o true (cellAt t d) (cellOf store d) p (inl y)))
+            (made-more (held (cellAt t d) (cellOf store d)) (f d) o p (old d (q .filling .taken)) (yes-is k o (length p) _ true (cellAt t d) y .fits)
+            (kept-room k o _ true (cellAt t d) (cellOf store d) p (inl y)))
         go (Free d) q y l =
             let n = cell-length store d l in
             subst (λ (b : Bool). Made (accept (held emptyCell (cellOf store d)) o p) (cond b (from o p ∷ []) (f d))) (sym (eq-eqb d d refl))
-            (made-first (cellOf store d) o p (omega arith) (yes-is false k o (length p) true emptyCell y .fits) (kept-room k o true emptyCell (cellOf store d) p (inl y)))
-        go Full q y l = absurd (never-both false (yes-is false k o (length p) false emptyCell y .celled) refl)
+            (made-first (cellOf store d) o p (omega arith) (yes-is k o (length p) _ true emptyCell y .fits) (kept-room k o _ true emptyCell (cellOf store d) p (inl y)))
+        go Full q y l = absurd (never-both false (yes-is k o (length p) _ false emptyCell y .celled) refl)
 
     put-traced : Traced (alsoIn (tableRoom t slot k) (from o p) f) (putAs t w store slot k o p .table) (putAs t w store slot k o p .store)
     put-traced d b = ⊎-elim here there (eq-or-not d c)
@@ -150,48 +163,63 @@ module _ (t : Table) (w : Window) (store : List ℕ) (slot field : ℕ) (p : Lis
             ∙ ap (held (cellAt t d)) (in-other store c (after .bytes) (place-in t store tidy slot k .1) (after-length t w store slot field p tidy short k yes) d n (omega arith)) in
             subst (Made (now d)) (sym (also-other (tableRoom t slot k) (from o p) f d n)) (subst (λ (g : Held). Made g (f d)) (sym same) (old d taken))
 
+  -- a message that claims too much gives its cell back
+  bar-traced : (k : ℕ) → Traced f (barredAs t w store slot k .table) store
+  bar-traced k =
+      cond-keeps (λ (x : Table). Traced f x store) (hasOwn (tableRoom t slot k)) (freedTable t (placeOf (tableRoom t slot k))) t
+      (λ _. freed-traced f t store (placeOf (tableRoom t slot k)) old) (λ _. old)
+
   -- a piece, whatever becomes of it
-  piece-traced : Traced (wentBy (widened (field / 65536 % 256) (w .next)) t w slot o p f) (table.accept t w store slot field p .table) (table.accept t w store slot field p .store)
+  piece-traced : Traced (wentBy (widened (field / 65536 % 256) (w .next)) t w store slot o p f) (table.accept t w store slot field p .table) (table.accept t w store slot field p .store)
   piece-traced =
-      accept-cases t w store slot field p (λ x. Traced (wentBy (widened (field / 65536 % 256) (w .next)) t w slot o p f) (x .table) (x .store))
-      (λ e. subst (λ (n : Number). Traced (wentBy n t w slot o p f) t store) (sym e) old)
-      (λ k e h. subst (λ (n : Number). Traced (wentBy n t w slot o p f) t store) (sym e) (rw h old))
-      (λ k u a q n. subst (λ (m : Number). Traced (wentBy m t w slot o p f) t store) (sym (u .is)) (rw (u .fresh, q, n) old))
-      (λ k u q. subst (λ (m : Number). Traced (wentBy m t w slot o p f) (putAs t w store slot k o p .table) (putAs t w store slot k o p .store)) (sym (u .is))
+      accept-cases t w store slot field p (λ x. Traced (wentBy (widened (field / 65536 % 256) (w .next)) t w store slot o p f) (x .table) (x .store))
+      (λ e. subst (λ (n : Number). Traced (wentBy n t w store slot o p f) t store) (sym e) old)
+      (λ k e h. subst (λ (n : Number). Traced (wentBy n t w store slot o p f) t store) (sym e) (rw h old))
+      (λ k u a q n z. subst (λ (m : Number). Traced (wentBy m t w store slot o p f) t store) (sym (u .is)) (rw (u .fresh, q, n) old))
+      (λ k u q. subst (λ (m : Number). Traced (wentBy m t w store slot o p f) (barredAs t w store slot k .table) store) (sym (u .is)) (rw (u .fresh, q) (bar-traced k)))
+      (λ k u q. subst (λ (m : Number). Traced (wentBy m t w store slot o p f) (putAs t w store slot k o p .table) (putAs t w store slot k o p .store)) (sym (u .is))
       (rw (u .fresh, q) (put-traced k q)))
 
-  -- one that is not kept leaves the cells alone
-  lost-same : table.accept t w store slot field p .lost ≡ true → Traced (wentBy (widened (field / 65536 % 256) (w .next)) t w slot o p f) t store
-  lost-same l =
-      let s = accept-cases t w store slot field p (λ x. x .lost ≡ true → (x .table ≡ t) × (x .store ≡ store))
-      (λ e h. (refl, refl)) (λ k e g h. (refl, refl)) (λ k u a q n h. (refl, refl)) (λ k u q h. absurd (never-both false h refl)) l in
-      subst (λ (x : Table). Traced (wentBy (widened (field / 65536 % 256) (w .next)) t w slot o p f) x store) (s .0)
-      (subst (Traced (wentBy (widened (field / 65536 % 256) (w .next)) t w slot o p f) (table.accept t w store slot field p .table)) (s .1) piece-traced)
+  -- one that is not kept, and bars nothing, leaves the cells alone
+  lost-same : table.accept t w store slot field p .lost ≡ true → table.accept t w store slot field p .bars ≡ false → Traced (wentBy (widened (field / 65536 % 256) (w .next)) t w store slot o p f) t store
+  lost-same l z =
+      let s = accept-cases t w store slot field p (λ x. x .lost ≡ true → x .bars ≡ false → (x .table ≡ t) × (x .store ≡ store))
+      (λ e h b. (refl, refl)) (λ k e g h b. (refl, refl)) (λ k u a q n y h b. (refl, refl)) (λ k u q h b. absurd (never-both true refl b))
+      (λ k u q h b. absurd (never-both false h refl)) l z in
+      subst (λ (x : Table). Traced (wentBy (widened (field / 65536 % 256) (w .next)) t w store slot o p f) x store) (s .0)
+      (subst (Traced (wentBy (widened (field / 65536 % 256) (w .next)) t w store slot o p f) (table.accept t w store slot field p .table)) (s .1) piece-traced)
 
 -- ---- a reception
 
 abbrev pub TracedIn : InCells → View → Type 0
 TracedIn f v = Traced f (v .table) (v .store)
 
-went-other : (s : Station) (h : Heard) (f : InCells) → isPiece h (s .used) ≡ false → wentIn s h f ≡ f
-went-other s lost f q = refl
-went-other s (heard flags field p) f q = rw q refl
+went-other : (s : Station) (store : List ℕ) (h : Heard) (f : InCells) → isPiece h (s .used) ≡ false → wentIn s store h f ≡ f
+went-other s store lost f q = refl
+went-other s store (heard flags field p) f q = rw q refl
 
-went-piece : (s : Station) (flags field : ℕ) (p : List ℕ) (f : InCells) → isBoats flags (s .used) ≡ true
-    → wentIn s (heard flags field p) f ≡ wentBy (widened (field / 65536 % 256) (windowAt s (flags % 64) .next)) (tableOf s) (windowAt s (flags % 64)) (flags % 64) (field % 65536) p f
-went-piece s flags field p f b =
+went-piece : (s : Station) (store : List ℕ) (flags field : ℕ) (p : List ℕ) (f : InCells) → isBoats flags (s .used) ≡ true
+    → wentIn s store (heard flags field p) f ≡ wentBy (widened (field / 65536 % 256) (windowAt s (flags % 64) .next)) (tableOf s) (windowAt s (flags % 64)) store (flags % 64) (field % 65536) p f
+went-piece s store flags field p f b =
     cond-true (isBoats flags (s .used)) _ f b
-    ∙ ap (λ (w : Window). wentBy (widened (field / 65536 % 256) (w .next)) (tableOf s) w (flags % 64) (field % 65536) p f)
+    ∙ ap (λ (w : Window). wentBy (widened (field / 65536 % 256) (w .next)) (tableOf s) w store (flags % 64) (field % 65536) p f)
     (sym (cond-true (isMember (s .used) (flags % 64)) (memberAt s (flags % 64) .up) freshOf (and-true (eqb (flags / 64) tUp) (isMember (s .used) (flags % 64)) b .1)))
 
-read-traced : (f : InCells) (x y : Reading) (h : Heard) → Fine h → FitRead x → FrameRead x y h → TracedIn f (viewIn x) → TracedIn (wentIn (x .station) h f) (viewIn y)
-read-traced f x y h k fit (other q s) d = subst (λ (g : InCells). TracedIn g (viewIn y)) (sym (went-other (x .station) h f q)) (subst (TracedIn f) (sym (s .view)) d)
-read-traced f x y h k fit (unkept flags field p b q s) d =
-    subst (λ (g : InCells). TracedIn g (viewIn y)) (sym (went-piece (x .station) flags field p f b))
+read-traced : (f : InCells) (x y : Reading) (h : Heard) → Fine h → FitRead x → FrameRead x y h → TracedIn f (viewIn x) → TracedIn (wentIn (x .station) (x .store) h f) (viewIn y)
+read-traced f x y h k fit (other q s) d = subst (λ (g : InCells). TracedIn g (viewIn y)) (sym (went-other (x .station) (x .store) h f q)) (subst (TracedIn f) (sym (s .view)) d)
+read-traced f x y h k fit (unkept flags field p b q z s) d =
+    subst (λ (g : InCells). TracedIn g (viewIn y)) (sym (went-piece (x .station) (x .store) flags field p f b))
     (subst (TracedIn _) (sym (s .view))
-    (lost-same (tableOf (x .station)) (windowAt (x .station) (flags % 64)) (x .store) (flags % 64) field p (fit .view .tidy) (omega (arith, k .2)) f d q))
+    (lost-same (tableOf (x .station)) (windowAt (x .station) (flags % 64)) (x .store) (flags % 64) field p (fit .view .tidy) (omega (arith, k .2)) f d q z))
+read-traced f x y h k fit (barred flags field p b q s) d =
+    let t = tableOf (x .station) in
+    let w = windowAt (x .station) (flags % 64) in
+    subst (λ (g : InCells). TracedIn g (viewIn y)) (sym (went-piece (x .station) (x .store) flags field p f b))
+    (subst (TracedIn _) (sym (s .view))
+    (subst (Traced _ (table.accept t w (x .store) (flags % 64) field p .table)) (accept-bar t w (x .store) (flags % 64) field p q .1)
+    (piece-traced t w (x .store) (flags % 64) field p (fit .view .tidy) (omega (arith, k .2)) f d)))
 read-traced f x y h k fit (piece flags field p b q s) d =
-    subst (λ (g : InCells). TracedIn g (viewIn y)) (sym (went-piece (x .station) flags field p f b))
+    subst (λ (g : InCells). TracedIn g (viewIn y)) (sym (went-piece (x .station) (x .store) flags field p f b))
     (subst (TracedIn _) (sym (s .view))
     (piece-traced (tableOf (x .station)) (windowAt (x .station) (flags % 64)) (x .store) (flags % 64) field p (fit .view .tidy) (omega (arith, k .2)) f d))
 
@@ -199,7 +227,7 @@ frames-traced : (a : Air) (fs : List Heard) (x : Reading) (f : InCells) → AllF
 unfolding readFrames wentAll
 frames-traced a [] x f k fit d = d
 frames-traced a (h ∷ fs) x f (AllFine.more g k) fit d =
-    frames-traced a fs (frameStep a h x) (wentIn (x .station) h f) k (step-read-fit a h x g fit) (read-traced f x (frameStep a h x) h g fit (fit-frame a h x fit) d)
+    frames-traced a fs (frameStep a h x) (wentIn (x .station) (x .store) h f) k (step-read-fit a h x g fit) (read-traced f x (frameStep a h x) h g fit (fit-frame a h x fit) d)
 
 pub rx-traced : (s : Station) (u : Burst) (snr now : Float) (store : List ℕ) (f : InCells) → AllFine (u .frames) → Fit (net s store) → TracedIn f (viewOf s store)
     → TracedIn (wentRx s u snr now store f) (viewOf (ncsRx s u snr now store .station) (ncsRx s u snr now store .store))
@@ -209,21 +237,12 @@ rx-traced s u snr now store f k fit d =
 
 -- ---- the calls
 
--- fewer cells are taken, and the cells stay as they are
-fewer-traced : (f : InCells) (t u : Table) (store : List ℕ) → u .cells ≡ t .cells → ((c : ℕ) → hasBit (u .busy) c ≡ true → hasBit (t .busy) c ≡ true) → Traced f t store → Traced f u store
-fewer-traced f t u store e g d c b = subst (λ (l : List Cell). Made (held (getD l c noCell) (cellOf store c)) (f c)) (sym e) (d c (g c b))
-
 module _ (f : InCells) (n : Net) (fit : Fit n) (d : TracedIn f (viewOf (n .station) (n .store))) where
   free-traced : (cell : ℕ) → TracedIn f (viewOf (freeOf (n .station) cell .station) (n .store))
   unfolding freeOf
   free-traced cell =
       cond-keeps (λ (o : Outcome). TracedIn f (viewOf (o .station) (n .store))) (eqb (cellRefusal (n .station .count) (n .station .landed) cell) 0) _ _
-      (λ _. fewer-traced f (tableOf (n .station)) (freedTable (tableOf (n .station)) cell) (n .store) refl still d) (λ _. d)
-    where
-      still : (j : ℕ) → hasBit (withoutBit (n .station .busy) cell) j ≡ true → hasBit (n .station .busy) j ≡ true
-      still j b =
-          ⊎-elim (λ e. absurd (never-both _ b (ap (hasBit (withoutBit (n .station .busy) cell)) (sym e) ∙ without-same (n .station .busy) cell)))
-          (λ z. sym (without-other (n .station .busy) cell j z) ∙ b) (eq-or-not cell j)
+      (λ _. freed-traced f (tableOf (n .station)) (n .store) cell d) (λ _. d)
 
   sign-traced : (slot : ℕ) → TracedIn f (viewOf (signOffOf (n .station) slot .station) (n .store))
   unfolding signOffOf

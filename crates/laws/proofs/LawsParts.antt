@@ -13,10 +13,10 @@ use borrow.Author.Tests.{ltb-true, leb-true, lt-ltb, lt-leb, ne-eqb}
 use Rattle.bits.proofs.Lists.{cond-keeps, and-true, cases, eq-or-not, le-or-lt, never-both}
 use Rattle.inbox.specs.declared.cell.Cell.{Cell}
 use Rattle.inbox.specs.declared.keep.Kept.{Kept}
-use Rattle.inbox.specs.declared.keep.Kept.the-variants.{Needless, Yes, Late, Long, NoCell, NoPlace}
+use Rattle.inbox.specs.declared.keep.Kept.the-variants.{Needless, Yes, Late, Overlong, Long, NoCell, NoPlace}
 use Rattle.inbox.specs.Cells.{Held, offset, size, endAt, placeAt, accept}
 use Rattle.inbox.specs.Keeping.{shorterOf, keptOf}
-use Rattle.inbox.specs.Messages.{Piece, empty, Fits, accept-all, Covered, Cut}
+use Rattle.inbox.specs.Messages.{Piece, empty, Fits, accept-all, Covered, Cut, showsOf}
 use Rattle.inbox.specs.Sizes.{numberLimit}
 use Rattle.inbox.proofs.Joined.{Room, HasRoom, Inv, accept-all-inv}
 use Rattle.inbox.proofs.Rule.{kept-room}
@@ -106,6 +106,7 @@ not-lost : (a : Kept) → isLost a ≡ false → (a ≡ Yes) ⊎ (a ≡ Needless
 not-lost Yes e = inl refl
 not-lost Needless e = inr refl
 not-lost Late e = absurd (never-both true refl e)
+not-lost Overlong e = absurd (never-both true refl e)
 not-lost Long e = absurd (never-both true refl e)
 not-lost NoCell e = absurd (never-both true refl e)
 not-lost NoPlace e = absurd (never-both true refl e)
@@ -115,7 +116,8 @@ has-room number M h [] c k = tt
 has-room number M h (p ∷ ps) c k = (
   c .0,
   (
-    kept-room number (p .off) true (h .cell) (h .bytes) (p .bytes) (not-lost (keptOf false number (p .off) (length (p .bytes)) true (h .cell)) (k .0)),
+    kept-room number (p .off) (showsOf h (p .off) (p .bytes)) true (h .cell) (h .bytes) (p .bytes)
+        (not-lost (keptOf number (p .off) (length (p .bytes)) (showsOf h (p .off) (p .bytes)) true (h .cell)) (k .0)),
     has-room number M (accept h (p .off) (p .bytes)) ps (c .1) (k .1),
   ),
 )
@@ -197,11 +199,12 @@ cut-short M o p e c =
     }) (le-or-lt (length M) 2048)
 
 -- a piece that would end past 2,048 has no place, but the empty one, which changes nothing
-past-lost : (c : Cell) → Fits c → (number o n : ℕ) → (n ≡ 0 → ⊥) → 2048 < o + n → isLost (keptOf false number o n true c) ≡ true
-past-lost c f number o n z l =
+past-lost : (c : Cell) → Fits c → (number o n : ℕ) (over : Bool) → (n ≡ 0 → ⊥) → 2048 < o + n → isLost (keptOf number o n over true c) ≡ true
+past-lost c f number o n over z l =
     let j = f .joined in
     rw (ne-eqb n 0 z, lt-leb (o + n) (c .joined) (omega arith), no-shorter, lt-ltb 2048 (o + n) l)
-    (cond-keeps (λ (k : Kept). isLost k ≡ true) (leb numberLimit number) Late Long (λ _. refl) (λ _. refl))
+    (cond-keeps (λ (k : Kept). isLost k ≡ true) (leb numberLimit number) Late (cond over Overlong Long) (λ _. refl)
+    (λ _. cond-keeps (λ (k : Kept). isLost k ≡ true) over Overlong Long (λ _. refl) (λ _. refl)))
   where
     no-shorter : shorterOf c o n ≡ false
     no-shorter =
@@ -246,6 +249,6 @@ module _ (number : ℕ) (M : List ℕ) (h : Held) (ps : List Piece) (fits : Fits
       ))
       (λ z.
       let e : o + length (p ++ q) ≤ 2048 =
-      ⊎-elim (λ l. l) (λ l. absurd (never-both _ (past-lost (h .cell) fits number o (length (p ++ q)) z l) (one .0))) (le-or-lt (o + length (p ++ q)) 2048) in
+      ⊎-elim (λ l. l) (λ l. absurd (never-both _ (past-lost (h .cell) fits number o (length (p ++ q)) _ z l) (one .0))) (le-or-lt (o + length (p ++ q)) 2048) in
       splits number (take 2048 M) _ h inv o p q (cut-short M o (p ++ q) e cut) one two turned)
       (eq-or-not (length (p ++ q)) 0)

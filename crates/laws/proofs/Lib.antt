@@ -17,6 +17,7 @@ pub mod LogsCalls
 pub mod Logs
 pub mod LogsRun
 pub mod Room
+pub mod Bars
 pub mod Vacant
 pub mod VacantSign
 pub mod VacantWalk

@@ -31,7 +31,7 @@ use Rattle.admit.specs.declared.Seat.the-variants.{Known, Free, Full}
 use Rattle.admit.specs.Admission.{seatOf, isFull, viaFor, admitBy}
 use Rattle.frames.specs.declared.Air.{Air}
 use Rattle.frames.specs.Reading.{Reading, alsoSaid}
-use Rattle.frames.specs.Pieces.{isRelayed, pieceEvents, pieceFrame}
+use Rattle.frames.specs.Pieces.{isRelayed, pieceEvents, unkeptAt, pieceFrame}
 use Rattle.frames.specs.Control.{eachEntry, callAt, checkinFrame, isForwarded, reportFrame, relayOf, overheardBy, overheardEntry, overheardFrame, isKid, kidEvents, kidEntry, kidsFrame}
 use Rattle.frames.specs.Frames.{controlBy, readFrame, frameStep, readFrames}
 use Rattle.rx.specs.Ending.{Ended, busyWait, nothingMore, idleHeard, idleBy, idleEnd, answerBy, goesOn, isReply, replyBy, replyEnd}
@@ -119,7 +119,7 @@ module _ (a : Air) (x : Reading) where
   piece-grown slot field p =
       let r = accept (tableOf (x .station)) (memberAt (x .station) slot .up) (x .store) slot field p in
       cond-keeps Grown (isMember (x .station .used) slot) _ x
-      (λ _. cond-keeps Grown (r .lost) _ _ (λ _. omega arith)
+      (λ _. cond-keeps Grown (r .lost) _ _ (λ _. cond-keeps (λ (y : Reading). Grown (unkeptAt y)) (r .bars) _ x (λ _. omega arith) (λ _. omega arith))
       (λ _. omega (arith, events-most slot r, length-append (x .words) (pieceEvents a (x .station) slot r))))
       (λ _. omega arith)
 

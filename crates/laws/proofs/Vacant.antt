@@ -9,12 +9,13 @@ use lib.ListN.{length, getD, set, length-set}
 use lib.Seq.{getD-set-same, getD-set-other}
 use Rattle.bits.specs.Mask.{hasBit, withBit, withoutBit}
 use Rattle.bits.proofs.Laws.{has-none, with-same, with-other}
-use Rattle.bits.proofs.Lists.{eq-or-not, never-both}
+use Rattle.bits.proofs.Lists.{eq-or-not, never-both, cond-keeps}
 use Rattle.inbox.specs.declared.keep.Kept.the-variants.{Yes}
 use Rattle.stream.specs.declared.window.Window.{Window}
 use Rattle.stream.specs.declared.table.Room.{Room}
 use Rattle.stream.specs.declared.table.Room.the-variants.{Own, Free, Full}
-use Rattle.stream.specs.Table.{accept, freedTable, ownerOf, cellCount, placeOf, tableRoom, cellFor, cellAt, hasRoom}
+use Rattle.stream.specs.Window.{barredOf}
+use Rattle.stream.specs.Table.{Table, accept, freedTable, ownerOf, cellCount, placeOf, tableRoom, cellFor, cellAt, hasRoom, hasOwn, isOver}
 use Rattle.stream.proofs.Rooms.{RoomIs, room-is, cells-most}
 use Rattle.stream.proofs.Accepts.{Open, answerOf, putAs, accept-cases}
 use Rattle.inbox.proofs.Rule.{yes-is}
@@ -159,11 +160,27 @@ module _ (i : ℕ) (low : i < 62) where
             };
       }
 
+  -- a cell is freed
+  pub freed-kept : (s : Station) (cell : ℕ) → Keeps i s → Keeps i (withTable s (freedTable (tableOf s) cell))
+  freed-kept s cell k =
+      record {
+        long = k .long;
+        wide = k .wide;
+        many = k .many;
+        held = λ c h. k .held c (still cell c h);
+        blank = λ f. let b = k .blank f in
+            record { member = b .member; row = b .row; toack = b .toack; treenews = b .treenews; list = b .list; tried = b .tried; turn = b .turn; cells = λ c h e. b .cells c (still cell c h) e };
+      }
+    where
+      still : (c d : ℕ) → hasBit (withoutBit (s .busy) c) d ≡ true → hasBit (s .busy) d ≡ true
+      still c d h = without-in (s .busy) c d h .0
+
   -- a boat's piece
   pub table-kept : (s : Station) (slot field : ℕ) (w : Window) (store p : List ℕ) → isMember (s .used) slot ≡ true → Keeps i s
       → Keeps i (withTable s (accept (tableOf s) w store slot field p .table))
   table-kept s slot field w store p h k =
-      accept-cases (tableOf s) w store slot field p (λ x. Keeps i (withTable s (x .table))) (λ e. k) (λ n e f. k) (λ n o a q c. k) put
+      accept-cases (tableOf s) w store slot field p (λ x. Keeps i (withTable s (x .table))) (λ e. k) (λ n e f. k) (λ n o a q c z. k)
+      (λ n o q. cond-keeps (λ (t : Table). Keeps i (withTable s t)) (hasOwn (tableRoom (tableOf s) slot n)) _ _ (λ _. freed-kept s _ k) (λ _. k)) put
     where
       owns : (n : ℕ) → n < 2 ^ 32 → (hasBit (s .used) i ≡ false) → ownerOf slot n / 4294967296 ≡ i → ⊥
       owns n l f e = differ (s .used) i slot (member-has (s .used) slot h) f (omega arith)
@@ -173,10 +190,10 @@ module _ (i : ℕ) (low : i < 62) where
       place-low o (Free c) q = let b = q .below in let m = cells-most (s .count) in omega arith
       place-low o Full q = omega arith
 
-      put : (n : ℕ) → Open (tableOf s) w store slot field p n → answerOf (tableOf s) slot n (field % 65536) p ≡ Yes → Keeps i (withTable s (putAs (tableOf s) w store slot n (field % 65536) p .table))
+      put : (n : ℕ) → Open (tableOf s) w store slot field p n → answerOf (tableOf s) w store slot n (field % 65536) p ≡ Yes → Keeps i (withTable s (putAs (tableOf s) w store slot n (field % 65536) p .table))
       put n o q =
           let c = placeOf (tableRoom (tableOf s) slot n) in
-          let y = yes-is false n (field % 65536) (length p) (hasRoom (tableRoom (tableOf s) slot n)) (cellFor (tableRoom (tableOf s) slot n) (cellAt (tableOf s) c)) q in
+          let y = yes-is n (field % 65536) (length p) (isOver (barredOf w n) store (tableRoom (tableOf s) slot n) (cellAt (tableOf s) c) (field % 65536) p) (hasRoom (tableRoom (tableOf s) slot n)) (cellFor (tableRoom (tableOf s) slot n) (cellAt (tableOf s) c)) q in
           let l = place-low (ownerOf slot n) (tableRoom (tableOf s) slot n) (room-is (s .owners) (s .busy) (s .landed) (ownerOf slot n) (cellCount (s .count))) in
           let z = k .many in
           record {
@@ -199,18 +216,3 @@ module _ (i : ℕ) (low : i < 62) where
                       (eq-or-not d c);
                 };
           }
-
-  -- a cell is freed
-  pub freed-kept : (s : Station) (cell : ℕ) → Keeps i s → Keeps i (withTable s (freedTable (tableOf s) cell))
-  freed-kept s cell k =
-      record {
-        long = k .long;
-        wide = k .wide;
-        many = k .many;
-        held = λ c h. k .held c (still cell c h);
-        blank = λ f. let b = k .blank f in
-            record { member = b .member; row = b .row; toack = b .toack; treenews = b .treenews; list = b .list; tried = b .tried; turn = b .turn; cells = λ c h e. b .cells c (still cell c h) e };
-      }
-    where
-      still : (c d : ℕ) → hasBit (withoutBit (s .busy) c) d ≡ true → hasBit (s .busy) d ≡ true
-      still c d h = without-in (s .busy) c d h .0

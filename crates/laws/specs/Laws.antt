@@ -19,13 +19,13 @@ use Rattle.words.specs.Words.{Heard, lost, heard, Burst, parsed, parse}
 use Rattle.inbox.specs.Cells.{Held, held}
 use Rattle.inbox.specs.Cells as cells
 use Rattle.inbox.specs.Keeping.{keptOf}
-use Rattle.inbox.specs.Messages.{Piece, emptyCell, accept-all, Cut}
+use Rattle.inbox.specs.Messages.{Piece, emptyCell, accept-all, Cut, showsOf}
 use Rattle.inbox.specs.Stores.{cellOf}
 use Rattle.inbox.specs.Box.{Box, none, box-of}
 use Rattle.stream.specs.declared.window.Window.{Window}
 use Rattle.stream.specs.declared.table.Room.{Room}
 use Rattle.stream.specs.declared.table.Room.the-variants.{Own, Free, Full}
-use Rattle.stream.specs.Window.{handedOf}
+use Rattle.stream.specs.Window.{handedOf, barredOf}
 use Rattle.stream.specs.Table.{Table, accept, ownerOf, isOwn, cellAt, placeOf, tableRoom, keptFor, changes, isLost, hasLanded}
 use Rattle.net.specs.declared.Station.{Station}
 use Rattle.net.specs.State.{memberAt, tableOf, withWait}
@@ -63,7 +63,7 @@ Smooths s =
 abbrev pub Placed : ℕ → Held → List Piece → Type 0
 Placed number h [] = Unit {0}
 Placed number h (p ∷ ps) =
-    (isLost (keptOf false number (p .off) (length (p .bytes)) true (h .cell)) ≡ false) × Placed number (cells.accept h (p .off) (p .bytes)) ps
+    (isLost (keptOf number (p .off) (length (p .bytes)) (showsOf h (p .off) (p .bytes)) true (h .cell)) ≡ false) × Placed number (cells.accept h (p .off) (p .bytes)) ps
 
 -- the bytes p from o on
 abbrev pub from : ℕ → List ℕ → Piece
@@ -95,23 +95,23 @@ alsoIn (Free c) x f d = cond (eqb c d) (x ∷ []) (f d)
 alsoIn Full x f d = f d
 
 -- a boat's piece as `accept` of crate stream takes it: it goes into a cell where its message is not handed over and the kept rule keeps it, as it changes something
-abbrev pub wentBy : Number → Table → Window → ℕ → ℕ → List ℕ → InCells → InCells
-wentBy Before t w slot o p f = f
-wentBy (Is k) t w slot o p f =
+abbrev pub wentBy : Number → Table → Window → List ℕ → ℕ → ℕ → List ℕ → InCells → InCells
+wentBy Before t w store slot o p f = f
+wentBy (Is k) t w store slot o p f =
     let r = tableRoom t slot k in
-    cond (not (handedOf w k) && changes (keptFor r (cellAt t (placeOf r)) k o (length p))) (alsoIn r (from o p) f) f
+    cond (not (handedOf w k) && changes (keptFor (barredOf w k) store r (cellAt t (placeOf r)) k o p)) (alsoIn r (from o p) f) f
 
--- a frame, by the station as it is read
-abbrev pub wentIn : Station → Heard → InCells → InCells
-wentIn s lost f = f
-wentIn s (heard flags field p) f =
+-- a frame, by the station and the store as it is read
+abbrev pub wentIn : Station → List ℕ → Heard → InCells → InCells
+wentIn s store lost f = f
+wentIn s store (heard flags field p) f =
     let w = memberAt s (flags % 64) .up in
-    cond (isBoats flags (s .used)) (wentBy (widened (field / 65536 % 256) (w .next)) (tableOf s) w (flags % 64) (field % 65536) p f) f
+    cond (isBoats flags (s .used)) (wentBy (widened (field / 65536 % 256) (w .next)) (tableOf s) w store (flags % 64) (field % 65536) p f) f
 
 -- the frames of a reception, in order
 unfoldable pub wentAll : Air → List Heard → Reading → InCells → InCells
 wentAll a [] x f = f
-wentAll a (h ∷ hs) x f = wentAll a hs (frameStep a h x) (wentIn (x .station) h f)
+wentAll a (h ∷ hs) x f = wentAll a hs (frameStep a h x) (wentIn (x .station) (x .store) h f)
 
 -- a burst, with the station as `ncsRx` has it before the first frame
 abbrev pub wentRx : Station → Burst → Float → Float → List ℕ → InCells → InCells

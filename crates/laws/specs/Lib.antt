@@ -4,5 +4,6 @@ pub mod Silent
 pub mod Laws
 pub mod Logs
 pub mod Room
+pub mod Bars
 pub mod RoundTrip
 pub mod FreeSlots

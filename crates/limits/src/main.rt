@@ -2,6 +2,7 @@
 mod burst;
 mod count;
 mod edge;
+mod overlong;
 mod refused;
 mod slip;
 mod tell;
@@ -26,5 +27,8 @@ fn main() {
     let n = slip::cap(&mut t, m, &lent, &mut out);
     let o = slip::unknown(&mut t, n, &mut lent, &mut out);
     let p = slip::direct(&mut t, o, &mut lent, &mut out);
-    text::flush(&t, p);
+    let q = overlong::shown(&mut t, p, &mut lent, &mut out);
+    let r = overlong::full(&mut t, q, &mut lent, &mut out);
+    let s = overlong::limits(&mut t, r, &mut lent, &mut out);
+    text::flush(&t, s);
 }

@@ -133,7 +133,7 @@ module _ (M : Sent) (small : (s k : ℕ) → length (M s k) ≤ 2046) (x y : Rea
 
   book-read : (h : Heard) → FrameOk M l h k (x .station .used) → FrameRead x y h → Read M l e x y (bookFrame M h k (x .station .used) (hasBit (y .unkept) (x .frame)) l)
   book-read h ok (other q s) = subst (Read M l e x y) (sym (book-other M h k (x .station .used) (hasBit (y .unkept) (x .frame)) l q)) (still-read (x .unkept) s)
-  book-read h ok (unkept flags field p b q s) =
+  book-read h ok (unkept flags field p b q z s) =
       let marked : hasBit (y .unkept) (x .frame) ≡ true = ap (λ (m : ℕ). hasBit m (x .frame)) (s .mask) ∙ with-same (x .unkept) (x .frame) few in
       subst (Read M l e x y)
       (sym

@@ -124,7 +124,7 @@ pub record FitRead (x : Reading) : Type 0 where
 
 read-fit : (x y : Reading) (h : Heard) → Fine h → FitRead x → FrameRead x y h → FitRead y
 read-fit x y h k f (other q s) = record { view = subst FitView (sym (s .view)) (f .view); long = s .long }
-read-fit x y h k f (unkept flags field p b q s) = record { view = subst FitView (sym (s .view)) (f .view); long = s .long }
+read-fit x y h k f (unkept flags field p b q z s) = record { view = subst FitView (sym (s .view)) (f .view); long = s .long }
 read-fit x y h k f (barred flags field p b q s) =
     record { view = subst FitView (sym (s .view)) (barred-fit (viewIn x) (flags % 64) field p (f .view) (omega (arith, k .2)) q); long = s .long }
 read-fit x y h k f (piece flags field p b q s) =

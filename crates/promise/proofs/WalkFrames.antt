@@ -56,8 +56,8 @@ pub record Seen (x y : Reading) (v : View) (es : List Event2) (m : ℕ) : Type 0
 
 pub data FrameRead (x y : Reading) : Heard → Type 0 where
   other : {h : Heard} → isPiece h (x .station .used) ≡ false → Seen x y (viewIn x) [] (x .unkept) → FrameRead x y h
-  unkept : (flags field : ℕ) (p : List ℕ) → isBoats flags (x .station .used) ≡ true → offeredIn x flags field p .lost ≡ true → Seen x y (viewIn x) [] (withBit (x .unkept) (x .frame))
-      → FrameRead x y (heard flags field p)
+  unkept : (flags field : ℕ) (p : List ℕ) → isBoats flags (x .station .used) ≡ true → offeredIn x flags field p .lost ≡ true → offeredIn x flags field p .bars ≡ false
+      → Seen x y (viewIn x) [] (withBit (x .unkept) (x .frame)) → FrameRead x y (heard flags field p)
   barred : (flags field : ℕ) (p : List ℕ) → isBoats flags (x .station .used) ≡ true → offeredIn x flags field p .bars ≡ true
       → Seen x y (viewBarred (viewIn x) (flags % 64) (offeredIn x flags field p)) [] (withBit (x .unkept) (x .frame))
       → FrameRead x y (heard flags field p)
@@ -104,7 +104,7 @@ module _ (a : Air) (x : Reading) (tidy : Tidy (tableOf (x .station)) (x .store))
             cond-keeps (λ (y : Reading). FrameRead x y (heard flags field p)) (r .lost) (unkeptAt (cond (r .bars) (barredPiece (flags % 64) r x) x)) (keptPiece a (flags % 64) r x)
             (λ q. cond-keeps (λ (y : Reading). FrameRead x (unkeptAt y) (heard flags field p)) (r .bars) (barredPiece (flags % 64) r x) x
             (λ z. barred flags field p boat z (record { view = barred-view (flags % 64) r x here long; events = untouched x .events; long = barred-long (flags % 64) r x here long; mask = refl }))
-            (λ _. unkept flags field p boat q (record { view = refl; events = untouched x .events; long = long; mask = refl })))
+            (λ z. unkept flags field p boat q z (record { view = refl; events = untouched x .events; long = long; mask = refl })))
             (λ q. piece flags field p boat q (kept-seen r (landed-fit (tableOf (x .station)) (windowAt (x .station) (flags % 64)) (x .store) (flags % 64) field p tidy)))
 
   frame-read : (h : Heard) → FrameRead x (readFrame a h x) h
@@ -133,7 +133,7 @@ module _ (a : Air) (x : Reading) (tidy : Tidy (tableOf (x .station)) (x .store))
 
   again : (y z : Reading) (h : Heard) → viewIn z ≡ viewIn y → z .words ≡ y .words → z .station ≡ y .station → z .unkept ≡ y .unkept → FrameRead x y h → FrameRead x z h
   again y z h p w t u (other q s) = other q (next-seen y z _ _ _ p w t u s)
-  again y z h p w t u (unkept flags field c b q s) = unkept flags field c b q (next-seen y z _ _ _ p w t u s)
+  again y z h p w t u (unkept flags field c b q n s) = unkept flags field c b q n (next-seen y z _ _ _ p w t u s)
   again y z h p w t u (barred flags field c b q s) = barred flags field c b q (next-seen y z _ _ _ p w t u s)
   again y z h p w t u (piece flags field c b q s) = piece flags field c b q (next-seen y z _ _ _ p w t u s)
 
