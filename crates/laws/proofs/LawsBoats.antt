@@ -28,13 +28,13 @@ use Rattle.inbox.specs.Box.{Box, take-in, pieces-of, box-of}
 use Rattle.inbox.proofs.Apart.{in-same, in-other}
 use Rattle.inbox.proofs.Boxes.{box-accept}
 use Rattle.inbox.proofs.Parts.{cell-length}
-use Rattle.inbox.proofs.Rule.{yes-is}
+use Rattle.inbox.proofs.Rule.{KeptIs, yes-is}
 use Rattle.inbox.proofs.Steps.{empty-fits}
 use Rattle.stream.specs.declared.window.Window.{Window}
 use Rattle.stream.specs.declared.table.Room.{Room}
 use Rattle.stream.specs.declared.table.Room.the-variants.{Own, Free, Full}
 use Rattle.stream.specs.Window.{handedOf, barredOf, freshOf, landOf}
-use Rattle.stream.specs.Table.{Table, Accepted, accept, noCell, isOwn, cellAt, cellCount, cellFor, heldFor, placeOf, hasRoom, ownerOf, roomFor, tableRoom, changes, bars, hasLanded, putIn, barredTable}
+use Rattle.stream.specs.Table.{Table, Accepted, accept, noCell, isOwn, cellAt, cellCount, cellFor, heldFor, placeOf, hasRoom, ownerOf, roomFor, tableRoom, isOver, changes, bars, hasLanded, putIn, barredTable}
 use Rattle.stream.proofs.Rooms.{RoomIs, room-is, own-filling, filling-own, owner-same, cells-are}
 use Rattle.stream.proofs.Tables.{Tidy, filling, kept-other, filling-other, freed-other, place-in}
 use Rattle.stream.proofs.Windows.{Sound, sound-next}
@@ -286,11 +286,14 @@ module _ (t : Table) (w : Window) (store : List ℕ) (slot field : ℕ) (p : Lis
     abbrev store′ : List ℕ
     store′ = putAs t w store slot k off p .store
 
+    kept-is : KeptIs k off (length p) (isOver (barredOf w k) store (tableRoom t slot k) (cellAt t (cellIn t slot k)) off p) (hasRoom (tableRoom t slot k)) (asked t (ownerOf slot k))
+    kept-is = yes-is k off (length p) (isOver (barredOf w k) store (tableRoom t slot k) (cellAt t (cellIn t slot k)) off p) (hasRoom (tableRoom t slot k)) (asked t (ownerOf slot k)) yes
+
     celled : hasRoom (tableRoom t slot k) ≡ true
-    celled = yes-is _ _ _ _ _ _ yes .celled
+    celled = kept-is .celled
 
     ends : off + length p ≤ 2048
-    ends = yes-is _ _ _ _ _ _ yes .fits
+    ends = kept-is .fits
 
     low : c < 64
     low = place-in t store tidy slot k .0

@@ -79,7 +79,7 @@ pub record BoatsRun (n : Net) : Type 0 where
   pub waits : getD (boxAfter (xy n) 1 0 .places) 0 none ≡ from 2 (7 ∷ [])
 
 pub boats-run : (g : Settings) → BoatsRun (two-boats (three-cells g))
-unfolding step after result admitOf admitRefusal newStation seatOf findCall first lowestFree hasBit withBit leadsTo unpacked digit char trimStart trimEnd isMember pieceFrame accept widened widenedAt ownCell putOf cells.accept showsOf settle grow store await seek next pieces-of
+unfolding step after result admitOf admitRefusal newStation seatOf findCall first lowestFree hasBit withBit withoutBit leadsTo unpacked digit char trimStart trimEnd isMember pieceFrame accept widened widenedAt ownCell putOf cells.accept showsOf settle grow store await seek next pieces-of
 boats-run g =
     record {
       first = record { boat = refl; short = omega arith };
@@ -95,7 +95,7 @@ boats-run g =
 
 -- with one cell for two the order counts
 pub one-cell-short : (g : Settings) → (boxAfter (xy (two-boats (one-cell g))) 0 0 .joined ≡ 5 ∷ 0 ∷ 9 ∷ []) × (boxAfter (yx (two-boats (one-cell g))) 0 0 ≡ noneYet)
-unfolding step after result admitOf admitRefusal newStation seatOf findCall first lowestFree hasBit withBit leadsTo unpacked digit char trimStart trimEnd isMember pieceFrame accept widened widenedAt ownCell putOf cells.accept showsOf settle grow store await seek next pieces-of
+unfolding step after result admitOf admitRefusal newStation seatOf findCall first lowestFree hasBit withBit withoutBit leadsTo unpacked digit char trimStart trimEnd isMember pieceFrame accept widened widenedAt ownCell putOf cells.accept showsOf settle grow store await seek next pieces-of
 one-cell-short g = (refl, refl)
 
 -- ---- a piece in two parts
@@ -119,7 +119,7 @@ pub record PartsRun (n : Net) : Type 0 where
   pub joined : accept-all (cellNow (after some-of-hi n) 0) (from 3 (105 ∷ []) ∷ from 2 (104 ∷ []) ∷ []) .cell .joined ≡ 4
 
 pub parts-run : (g : Settings) → PartsRun (three-cells g)
-unfolding step after result admitOf admitRefusal newStation seatOf findCall first lowestFree hasBit withBit leadsTo unpacked digit char trimStart trimEnd receiveOf receiveRefusal parse headOk framesOf itemAt frameOf payload unpack payloadOk wordOk pack framesWords ncsRx readFrames frameStep readFrame pieceFrame replyEnd isMember accept widened widenedAt ownCell putOf cells.accept showsOf settle grow store await seek next stop wentAll wentWith inCells StoresOk
+unfolding step after result admitOf admitRefusal newStation seatOf findCall first lowestFree hasBit withBit withoutBit leadsTo unpacked digit char trimStart trimEnd receiveOf receiveRefusal parse headOk framesOf itemAt frameOf payload unpack payloadOk wordOk pack framesWords ncsRx readFrames frameStep readFrame pieceFrame replyEnd isMember accept widened widenedAt ownCell putOf cells.accept showsOf settle grow store await seek next stop wentAll wentWith inCells StoresOk
 parts-run g =
     record {
       alone = (tt, (tt, tt));
@@ -175,7 +175,7 @@ pub record PartsNeeded (n : Net) : Type 0 where
   pub no-place : SameJoined (accept-all (crowded n) (from 2 (7 ∷ 7 ∷ []) ∷ from 0 (60 ∷ 0 ∷ []) ∷ [])) (accept-all (crowded n) (from 0 (60 ∷ 0 ∷ 7 ∷ 7 ∷ []) ∷ [])) → ⊥
 
 pub parts-needed : (g : Settings) → PartsNeeded (three-cells g)
-unfolding step after result admitOf admitRefusal newStation seatOf findCall first lowestFree hasBit withBit leadsTo unpacked digit char trimStart trimEnd receiveOf receiveRefusal parse headOk framesOf itemAt frameOf payload unpack payloadOk wordOk pack framesWords ncsRx readFrames frameStep readFrame pieceFrame replyEnd isMember accept widened widenedAt ownCell putOf cells.accept showsOf settle grow store await seek next stop wentAll wentWith inCells StoresOk
+unfolding step after result admitOf admitRefusal newStation seatOf findCall first lowestFree hasBit withBit withoutBit leadsTo unpacked digit char trimStart trimEnd receiveOf receiveRefusal parse headOk framesOf itemAt frameOf payload unpack payloadOk wordOk pack framesWords ncsRx readFrames frameStep readFrame pieceFrame replyEnd isMember accept widened widenedAt ownCell putOf cells.accept showsOf settle grow store await seek next stop wentAll wentWith inCells StoresOk
 parts-needed g =
     record {
       other-byte = λ h. let z : _≡_ {A = ℕ} 9 105 = ap (λ (l : List ℕ). getD l 3 0) (h .bytes) in omega arith;

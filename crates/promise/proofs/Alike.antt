@@ -130,7 +130,7 @@ pub record AlikeRun (g : Settings) : Type 0 where
       ≡ record { slot = 0; number = 0 } ∷ record { slot = 0; number = 128 } ∷ record { slot = 0; number = 256 } ∷ []
 
 pub alike-run : (g : Settings) → AlikeRun g
-unfolding having result newStation first lowestFree hasBit withBit receiveOf receiveRefusal parse headOk framesOf itemAt frameOf payload unpack payloadOk wordOk pack framesWords ncsRx readFrames frameStep readFrame pieceFrame replyEnd isMember accept widened widenedAt ownCell putOf cells.accept showsOf settle grow seek next slideOf markOf stop eventsIn bookFrames bookFrame cover alsoHanded allBelow
+unfolding having result newStation first lowestFree hasBit withBit withoutBit receiveOf receiveRefusal parse headOk framesOf itemAt frameOf payload unpack payloadOk wordOk pack framesWords ncsRx readFrames frameStep readFrame pieceFrame replyEnd isMember accept widened widenedAt ownCell putOf cells.accept showsOf settle grow seek next slideOf markOf stop eventsIn bookFrames bookFrame cover alsoHanded allBelow
 alike-run g = record { events = refl; book = refl }
 
 -- so it is after those calls
@@ -155,7 +155,7 @@ reach : (k n : ℕ) → (k < n → ⊥) → k ≤ n + 127 → (n ≤ k + 128) ×
 reach k n z a = (⊎-elim (λ b. omega arith) (λ b. absurd (z b)) (le-or-lt n k), a)
 
 pub alike-ok : (g : Settings) → CallOk (sentNow all-empty late-book) (inBook alike) (answersOf alike (having g (upTo 127) 127)) late-book
-unfolding having result newStation first lowestFree hasBit withBit receiveOf receiveRefusal parse headOk framesOf itemAt frameOf payload unpack payloadOk wordOk pack framesWords ncsRx readFrames frameStep readFrame pieceFrame replyEnd isMember accept widened widenedAt ownCell putOf cells.accept showsOf settle grow seek next slideOf markOf stop eventsIn bookFrames bookFrame cover alsoHanded allBelow
+unfolding having result newStation first lowestFree hasBit withBit withoutBit receiveOf receiveRefusal parse headOk framesOf itemAt frameOf payload unpack payloadOk wordOk pack framesWords ncsRx readFrames frameStep readFrame pieceFrame replyEnd isMember accept widened widenedAt ownCell putOf cells.accept showsOf settle grow seek next slideOf markOf stop eventsIn bookFrames bookFrame cover alsoHanded allBelow
 alike-ok g = (
   tt,
   (λ r. (

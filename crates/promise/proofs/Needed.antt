@@ -95,7 +95,7 @@ pub record Broken (g : Settings) : Type 0 where
   pub overlong : Holds all-too-long 1 overlong (one-cell g) emptyBook → ⊥
 
 pub broken : (g : Settings) → Broken g
-unfolding Holds step result admitOf admitRefusal newStation seatOf findCall first lowestFree hasBit withBit leadsTo unpacked digit char trimStart trimEnd receiveOf receiveRefusal parse headOk framesOf itemAt frameOf payload unpack payloadOk wordOk pack framesWords ncsRx readFrames frameStep readFrame pieceFrame replyEnd isMember accept widened widenedAt ownCell putOf cells.accept showsOf settle grow seek next slideOf stop eventsIn bookFrames bookFrame cover alsoHanded allBelow readRefusal cellRefusal readingOf
+unfolding Holds step result admitOf admitRefusal newStation seatOf findCall first lowestFree hasBit withBit withoutBit leadsTo unpacked digit char trimStart trimEnd receiveOf receiveRefusal parse headOk framesOf itemAt frameOf payload unpack payloadOk wordOk pack framesWords ncsRx readFrames frameStep readFrame pieceFrame replyEnd isMember accept widened widenedAt ownCell putOf cells.accept showsOf settle grow seek next slideOf stop eventsIn bookFrames bookFrame cover alsoHanded allBelow readRefusal cellRefusal readingOf
 broken g =
     record {
       far = λ h. h .1 .0 .pairs;

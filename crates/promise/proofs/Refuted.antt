@@ -8,7 +8,7 @@ use Prim.Native.Nat.{ℕ, _+_, _%_, _≤_, _<_}
 use native.Mathlib.Omega.{arith}
 use lib.ListN.{length, getD}
 use Rattle.bits.specs.Loop.{first}
-use Rattle.bits.specs.Mask.{hasBit, withBit, lowestFree}
+use Rattle.bits.specs.Mask.{hasBit, withBit, lowestFree, withoutBit}
 use Rattle.bits.specs.Stop.{stop}
 use Rattle.bits.proofs.Lists.{cond-keeps}
 use Rattle.wire.specs.Call.{digit, char, trimStart, trimEnd, unpacked}
@@ -184,7 +184,7 @@ pub record Readings (g : Settings) : Type 0 where
   pub short : ReadsAs (λ s k. 104 ∷ 105 ∷ 33 ∷ []) (some (message 0 0)) (with-hi g) 0 → ⊥
 
 pub readings : (g : Settings) → Readings g
-unfolding step after result admitOf admitRefusal newStation seatOf findCall first lowestFree hasBit withBit leadsTo unpacked digit char trimStart trimEnd receiveOf receiveRefusal parse headOk framesOf itemAt frameOf payload unpack payloadOk wordOk pack framesWords ncsRx readFrames frameStep readFrame pieceFrame replyEnd isMember accept widened widenedAt ownCell putOf cells.accept showsOf settle grow seek next slideOf stop readRefusal cellRefusal readingOf
+unfolding step after result admitOf admitRefusal newStation seatOf findCall first lowestFree hasBit withBit withoutBit leadsTo unpacked digit char trimStart trimEnd receiveOf receiveRefusal parse headOk framesOf itemAt frameOf payload unpack payloadOk wordOk pack framesWords ncsRx readFrames frameStep readFrame pieceFrame replyEnd isMember accept widened widenedAt ownCell putOf cells.accept showsOf settle grow seek next slideOf stop readRefusal cellRefusal readingOf
 readings g =
     record {
       stale = λ h. let z : _≡_ {A = ℕ} 0 22 = h in omega arith;
