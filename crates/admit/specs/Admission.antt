@@ -13,7 +13,7 @@ use Rattle.wire.specs.Call.{keyOf}
 use Rattle.out.specs.Encode.{eventWord}
 use Rattle.roster.specs.Members.{noMember, newMember}
 use Rattle.net.specs.declared.Station.{Station}
-use Rattle.net.specs.State.{indexOf, memberAt, withMember, withUsed, alsoAck}
+use Rattle.net.specs.State.{indexOf, memberAt, withMember, withUsed, alsoAck, emptied}
 use Rattle.net.specs.Net.{isMember, Said, said}
 use Rattle.admit.specs.declared.Seat.{Seat}
 use Rattle.admit.specs.declared.Seat.the-variants.{Known, Free, Full}
@@ -52,7 +52,7 @@ admitEvents slot via = cond (eqb via 63) (eventWord 1 slot via ∷ []) (eventWor
 
 abbrev pub enterAt : Station → ℕ → List ℕ → ℕ → Float → Station
 enterAt s slot call via now =
-    alsoAck (withUsed (withMember s slot (newMember call via now)) (withBit (s .used) (indexOf slot))) (indexOf slot)
+    alsoAck (withUsed (withMember (emptied s (indexOf slot)) slot (newMember call via now)) (withBit (s .used) (indexOf slot))) (indexOf slot)
 
 -- the boat takes its seat; via is the relay of a newcomer
 abbrev pub admitBy : Seat → Station → List ℕ → ℕ → Float → Said

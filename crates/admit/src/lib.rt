@@ -90,6 +90,8 @@ fn enter(mut s: Station, slot: u8, call: [u8; 7], via: u8, time: f64) -> Station
     let i = net::index(slot);
     let m = roster::new_member(call, via, time);
     s.members[i] = m;
+    let none = recent::empty();
+    s.recent[i] = none;
     s.used = bits::with(s.used, i);
     let acks = bits::with(s.round.toack, i);
     s.round.toack = acks;

@@ -17,15 +17,16 @@ use Rattle.level.specs.declared.Level.{Level}
 use Rattle.level.specs.declared.Level.the-variants.{Unheard, Decibels}
 use Rattle.level.specs.Levels.{isHeard}
 use Rattle.out.specs.Encode.{eventWord}
+use Rattle.recent.specs.Readings.{noRecent}
 use Rattle.roster.specs.declared.Member.{Member}
 use Rattle.roster.specs.Members.{noMember, reroutedTo}
 use Rattle.roster.specs.Relays.{couldRelay, promotableAt}
 use Rattle.roster.proofs.Silent.{tally-same}
 use Rattle.net.specs.declared.Station.{Station}
-use Rattle.net.specs.State.{withRound, withTreenews}
+use Rattle.net.specs.State.{withRound, withTreenews, withRecent, recentAt}
 use Rattle.net.specs.Net.{Said, said}
 use Rattle.bursts.specs.Rows.{seated, maskWhere}
-use Rattle.bursts.specs.Reroute.{withSeated, ableOf, promotedBy, promoteWith, promoteAt, newRelay, moveTo, mustMove, moveAt, moveAll, leavesOf}
+use Rattle.bursts.specs.Reroute.{withSeated, ableOf, promotedBy, recentBy, promoteWith, promoteAt, newRelay, moveTo, mustMove, moveAt, moveAll, leavesOf}
 use Rattle.bursts.proofs.Masks.{mask-without}
 use Rattle.bursts.proofs.Saying.{ahead, fold-ahead}
 
@@ -37,14 +38,20 @@ changed s i m news = withRound (withSeated s i m) (withTreenews (s .round) news)
 changed-none : (s : Station) (i : ℕ) (ws : List ℕ) → said s ws ≡ said (changed s i (seated s i) (s .round .treenews)) (ws ++ [])
 changed-none s i ws = rw (tally-same, set-getD, append-nil)
 
+-- a leaf that was heard directly at x leaves its relay; Unheard: it stays
+abbrev pub promotedIn : Level → ℕ → Station → Station
+promotedIn x i s =
+    withRecent (changed s i (promotedBy x (seated s i)) (cond (isHeard x) (withBit (s .round .treenews) i) (s .round .treenews)))
+    (set (s .recent) i (recentBy x (recentAt s i)))
+
 promote-by : (x : Level) (i : ℕ) (s : Station) (ws : List ℕ)
-    → promoteWith x i (said s ws) ≡ said (changed s i (promotedBy x (seated s i)) (cond (isHeard x) (withBit (s .round .treenews) i) (s .round .treenews))) (ws ++ cond (isHeard x) (eventWord 5 i 63 ∷ []) [])
-promote-by Unheard i s ws = changed-none s i ws
+    → promoteWith x i (said s ws) ≡ said (promotedIn x i s) (ws ++ cond (isHeard x) (eventWord 5 i 63 ∷ []) [])
+promote-by Unheard i s ws = changed-none s i ws ∙ rw (set-getD (s .recent) i noRecent)
 promote-by (Decibels snr) i s ws = refl
 
 -- x: the level at which the boat in slot i was heard directly, where it is to leave its relay
 pub promote-turn : (floor : Float) (i : ℕ) (s : Station) (x : Level) → x ≡ promotableAt (hasBit (s .used) i) (seated s i) floor → (ws : List ℕ)
-    → promoteAt floor i (said s ws) ≡ said (changed s i (promotedBy x (seated s i)) (cond (isHeard x) (withBit (s .round .treenews) i) (s .round .treenews))) (ws ++ cond (isHeard x) (eventWord 5 i 63 ∷ []) [])
+    → promoteAt floor i (said s ws) ≡ said (promotedIn x i s) (ws ++ cond (isHeard x) (eventWord 5 i 63 ∷ []) [])
 unfolding promoteAt
 promote-turn floor i s x e ws = ap (λ (y : Level). promoteWith y i (said s ws)) (sym e) ∙ promote-by x i s ws
 

@@ -10,11 +10,13 @@ use Rattle.bits.specs.Mask.{hasBit, withoutBit}
 use Rattle.level.specs.declared.Level.{Level}
 use Rattle.level.specs.declared.Level.the-variants.{Unheard, Decibels}
 use Rattle.out.specs.Encode.{eventWord}
+use Rattle.recent.specs.declared.Recent.{Recent}
+use Rattle.recent.specs.Readings.{empty}
 use Rattle.roster.specs.declared.Member.{Member}
 use Rattle.roster.specs.Members.{promotedAt, reroutedTo}
 use Rattle.roster.specs.Relays.{couldRelay, needsRelay, bestHigh, relaySrcFor, promotableAt, isLeaf}
 use Rattle.net.specs.declared.Station.{Station}
-use Rattle.net.specs.State.{withMembers, withTotals, memberAt, alsoNews, tallied}
+use Rattle.net.specs.State.{withMembers, withTotals, memberAt, alsoNews, tallied, emptied}
 use Rattle.net.specs.Net.{isMember, Said, said}
 use Rattle.bursts.specs.declared.reroute.Surveyed.{Surveyed}
 use Rattle.bursts.specs.Rows.{seated, maskWhere}
@@ -57,15 +59,19 @@ withSeated s i k = withTotals (withMembers s (set (s .members) i k)) (tallied s 
 abbrev pub floorOf : Station → Float
 floorOf s = add binary32 (getD (s .settings .thresholds) 0 nan) (s .settings .margin)
 
--- a member that was heard directly at a level, if any
+-- a member that was heard directly at a level, if any; that level is its up level now, and no reading made it (U13)
 abbrev pub promotedBy : Level → Member → Member
 promotedBy Unheard m = m
 promotedBy (Decibels snr) m = promotedAt m snr
 
+abbrev pub recentBy : Level → Recent → Recent
+recentBy Unheard r = r
+recentBy (Decibels snr) r = empty
+
 abbrev pub promoteWith : Level → ℕ → Said → Said
 promoteWith Unheard i x = x
 promoteWith (Decibels snr) i x =
-    said (alsoNews (withSeated (x .station) i (promotedAt (seated (x .station) i) snr)) i)
+    said (alsoNews (emptied (withSeated (x .station) i (promotedAt (seated (x .station) i) snr)) i) i)
     (x .words ++ (eventWord 5 i 63 ∷ []))
 
 unfoldable pub promoteAt : Float → ℕ → Said → Said

@@ -8,9 +8,10 @@ ghost use Rattle.bits.specs.Mask.{withBit, withoutBit};
 ghost use Rattle.out.specs.Encode.{Wrote, eventWord};
 ghost use Rattle.roster.specs.Members.{reroutedTo};
 ghost use Rattle.net.specs.Net.{Did, said};
-ghost use Rattle.bursts.specs.Reroute.{ableOf, surveyOf, promotedBy, promoteAll, leavesOf, isDown, relayFrom, moveAll, rerouteOf};
+ghost use Rattle.bursts.specs.Reroute.{ableOf, surveyOf, promotedBy, recentBy, promoteAll, leavesOf, isDown, relayFrom, moveAll, rerouteOf};
 use level::Level;
 use net::Station;
+use recent::Recent;
 use roster::Member;
 use roster::relay;
 
@@ -59,6 +60,16 @@ fn promote_member(m: Member, x: Level) -> Member
     }
 }
 
+// A promoted boat has no reading yet.
+fn recent_by(r: Recent, x: Level) -> Recent
+    ensures { λ k. ⌜ k ≡ recentBy x r ⌝ }
+{
+    match x {
+        Level::Unheard => r,
+        Level::Decibels(_) => recent::empty(),
+    }
+}
+
 // Event 5, where a boat moved.
 fn routed(moved: bool, slot: usize, via: u8, o: &mut [u32], at: usize) -> usize
     ensures { λ r. ⌜ Wrote (now (o .entry)) at (cond moved (eventWord 5 slot via ∷ []) []) (now (o .exit)) r ⌝ }
@@ -84,6 +95,9 @@ fn promote(mut s: Station, o: &mut [u32], at: &mut usize) -> Station
         let moved = level::is_heard(x);
         let k = promote_member(m, x);
         s.members[i] = k;
+        let r = s.recent[i];
+        let q = recent_by(r, x);
+        s.recent[i] = q;
         let limit = s.settings.misslimit;
         let silent = roster::tally(s.totals.silent, limit <= m.missed, limit <= k.missed);
         s.totals.silent = silent;

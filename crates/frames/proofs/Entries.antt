@@ -1,5 +1,5 @@
 -- The entries of a control frame, one after the other: a loop over them, and what each leaves of the station and the output. Assumes nothing.
-use mathlib.Core.Path.{_≡_, refl, sym, ap, _∙_, subst}
+use mathlib.Core.Path.{_≡_, refl, sym, ap, ap₂, _∙_, subst}
 use mathlib.Core.Bool.{Bool, true, false, cond}
 use mathlib.Core.List.{List, [], _++_, append-nil}
 use Prim.Native.Nat.{ℕ, zero, suc, _+_, _*_, _<_, _≤_}
@@ -7,14 +7,17 @@ use native.Mathlib.Omega.{arith}
 use native.Mathlib.Nat.{suc-mul, zero-mul, min-le-left}
 use lib.Dec.{ltb}
 use lib.ListN.{length, getD, set, take, length-take, List·getD-eq-default}
+use lib.Seq.{set-getD}
 use borrow.Author.Tests.{le-leb, lt-leb, eq-eqb, ne-eqb}
 use Rattle.words.specs.Words.{payload, unpack}
 use Rattle.out.specs.Encode.{Wrote}
 use Rattle.out.proofs.Laws.{then, wrote-none, wrote-as}
 use Rattle.net.specs.declared.Station.{Station}
-use Rattle.net.specs.State.{indexOf, memberAt, withCounted, withMembers, withHears, withTotals, withSilent}
+use Rattle.net.specs.State.{indexOf, memberAt, withCounted, withMembers, withHears, withTotals, withSilent, withRecent, recentAt}
 use Rattle.net.specs.Net.{Said, said, Did, isMember}
 use Rattle.net.proofs.Laws.{member-again}
+use Rattle.recent.specs.declared.Recent.{Recent}
+use Rattle.recent.specs.Readings.{noRecent, noted}
 use Rattle.roster.specs.declared.Member.{Member}
 use Rattle.roster.specs.Members.{noMember, withCaps, withVersion, receivedAt, silentAt, tally}
 use Rattle.roster.proofs.Silent.{tally-same}
@@ -24,7 +27,7 @@ use Rattle.admit.specs.Admission.{seatOf, slotOf, admitBy}
 use Rattle.admit.specs.declared.Seat.{Seat}
 use Rattle.admit.specs.declared.Seat.the-variants.{Known, Free, Full}
 use Rattle.frames.specs.declared.Air.{Air}
-use Rattle.frames.specs.Control.{eachEntry, callAt, checkinMember, withActive, checkinFrame, hearing, hearPair, newcomer, overheardBy, overheardEntry, kidOf, isKid, kidMember, kidEvents, kidEntry}
+use Rattle.frames.specs.Control.{eachEntry, callAt, checkinMember, withActive, checkinFrame, hearing, hearPair, newcomer, overheardBy, overheardEntry, kidOf, isKid, kidMember, kidRecent, kidEvents, kidEntry}
 
 -- ### A loop over entries
 
@@ -98,12 +101,12 @@ module _ (a : Air) (len : ℕ) (p : List ℕ) (s : Station) (call : List ℕ) (s
   checkin-full x h =
       rw (← ecall, ← eseat, ← eslot, eq-eqb slot 255 h) record { station = ap withActive (x .station); wrote = x .wrote }
 
-  pub checkin-seated : (ix : ℕ) (k : Member) {l m : List ℕ} {i j : ℕ} → Did (admitBy seat s call 63 (a .time)) t l i m j → (slot ≡ 255 → ⊥)
-      → ix ≡ indexOf slot → k ≡ checkinMember a len p (getD (t .members) ix noMember)
-      → Did (checkinFrame a len p s) (withMembers (withActive t) (set (t .members) ix k)) l i m j
+  pub checkin-seated : (ix : ℕ) (k : Member) (q : Recent) {l m : List ℕ} {i j : ℕ} → Did (admitBy seat s call 63 (a .time)) t l i m j → (slot ≡ 255 → ⊥)
+      → ix ≡ indexOf slot → k ≡ checkinMember a len p (getD (t .members) ix noMember) → q ≡ noted (getD (t .recent) ix noRecent) (a .level)
+      → Did (checkinFrame a len p s) (withRecent (withMembers (withActive t) (set (t .members) ix k)) (set (t .recent) ix q)) l i m j
   unfolding checkinFrame
-  checkin-seated ix k x h ei ek =
-      rw (← ecall, ← eseat, ← eslot, ne-eqb slot 255 h) record { station = rw (ek, ei, x .station); wrote = x .wrote }
+  checkin-seated ix k q x h ei ek eq =
+      rw (← ecall, ← eseat, ← eslot, ne-eqb slot 255 h) record { station = rw (eq, ek, ei, x .station); wrote = x .wrote }
 
 -- ### The pairs of a report
 
@@ -167,30 +170,39 @@ module _ (a : Air) (p : List ℕ) (slot via e : ℕ) where
 -- ### The entries of children
 
 module _ (a : Air) (p : List ℕ) (slot e c b : ℕ) (ec : c ≡ getD p e 0) (eb : b ≡ getD p (e + 1) 0) where
-  kid-by : (t : Bool) (s : Station) (ws : List ℕ) (k : Member) {l m m′ : List ℕ} {i j j′ : ℕ}
-      → k ≡ cond t (kidMember a b (memberAt s c)) (memberAt s c)
-      → Wrote l i ws m j → Wrote m j (cond t (kidEvents c b) []) m′ j′
-      → Did (cond t (said (withCounted s c (kidMember a b (memberAt s c))) (ws ++ kidEvents c b)) (said s ws)) (withCounted s c k) l i m′ j′
-  kid-by true s ws k q x y = record { station = ap (withCounted s c) q; wrote = then x y }
-  kid-by false s ws k q x y =
-      record { station = ap (withCounted s c) q ∙ rw tally-same (member-again s c); wrote = wrote-as (then x y) (append-nil ws) }
+  -- the boat becomes k, and its readings r
+  abbrev kidIn : Station → Member → Recent → Station
+  kidIn s k r = withRecent (withCounted s c k) (set (s .recent) (indexOf c) r)
 
-  pub kid-turn : (d : Said) (s : Station) (k : Member) (ok : Bool) {l m m′ : List ℕ} {i j j′ : ℕ} → Did d s l i m j
+  kid-same : (s : Station) → kidIn s (memberAt s c) (recentAt s (indexOf c)) ≡ s
+  kid-same s = rw (set-getD (s .recent) (indexOf c) noRecent, tally-same) (member-again s c)
+
+  kid-by : (t : Bool) (s : Station) (ws : List ℕ) (k : Member) (r : Recent) {l m m′ : List ℕ} {i j j′ : ℕ}
+      → k ≡ cond t (kidMember a b (memberAt s c)) (memberAt s c) → r ≡ cond t (kidRecent b (recentAt s (indexOf c))) (recentAt s (indexOf c))
+      → Wrote l i ws m j → Wrote m j (cond t (kidEvents c b) []) m′ j′
+      → Did (cond t (said (kidIn s (kidMember a b (memberAt s c)) (kidRecent b (recentAt s (indexOf c)))) (ws ++ kidEvents c b)) (said s ws)) (kidIn s k r) l i m′ j′
+  kid-by true s ws k r q z x y = record { station = ap₂ (kidIn s) q z; wrote = then x y }
+  kid-by false s ws k r q z x y =
+      record { station = ap₂ (kidIn s) q z ∙ kid-same s; wrote = wrote-as (then x y) (append-nil ws) }
+
+  pub kid-turn : (d : Said) (s : Station) (k : Member) (r : Recent) (ok : Bool) {l m m′ : List ℕ} {i j j′ : ℕ} → Did d s l i m j
       → ok ≡ isKid s c slot → k ≡ cond ok (kidMember a b (memberAt s c)) (memberAt s c)
-      → Wrote m j (cond ok (kidEvents c b) []) m′ j′ → Did (kidEntry a p slot e d) (withCounted s c k) l i m′ j′
+      → r ≡ cond ok (kidRecent b (recentAt s (indexOf c))) (recentAt s (indexOf c))
+      → Wrote m j (cond ok (kidEvents c b) []) m′ j′ → Did (kidEntry a p slot e d) (kidIn s k r) l i m′ j′
   unfolding kidEntry
-  kid-turn d s k ok {l} {m′} {i} {j′} x o q y =
-      rw (← ec, ← eb, ← x .station, ← o) (kid-by ok s (d .words) k q (x .wrote) y)
+  kid-turn d s k r ok {l} {m′} {i} {j′} x o q z y =
+      rw (← ec, ← eb, ← x .station, ← o) (kid-by ok s (d .words) k r q z (x .wrote) y)
 
   -- as the code stores it
-  pub kid-stored : (d : Said) (s : Station) (ix : ℕ) (here ok : Bool) (k : Member) (n : ℕ) {l m m′ : List ℕ} {i j j′ : ℕ} → Did d s l i m j
+  pub kid-stored : (d : Said) (s : Station) (ix : ℕ) (here ok : Bool) (k : Member) (r : Recent) (n : ℕ) {l m m′ : List ℕ} {i j j′ : ℕ} → Did d s l i m j
       → ix ≡ indexOf c → here ≡ isMember (s .used) c → ok ≡ kidOf here (getD (s .members) ix noMember) slot
       → k ≡ cond ok (kidMember a b (getD (s .members) ix noMember)) (getD (s .members) ix noMember)
+      → r ≡ cond ok (kidRecent b (getD (s .recent) ix noRecent)) (getD (s .recent) ix noRecent)
       → n ≡ tally (s .totals .silent) (silentAt (s .settings .misslimit) (getD (s .members) ix noMember)) (silentAt (s .settings .misslimit) k)
       → Wrote m j (cond ok (kidEvents c b) []) m′ j′
-      → Did (kidEntry a p slot e d) (withTotals (withMembers s (set (s .members) ix k)) (withSilent (s .totals) n)) l i m′ j′
-  kid-stored d s ix here ok k n x ei eh eo ek en y =
-      rw (en, ei) (kid-turn d s k ok x (eo ∙ rw (eh, ei)) (ek ∙ rw ei) y)
+      → Did (kidEntry a p slot e d) (withTotals (withRecent (withMembers s (set (s .members) ix k)) (set (s .recent) ix r)) (withSilent (s .totals) n)) l i m′ j′
+  kid-stored d s ix here ok k r n x ei eh eo ek er en y =
+      rw (en, ei) (kid-turn d s k r ok x (eo ∙ rw (eh, ei)) (ek ∙ rw ei) (er ∙ rw ei) y)
 
 -- ### A payload's bytes
 

@@ -7,11 +7,15 @@ use lib.ListN.{getD, set, drop}
 use Rattle.wire.specs.Call.{unpackCall}
 use Rattle.wire.specs.Fields.{snrFromQ}
 use Rattle.words.specs.Words.{payload}
+use Rattle.level.specs.declared.Level.{Level}
+use Rattle.level.specs.declared.Level.the-variants.{Unheard, Decibels}
+use Rattle.recent.specs.declared.Recent.{Recent}
+use Rattle.recent.specs.Readings.{empty, noted}
 use Rattle.out.specs.Encode.{missedWord}
 use Rattle.roster.specs.declared.Member.{Member}
 use Rattle.roster.specs.Members.{withHeard, withDown, withCaps, withVersion, receivedAt, reachedAt, missedOne, isWilling}
 use Rattle.net.specs.declared.Station.{Station}
-use Rattle.net.specs.State.{memberAt, withMember, withCounted, withRound, withHears, withActivity}
+use Rattle.net.specs.State.{indexOf, memberAt, withMember, withCounted, withRound, withHears, withActivity, withRecent, recentAt, alsoNoted}
 use Rattle.net.specs.Net.{isMember, Said, said}
 use Rattle.admit.specs.Admission.{seatOf, slotOf, admitBy}
 use Rattle.admit.specs.declared.Seat.{Seat}
@@ -35,10 +39,12 @@ abbrev pub checkinMember : Air → ℕ → List ℕ → Member → Member
 checkinMember a len p m =
     withVersion (withCaps (receivedAt m (a .level) (snrFromQ (getD p 6 0)) (a .time)) (ltb 7 len) (getD p 7 0)) (ltb 9 len) (getD p 9 0)
 
--- the level is smoothed and capability and version are noted also for a known boat
+-- the level is smoothed and capability and version are noted also for a known boat; its readings have the level as it came in
 abbrev pub checkedIn : Air → ℕ → List ℕ → ℕ → Said → Said
 checkedIn a len p slot d =
-    said (cond (eqb slot 255) (d .station) (withMember (d .station) slot (checkinMember a len p (memberAt (d .station) slot)))) (d .words)
+    said
+    (cond (eqb slot 255) (d .station)
+    (alsoNoted (withMember (d .station) slot (checkinMember a len p (memberAt (d .station) slot))) (indexOf slot) (a .level))) (d .words)
 
 abbrev pub withActive : Station → Station
 withActive s = withRound s (withActivity (s .round) true)
@@ -140,11 +146,22 @@ kidMember a b m = cond (leb 128 b) (reachedAt m (snrFromQ b) (a .time)) (missedO
 abbrev pub kidEvents : ℕ → ℕ → List ℕ
 kidEvents c b = cond (leb 128 b) [] (missedWord c ∷ [])
 
+-- what the entry makes of the boat's readings: the level that it names is one more, nothing heard makes them none
+abbrev pub heardAs : Level → Recent → Recent
+heardAs Unheard r = empty
+heardAs (Decibels snr) r = noted r snr
+
+abbrev pub kidRecent : ℕ → Recent → Recent
+kidRecent b r = cond (leb 128 b) (heardAs (snrFromQ b) r) r
+
 -- the entry of two bytes: slot c, and the byte b
 abbrev pub kidBy : Air → ℕ → ℕ → ℕ → Said → Said
 kidBy a slot c b x =
     cond (isKid (x .station) c slot)
-    (said (withCounted (x .station) c (kidMember a b (memberAt (x .station) c))) (x .words ++ kidEvents c b)) x
+    (said
+    (withRecent (withCounted (x .station) c (kidMember a b (memberAt (x .station) c)))
+    (set (x .station .recent) (indexOf c) (kidRecent b (recentAt (x .station) (indexOf c)))))
+    (x .words ++ kidEvents c b)) x
 
 unfoldable pub kidEntry : Air → List ℕ → ℕ → ℕ → Said → Said
 kidEntry a p slot e x = kidBy a slot (getD p e 0) (getD p (e + 1) 0) x

@@ -186,6 +186,7 @@ storedStation a p d i c relayed s =
       landed = landedAfter (s .landed) d p c;
       count = s .count;
       members = set (s .members) i (memberAfter (getD (s .members) i noMember) d p a);
+      recent = s .recent;
       hears = s .hears;
       owners = set (s .owners) c (ownerAfter (getD (s .owners) c 0) d p);
       cells = set (s .cells) c (d .cell);

@@ -2,7 +2,9 @@
 use crate::Air;
 use crate::Rx;
 use admit::Seat;
+use level::Level;
 use net::Station;
+use recent::Recent;
 use roster::Member;
 ghost use mathlib.Core.Path.{_≡_};
 ghost use mathlib.Core.Bool.{cond};
@@ -13,7 +15,7 @@ ghost use Rattle.out.specs.Encode.{Wrote};
 ghost use Rattle.net.specs.Net.{Did, said};
 ghost use Rattle.admit.specs.declared.Seat.the-variants.{Free};
 ghost use Rattle.frames.specs.Reading.{reportRx};
-ghost use Rattle.frames.specs.Control.{payloadIn, callAt, checkinMember, checkinFrame, forwardedBy, reportMember, hearing, hearPairs, isPending, relayOf, newcomer, overheardBy, overheardEntry, overheardFrame, kidMember, kidEvents, kidOf, kidsFrame};
+ghost use Rattle.frames.specs.Control.{payloadIn, callAt, checkinMember, checkinFrame, forwardedBy, reportMember, hearing, hearPairs, isPending, relayOf, newcomer, overheardBy, overheardEntry, overheardFrame, kidMember, heardAs, kidRecent, kidEvents, kidOf, kidsFrame};
 
 // Byte j of the payload of the frame of len bytes at `at`; 0 past its end.
 pub fn byte_in(words: &[u32], at: usize, len: u8, j: usize) -> u8
@@ -150,6 +152,9 @@ pub fn checkin(
     let m = t.members[i];
     let k = checkin_member(m, a, words, at, len);
     t.members[i] = k;
+    let r = t.recent[i];
+    let q = recent::noted(r, a.level);
+    t.recent[i] = q;
     t
 }
 
@@ -268,6 +273,28 @@ fn kid_member(m: Member, ok: bool, b: u8, a: Air) -> Member
     roster::missed_one(m)
 }
 
+// Its readings: one more where the relay heard it, none where it says that it did not.
+fn kid_recent(r: Recent, ok: bool, b: u8) -> Recent
+    ensures { λ k. ⌜ k ≡ cond ok (kidRecent b r) r ⌝ }
+{
+    if !ok {
+        return r;
+    }
+    if 128 <= b {
+        return heard_as(r, wire::snr_from_q(b));
+    }
+    r
+}
+
+fn heard_as(r: Recent, x: Level) -> Recent
+    ensures { λ k. ⌜ k ≡ heardAs x r ⌝ }
+{
+    match x {
+        Level::Unheard => recent::empty(),
+        Level::Decibels(snr) => recent::noted(r, snr),
+    }
+}
+
 fn kid_event(ok: bool, b: u8, slot: u8, o: &mut [u32], at: usize) -> usize
     ensures { λ r. ⌜ Wrote (now (o .entry)) at (cond ok (kidEvents slot b) []) (now (o .exit)) r ⌝ }
 {
@@ -304,6 +331,9 @@ pub fn kids(
         let ok = is_kid(m, net::is_member(s.used, c), slot);
         let k = kid_member(m, ok, b, a);
         s.members[i] = k;
+        let r = s.recent[i];
+        let q = kid_recent(r, ok, b);
+        s.recent[i] = q;
         let limit = s.settings.misslimit;
         let silent = roster::tally(s.totals.silent, limit <= m.missed, limit <= k.missed);
         s.totals.silent = silent;

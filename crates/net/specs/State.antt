@@ -7,6 +7,8 @@ use lib.Dec.{ltb}
 use lib.Ieee.{Float}
 use Rattle.bits.specs.Stop.{stop}
 use Rattle.bits.specs.Mask.{withBit}
+use Rattle.recent.specs.declared.Recent.{Recent}
+use Rattle.recent.specs.Readings.{noRecent, empty, noted}
 use Rattle.roster.specs.declared.Member.{Member}
 use Rattle.roster.specs.Members.{noMember, silentAt, tally}
 use Rattle.stream.specs.Table.{Table}
@@ -19,27 +21,31 @@ use Rattle.net.specs.declared.Wait.{Wait}
 
 abbrev pub withWait : Station → Wait → Station
 withWait s w =
-    record { settings = s .settings; wait = w; round = s .round; totals = s .totals; used = s .used; busy = s .busy; landed = s .landed; count = s .count; members = s .members; hears = s .hears; owners = s .owners; cells = s .cells }
+    record { settings = s .settings; wait = w; round = s .round; totals = s .totals; used = s .used; busy = s .busy; landed = s .landed; count = s .count; members = s .members; recent = s .recent; hears = s .hears; owners = s .owners; cells = s .cells }
 
 abbrev pub withRound : Station → Round → Station
 withRound s r =
-    record { settings = s .settings; wait = s .wait; round = r; totals = s .totals; used = s .used; busy = s .busy; landed = s .landed; count = s .count; members = s .members; hears = s .hears; owners = s .owners; cells = s .cells }
+    record { settings = s .settings; wait = s .wait; round = r; totals = s .totals; used = s .used; busy = s .busy; landed = s .landed; count = s .count; members = s .members; recent = s .recent; hears = s .hears; owners = s .owners; cells = s .cells }
 
 abbrev pub withTotals : Station → Totals → Station
 withTotals s t =
-    record { settings = s .settings; wait = s .wait; round = s .round; totals = t; used = s .used; busy = s .busy; landed = s .landed; count = s .count; members = s .members; hears = s .hears; owners = s .owners; cells = s .cells }
+    record { settings = s .settings; wait = s .wait; round = s .round; totals = t; used = s .used; busy = s .busy; landed = s .landed; count = s .count; members = s .members; recent = s .recent; hears = s .hears; owners = s .owners; cells = s .cells }
 
 abbrev pub withUsed : Station → ℕ → Station
 withUsed s m =
-    record { settings = s .settings; wait = s .wait; round = s .round; totals = s .totals; used = m; busy = s .busy; landed = s .landed; count = s .count; members = s .members; hears = s .hears; owners = s .owners; cells = s .cells }
+    record { settings = s .settings; wait = s .wait; round = s .round; totals = s .totals; used = m; busy = s .busy; landed = s .landed; count = s .count; members = s .members; recent = s .recent; hears = s .hears; owners = s .owners; cells = s .cells }
 
 abbrev pub withMembers : Station → List Member → Station
 withMembers s ms =
-    record { settings = s .settings; wait = s .wait; round = s .round; totals = s .totals; used = s .used; busy = s .busy; landed = s .landed; count = s .count; members = ms; hears = s .hears; owners = s .owners; cells = s .cells }
+    record { settings = s .settings; wait = s .wait; round = s .round; totals = s .totals; used = s .used; busy = s .busy; landed = s .landed; count = s .count; members = ms; recent = s .recent; hears = s .hears; owners = s .owners; cells = s .cells }
 
 abbrev pub withHears : Station → List ℕ → Station
 withHears s h =
-    record { settings = s .settings; wait = s .wait; round = s .round; totals = s .totals; used = s .used; busy = s .busy; landed = s .landed; count = s .count; members = s .members; hears = h; owners = s .owners; cells = s .cells }
+    record { settings = s .settings; wait = s .wait; round = s .round; totals = s .totals; used = s .used; busy = s .busy; landed = s .landed; count = s .count; members = s .members; recent = s .recent; hears = h; owners = s .owners; cells = s .cells }
+
+abbrev pub withRecent : Station → List Recent → Station
+withRecent s rs =
+    record { settings = s .settings; wait = s .wait; round = s .round; totals = s .totals; used = s .used; busy = s .busy; landed = s .landed; count = s .count; members = s .members; recent = rs; hears = s .hears; owners = s .owners; cells = s .cells }
 
 -- a number that is no slot reads slot 0; whoever asks has tested it (`isMember`)
 abbrev pub indexOf : ℕ → ℕ
@@ -51,13 +57,26 @@ memberAt s slot = getD (s .members) (indexOf slot) noMember
 abbrev pub withMember : Station → ℕ → Member → Station
 withMember s slot m = withMembers s (set (s .members) (indexOf slot) m)
 
+-- ---- the last reception levels of the boat in slot i (U13)
+
+abbrev pub recentAt : Station → ℕ → Recent
+recentAt s i = getD (s .recent) i noRecent
+
+-- a reception level updated its up level
+abbrev pub alsoNoted : Station → ℕ → Float → Station
+alsoNoted s i x = withRecent s (set (s .recent) i (noted (recentAt s i) x))
+
+-- its up level is not one that the levels so far made
+abbrev pub emptied : Station → ℕ → Station
+emptied s i = withRecent s (set (s .recent) i empty)
+
 -- the station's cells, as stream's table
 abbrev pub tableOf : Station → Table
 tableOf s = record { count = s .count; busy = s .busy; landed = s .landed; owners = s .owners; cells = s .cells }
 
 abbrev pub withTable : Station → Table → Station
 withTable s t =
-    record { settings = s .settings; wait = s .wait; round = s .round; totals = s .totals; used = s .used; busy = t .busy; landed = t .landed; count = t .count; members = s .members; hears = s .hears; owners = t .owners; cells = t .cells }
+    record { settings = s .settings; wait = s .wait; round = s .round; totals = s .totals; used = s .used; busy = t .busy; landed = t .landed; count = t .count; members = s .members; recent = s .recent; hears = s .hears; owners = t .owners; cells = t .cells }
 
 -- ---- Round
 

@@ -6,6 +6,7 @@ ghost use Rattle.net.specs.Net.{isMember, membersIn, firstRound, noTotal
 use inbox::cell::Cell;
 use level::Clock;
 use level::Level;
+use recent::Recent;
 use roster::Member;
 
 // What a reply is waited for: from which slot, whose traffic it also forwards (63: nobody's), how often it was asked again, and how many
@@ -81,7 +82,7 @@ pub struct Totals {
     pub silent: u32,
 }
 
-// `used` is the mask of slots with a member. Cell c below `count` is free, or in `busy` and filling, or in both `busy` and `landed`;
+// `used` is the mask of slots with a member; recent[i] has the last reception levels of the boat in slot i. Cell c below `count` is free, or in `busy` and filling, or in both `busy` and `landed`;
 // owners[c] is slot * 2^32 + number of its message. The arrays stand in the station itself, so that an element is stored in place.
 pub struct Station {
     pub settings: Settings,
@@ -93,6 +94,7 @@ pub struct Station {
     pub landed: u64,
     pub count: usize,
     pub members: [Member; 62],
+    pub recent: [Recent; 62],
     pub hears: [u8; 3844],
     pub owners: [u64; 64],
     pub cells: [Cell; 64],
@@ -168,6 +170,8 @@ pub fn new(settings: Settings, count: usize) -> Station
     let round = first_round();
     let totals = no_totals();
     let members = [m; 62];
+    let none = recent::empty();
+    let recent = [none; 62];
     let hears = [63u8; 3844];
     let owners = [0u64; 64];
     let cells = [c; 64];
@@ -181,6 +185,7 @@ pub fn new(settings: Settings, count: usize) -> Station
         landed: 0,
         count: count,
         members: members,
+        recent: recent,
         hears: hears,
         owners: owners,
         cells: cells,

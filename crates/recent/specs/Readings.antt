@@ -49,6 +49,10 @@ pub record Lowest (l : Level) (xs : List Float) : Type 0 where
 
 -- ---- the ring: the next reading goes to place `at`, and the `count` places before it hold the last ones
 
+-- what an element past an array's end is taken for
+abbrev pub noRecent : Recent
+noRecent = record { levels = []; count = 0; at = 0 }
+
 abbrev pub empty : Recent
 empty = record { levels = replicate 32 (ofBits binary32 0); count = 0; at = 0 }
 

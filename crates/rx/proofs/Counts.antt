@@ -1,21 +1,21 @@
 -- A control frame leaves the number of cells as it was. Assumes nothing.
 use mathlib.Core.Path.{_≡_, refl, _∙_}
 use mathlib.Core.Bool.{Bool, true, false, cond}
-use mathlib.Core.List.{List, [], _++_}
+use mathlib.Core.List.{List, []}
 use Prim.Native.Nat.{ℕ, zero, suc, _+_}
 use lib.Dec.{eqb, leb}
 use lib.ListN.{getD}
 use lib.Ieee.{Float}
 use Rattle.bits.proofs.Lists.{cond-keeps}
 use Rattle.net.specs.declared.Station.{Station}
-use Rattle.net.specs.State.{withMember, memberAt, withHears, withCounted}
+use Rattle.net.specs.State.{indexOf, withMember, memberAt, withHears, alsoNoted}
 use Rattle.net.specs.Net.{Said, said, isMember}
 use Rattle.admit.specs.declared.Seat.{Seat}
 use Rattle.admit.specs.declared.Seat.the-variants.{Known, Free, Full}
 use Rattle.admit.specs.Admission.{admitBy, seatOf, slotOf}
 use Rattle.frames.specs.declared.Air.{Air}
 use Rattle.frames.specs.Kinds.{Kind, Nothing, Piece, Checkin, Report, Overheard, Kids}
-use Rattle.frames.specs.Control.{eachEntry, checkinFrame, checkinMember, seatedIn, callAt, withActive, overheardBy, overheardEntry, overheardFrame, relayOf, heardBy, hearing, newcomer, kidBy, kidEntry, kidsFrame, isKid, kidMember, kidEvents, controlSays}
+use Rattle.frames.specs.Control.{eachEntry, checkinFrame, checkinMember, seatedIn, callAt, withActive, overheardBy, overheardEntry, overheardFrame, relayOf, heardBy, hearing, newcomer, kidBy, kidEntry, kidsFrame, isKid, controlSays}
 
 -- what each entry keeps, all of them keep
 each-keeps : {A : Type 0} (P : A → Type 0) (f : ℕ → A → A) (w len : ℕ) → ((e : ℕ) (x : A) → P x → P (f e x)) → (n e : ℕ) (x : A) → P x → P (eachEntry f w len n e x)
@@ -35,7 +35,7 @@ seated-count : (seat : Seat) (a : Air) (len : ℕ) (p : List ℕ) (d : Said) →
 seated-count seat a len p d = at (eqb (slotOf seat) 255)
   where
     at : (t : Bool)
-        → cond t (withActive (d .station)) (withMember (withActive (d .station)) (slotOf seat) (checkinMember a len p (memberAt (withActive (d .station)) (slotOf seat)))) .count ≡ d .station .count
+        → cond t (withActive (d .station)) (alsoNoted (withMember (withActive (d .station)) (slotOf seat) (checkinMember a len p (memberAt (withActive (d .station)) (slotOf seat)))) (indexOf (slotOf seat)) (a .level)) .count ≡ d .station .count
     at true = refl
     at false = refl
 
@@ -58,11 +58,7 @@ overheard-count Full a p e slot via x = refl
 -- ### Children
 
 kid-count : (a : Air) (slot c b : ℕ) (x : Said) → kidBy a slot c b x .station .count ≡ x .station .count
-kid-count a slot c b x = at (isKid (x .station) c slot)
-  where
-    at : (t : Bool) → cond t (said (withCounted (x .station) c (kidMember a b (memberAt (x .station) c))) (x .words ++ kidEvents c b)) x .station .count ≡ x .station .count
-    at true = refl
-    at false = refl
+kid-count a slot c b x = cond-keeps (λ (y : Said). y .station .count ≡ x .station .count) (isKid (x .station) c slot) _ x (λ _. refl) (λ _. refl)
 
 -- ### Each
 

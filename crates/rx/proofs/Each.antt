@@ -147,7 +147,7 @@ module _ {a : Air} {ws : List ℕ} {n : ℕ} {s₀ : Station} {store₀ o₀ sto
       → length store′ ≡ length store
       → x′ ≡ nextRx (record { word = x .word; frame = x .frame; at = end; sender = x .sender; more = x .more; heard = x .heard; unkept = unkept }) f
       → Going a ws n s₀ store₀ o₀ store′ o′
-      (record { settings = s .settings; wait = s .wait; round = q; totals = u; used = s .used; busy = busy; landed = landed; count = s .count; members = set (s .members) i k; hears = s .hears; owners = set (s .owners) c owner; cells = set (s .cells) c (d .cell) })
+      (record { settings = s .settings; wait = s .wait; round = q; totals = u; used = s .used; busy = busy; landed = landed; count = s .count; members = set (s .members) i k; recent = s .recent; hears = s .hears; owners = set (s .owners) c owner; cells = set (s .cells) c (d .cell) })
       x′
   turn-piece is {i} {c} {end} {unkept} {busy} {landed} {owner} {here} {relayed} {p} {d} {store′} ei eh ep ec et eo eb el ek′ er eq eu w en es ex =
       goes g h f (landedEvents d p c relayed (a .polled)) ef

@@ -12,6 +12,8 @@ use borrow.Author.Tests.{ltb-true, ne-eqb}
 use Rattle.bits.proofs.Lists.{and-true}
 use Rattle.wire.specs.Kinds.{tiny, kIdle}
 use Rattle.words.specs.declared.Head.{Head}
+use Rattle.recent.specs.declared.Recent.{Recent}
+use Rattle.recent.specs.Readings.{noRecent}
 use Rattle.roster.specs.declared.Member.{Member}
 use Rattle.roster.specs.Members.{noMember, silentAt}
 use Rattle.roster.proofs.Silent.{tally-same}
@@ -20,7 +22,7 @@ use Rattle.net.specs.declared.Reply.{Reply}
 use Rattle.net.specs.declared.Turn.{Turn}
 use Rattle.net.specs.declared.Turn.the-variants.{Idle, Sending, Waiting}
 use Rattle.net.specs.declared.Wait.{Wait}
-use Rattle.net.specs.State.{indexOf, memberAt, withMembers, withWait, withTotals, oneReply}
+use Rattle.net.specs.State.{indexOf, memberAt, withMembers, withWait, withTotals, withRecent, oneReply}
 use Rattle.net.specs.Net.{isMember, idleWait, Did}
 use Rattle.out.specs.Encode.{Wrote}
 use Rattle.out.proofs.Laws.{wrote-as}
@@ -31,7 +33,7 @@ use Rattle.frames.specs.Reading.{Reading}
 use Rattle.rx.specs.declared.ending.Awaited.{Awaited}
 use Rattle.rx.specs.declared.ending.Ending.{Ending}
 use Rattle.rx.specs.Ending.{isReply, goesOn, replyMember, idleHeard, idleBy, idleEnd, answerBy, replyHeard, replyBy, replyEnd, turnOverIn, nothingMore, endReading, endSaid}
-use Rattle.rx.specs.Steps.{awaits, noReply, noEnding, idleEnding, replyEnding, awaitedOf, endingBy, endStation, endBurst, endWords, endLevel, endMember, endSource, endWait, endTotals}
+use Rattle.rx.specs.Steps.{awaits, noReply, noEnding, idleEnding, replyEnding, awaitedOf, endingBy, endStation, endBurst, endWords, endLevel, endMember, endRecent, endSource, endWait, endTotals}
 
 -- ### What the burst is
 
@@ -51,7 +53,7 @@ module _ (w : Awaited) (sender : ℕ) (more : Bool) (h : Head) (n : h .code ≡ 
 none-station : (s : Station) (h : Head) (a : Air) → endStation s noEnding h a ≡ s
 unfolding endStation
 none-station s h a =
-    rw tally-same
+    rw (tally-same, set-getD (s .recent) 0 noRecent)
     (ap (withMembers s) (set-getD (set (s .members) 0 (getD (s .members) 0 noMember)) 0 noMember ∙ set-getD (s .members) 0 noMember))
 
 -- K_IDLE
@@ -60,7 +62,7 @@ module _ (s : Station) (h : Head) (a : Air) where
       → endStation s (idleEnding (awaits false noReply) h) h a ≡ idleHeard a (h .extra) s
   unfolding endStation
   idle-none true e = rw (e, set-getD)
-  idle-none false e = rw (e, tally-same, set-getD, set-getD)
+  idle-none false e = rw (e, tally-same, set-getD, set-getD, set-getD)
 
   idle-waits : (r : Reply) (t o u : Bool) → isMember (s .used) (h .extra % 64) ≡ t → eqb (r .slot) (h .extra % 64) ≡ o
       → isMember (s .used) (r .relayfor) ≡ u
@@ -68,10 +70,10 @@ module _ (s : Station) (h : Head) (a : Air) where
   unfolding endStation
   idle-waits r true true true p q v = rw (p, q, v)
   idle-waits r true true false p q v = rw (p, q, v, set-getD)
-  idle-waits r false true true p q v = rw (p, q, v, tally-same, set-getD)
-  idle-waits r false true false p q v = rw (p, q, v, tally-same, set-getD, set-getD)
+  idle-waits r false true true p q v = rw (p, q, v, tally-same, set-getD, set-getD)
+  idle-waits r false true false p q v = rw (p, q, v, tally-same, set-getD, set-getD, set-getD)
   idle-waits r true false u p q v = rw (p, q, set-getD)
-  idle-waits r false false u p q v = rw (p, q, tally-same, set-getD, set-getD)
+  idle-waits r false false u p q v = rw (p, q, tally-same, set-getD, set-getD, set-getD)
 
   idle-turn : (v : Turn) → endStation s (idleEnding (awaitedOf v) h) h a ≡ idleBy v (h .extra % 64) (idleHeard a (h .extra) s) .station
   idle-turn Idle = idle-none _ refl
@@ -96,7 +98,7 @@ module _ (a : Air) (h : Head) (x : Reading) (r : Reply) where
       ≡ answerBy true r (h .hi % 4) (x .heard) (replyHeard a (r .slot) (h .hi % 4) (oneReply (x .station))) .station
   unfolding endStation
   again-station true p n = rw (p, n, set-getD)
-  again-station false p n = rw (p, n, tally-same, set-getD, set-getD)
+  again-station false p n = rw (p, n, tally-same, set-getD, set-getD, set-getD)
 
   last-station : (t u : Bool) → isMember (x .station .used) (r .slot) ≡ t → isMember (x .station .used) (r .relayfor) ≡ u
       → endStation (x .station) (replyEnding r false) h a
@@ -104,8 +106,8 @@ module _ (a : Air) (h : Head) (x : Reading) (r : Reply) where
   unfolding endStation
   last-station true true p v = rw (p, v)
   last-station true false p v = rw (p, v, set-getD)
-  last-station false true p v = rw (p, v, tally-same, set-getD)
-  last-station false false p v = rw (p, v, tally-same, set-getD, set-getD)
+  last-station false true p v = rw (p, v, tally-same, set-getD, set-getD)
+  last-station false false p v = rw (p, v, tally-same, set-getD, set-getD, set-getD)
 
   reply-station : (g : Bool) → goesOn h (x .more) r ≡ g
       → endStation (x .station) (replyEnding r g) h a
@@ -194,16 +196,16 @@ module _ (a : Air) (h : Head) (s : Station) (x : Rx) where
 
 -- ### The stores of the code, one after the other
 
-pub finished : (a : Air) (h : Head) (s : Station) (x : Rx) (e : Ending) (here : Bool) (i : ℕ) (k : Member) (level : ℕ) (j : ℕ) (d : Member) (v : Wait) (y : Totals) (l m : List ℕ) (end : ℕ)
+pub finished : (a : Air) (h : Head) (s : Station) (x : Rx) (e : Ending) (here : Bool) (i : ℕ) (k : Member) (z : Recent) (level : ℕ) (j : ℕ) (d : Member) (v : Wait) (y : Totals) (l m : List ℕ) (end : ℕ)
     → e ≡ endingBy (awaitedOf (s .wait .turn)) (x .sender) (x .more) h → here ≡ isMember (s .used) (e .slot) → i ≡ indexOf (e .slot)
-    → k ≡ endMember (getD (s .members) i noMember) e here h a → level ≡ endLevel (s .settings) k here
+    → k ≡ endMember (getD (s .members) i noMember) e here h a → z ≡ endRecent (getD (s .recent) i noRecent) e here a → level ≡ endLevel (s .settings) k here
     → Wrote l (x .at) (endWords e h (x .heard) level) m end
     → j ≡ indexOf (e .reply .relayfor) → d ≡ endSource (s .hears) (s .used) (getD (set (s .members) i k) j noMember) e (e .reply .relayfor)
     → v ≡ endWait (s .wait) e
     → y ≡ endTotals (s .totals) e (silentAt (s .settings .misslimit) (getD (s .members) i noMember)) (silentAt (s .settings .misslimit) k)
-    → Did (endSaid a h s x) (withTotals (withWait (withMembers s (set (set (s .members) i k) j d)) v) y) l (x .at) m end
+    → Did (endSaid a h s x) (withTotals (withWait (withMembers (withRecent s (set (s .recent) i z)) (set (set (s .members) i k) j d)) v) y) l (x .at) m end
 unfolding endStation endBurst
-finished a h s x e here i k level j d v y l m end pe ph pi pk pl w pj pd pv py = record {
-  station = rw (pv, py, pd, pj, pk, pi, ph, pe) (end-station a h s x);
+finished a h s x e here i k z level j d v y l m end pe ph pi pk pz pl w pj pd pv py = record {
+  station = rw (pv, py, pd, pj, pz, pk, pi, ph, pe) (end-station a h s x);
   wrote = wrote-as w (rw (pl, pk, pi, ph, pe) (end-burst a h s x));
 }

@@ -19,8 +19,8 @@ use Rattle.net.specs.declared.Reply.{Reply}
 use Rattle.net.specs.declared.Turn.{Turn}
 use Rattle.net.specs.declared.Turn.the-variants.{Idle, Sending, Waiting}
 use Rattle.net.specs.declared.Wait.{Wait}
-use Rattle.net.specs.State.{memberAt, withMember, withCounted, withWait, oneReply}
-use Rattle.net.specs.Net.{plus, isMember, waitOf, idleWait, tinyWave, leafWait, Said, said}
+use Rattle.net.specs.State.{memberAt, withMember, withCounted, withWait, oneReply, indexOf, alsoNoted}
+use Rattle.net.specs.Net.{plus, isMember, waitOf, idleWait, tinyWave, leafWait, Said, said, levelIn}
 use Rattle.frames.specs.declared.Air.{Air}
 use Rattle.frames.specs.declared.Rx.{Rx}
 use Rattle.frames.specs.Reading.{Reading}
@@ -64,7 +64,9 @@ idleMember a extra m =
     cond (eqb (m .via) 63) k (withDirect k (a .level))
 
 abbrev pub idleHeard : Air → ℕ → Station → Station
-idleHeard a extra s = cond (isMember (s .used) (extra % 64)) (withCounted s (extra % 64) (idleMember a extra (memberAt s (extra % 64)))) s
+idleHeard a extra s =
+    cond (isMember (s .used) (extra % 64))
+    (alsoNoted (withCounted s (extra % 64) (idleMember a extra (memberAt s (extra % 64)))) (indexOf (extra % 64)) (a .level)) s
 
 -- it ends the turn of the boat that was polled
 abbrev pub idleBy : Turn → ℕ → Station → Ended
@@ -88,7 +90,8 @@ abbrev pub replyMember : Air → ℕ → Member → Member
 replyMember a burst m = withBurst (withMissed (receivedAt m (a .level) (m .snrdown) (a .time)) 0) ((burst + 1) % 4)
 
 abbrev pub replyHeard : Air → ℕ → ℕ → Station → Station
-replyHeard a slot burst s = cond (isMember (s .used) slot) (withCounted s slot (replyMember a burst (memberAt s slot))) s
+replyHeard a slot burst s =
+    cond (isMember (s .used) slot) (alsoNoted (withCounted s slot (replyMember a burst (memberAt s slot))) (indexOf slot) (a .level)) s
 
 -- the level of the acknowledgement: as the boat hears us
 abbrev pub ackLevel : Station → ℕ → ℕ

@@ -4,11 +4,14 @@ use Prim.Native.Nat.{ℕ, _+_, _%_}
 use mathlib.Core.Bool.{Bool, true, false, not, cond, _&&_, _||_}
 use mathlib.Core.List.{List, [], _∷_}
 use lib.Dec.{eqb}
+use lib.ListN.{set}
 use Rattle.bits.specs.Stop.{stop}
 use Rattle.level.specs.declared.Clock.the-variants.{Never}
 use Rattle.wire.specs.Kinds.{tiny, kPollack, kAck, kIdle}
 use Rattle.words.specs.declared.Head.{Head}
 use Rattle.out.specs.Encode.{headWord, waveWord}
+use Rattle.recent.specs.declared.Recent.{Recent}
+use Rattle.recent.specs.Readings.{noted}
 use Rattle.roster.specs.declared.Member.{Member}
 use Rattle.roster.specs.Members.{silentAt, tally}
 use Rattle.roster.specs.Relays.{turnOver}
@@ -19,8 +22,8 @@ use Rattle.net.specs.declared.Reply.{Reply}
 use Rattle.net.specs.declared.Turn.{Turn}
 use Rattle.net.specs.declared.Turn.the-variants.{Idle, Sending, Waiting}
 use Rattle.net.specs.declared.Wait.{Wait}
-use Rattle.net.specs.State.{memberAt, withMember, withWait, withTotals, withReplies, withSilent}
-use Rattle.net.specs.Net.{isMember, waitOf, idleWait, tinyWave}
+use Rattle.net.specs.State.{memberAt, withMember, withWait, withTotals, withReplies, withSilent, indexOf, withRecent, recentAt}
+use Rattle.net.specs.Net.{isMember, waitOf, idleWait, tinyWave, levelIn}
 use Rattle.frames.specs.declared.Air.{Air}
 use Rattle.rx.specs.declared.ending.Awaited.{Awaited}
 use Rattle.rx.specs.declared.ending.Ending.{Ending}
@@ -62,6 +65,10 @@ abbrev pub endMember : Member → Ending → Bool → Head → Air → Member
 endMember m e here h a =
     cond (eqb (e .kind) 0 || not here) m (cond (eqb (e .kind) 1) (idleMember a (h .extra) m) (replyMember a (h .hi % 4) m))
 
+-- the burst's own level is one more reading
+abbrev pub endRecent : Recent → Ending → Bool → Air → Recent
+endRecent r e here a = cond (eqb (e .kind) 0 || not here) r (noted r (a .level))
+
 abbrev pub endSource : List ℕ → ℕ → Member → Ending → ℕ → Member
 endSource hears used m e source = cond (e .over && isMember used source) (turnOver hears used m source (e .slot)) m
 
@@ -89,7 +96,9 @@ endWords e h heard level =
 
 -- the boat that the burst is from
 abbrev pub endFirst : Station → Ending → Head → Air → Station
-endFirst s e h a = withMember s (e .slot) (endMember (memberAt s (e .slot)) e (isMember (s .used) (e .slot)) h a)
+endFirst s e h a =
+    withRecent (withMember s (e .slot) (endMember (memberAt s (e .slot)) e (isMember (s .used) (e .slot)) h a))
+    (set (s .recent) (indexOf (e .slot)) (endRecent (recentAt s (indexOf (e .slot))) e (isMember (s .used) (e .slot)) a))
 
 -- and the source whose traffic it was to forward
 abbrev pub endSecond : Station → Ending → Station

@@ -4,7 +4,7 @@ ghost use Prim.Native.Nat.{_+_, _%_};
 ghost use Rattle.out.specs.Encode.{Wrote};
 ghost use Rattle.net.specs.Net.{Did};
 ghost use Rattle.rx.specs.Ending.{isAside, isBusy, putOff, busyWait, goesOn, isReply, idleMember, replyMember, ackExtra, endSaid};
-ghost use Rattle.rx.specs.Steps.{noReply, awaits, awaitedOf, noEnding, idleEnding, replyEnding, endingBy, endMember, endSource, endWait, endTotals, endLevel, endWords};
+ghost use Rattle.rx.specs.Steps.{noReply, awaits, awaitedOf, noEnding, idleEnding, replyEnding, endingBy, endMember, endRecent, endSource, endWait, endTotals, endLevel, endWords};
 use frames::Air;
 use frames::Rx;
 use level::Clock;
@@ -14,6 +14,7 @@ use net::Station;
 use net::Totals;
 use net::Turn;
 use net::Wait;
+use recent::Recent;
 use roster::Member;
 use roster::relay;
 use words::Head;
@@ -46,6 +47,9 @@ pub fn finish(mut s: Station, x: Rx, h: Head, a: Air, o: &mut [u32], at: &mut us
     let m = s.members[i];
     let k = end_member(m, e, here, h, a);
     s.members[i] = k;
+    let y = s.recent[i];
+    let z = end_recent(y, e, here, a);
+    s.recent[i] = z;
     *at = put_end(o, x.at, e, h, x.heard, ack_level(g, k, here));
     let source = e.reply.relayfor;
     let b = net::index(source);
@@ -55,8 +59,8 @@ pub fn finish(mut s: Station, x: Rx, h: Head, a: Air, o: &mut [u32], at: &mut us
     let v = end_wait(w, e);
     s.wait = v;
     let t = s.totals;
-    let y = end_totals(t, e, g.misslimit <= m.missed, g.misslimit <= k.missed);
-    s.totals = y;
+    let u = end_totals(t, e, g.misslimit <= m.missed, g.misslimit <= k.missed);
+    s.totals = u;
     s
 }
 
@@ -207,6 +211,16 @@ fn end_member(m: Member, e: Ending, here: bool, h: Head, a: Air) -> Member
         return idle_member(m, h.extra, a);
     }
     reply_member(m, h.hi, a)
+}
+
+// The burst's own level is one more reading of the boat that it is from.
+fn end_recent(r: Recent, e: Ending, here: bool, a: Air) -> Recent
+    ensures { λ k. ⌜ k ≡ endRecent r e here a ⌝ }
+{
+    if (e.kind == 0) | !here {
+        return r;
+    }
+    recent::noted(r, a.level)
 }
 
 fn idle_member(m: Member, extra: u32, a: Air) -> Member

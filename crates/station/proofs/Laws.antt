@@ -63,7 +63,7 @@ round-if n s r = go (eqb n 0)
 
 abbrev freedBy : Bool → Station → ℕ → Station
 freedBy b s cell =
-    record { settings = s .settings; wait = s .wait; round = s .round; totals = s .totals; used = s .used; busy = cond b (withoutBit (s .busy) cell) (s .busy); landed = cond b (withoutBit (s .landed) cell) (s .landed); count = s .count; members = s .members; hears = s .hears; owners = s .owners; cells = s .cells }
+    record { settings = s .settings; wait = s .wait; round = s .round; totals = s .totals; used = s .used; busy = cond b (withoutBit (s .busy) cell) (s .busy); landed = cond b (withoutBit (s .landed) cell) (s .landed); count = s .count; members = s .members; recent = s .recent; hears = s .hears; owners = s .owners; cells = s .cells }
 
 pub freed-if : (n : ℕ) (s : Station) (cell : ℕ)
     → _≡_ {A = Answered} (record { station = freedBy (eqb n 0) s cell; answer = cond (eqb n 0) (Words 0) (Refused n) })

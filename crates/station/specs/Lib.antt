@@ -1,3 +1,4 @@
 pub mod Entries
 pub mod Shows
 pub mod SignOff
+pub mod Worst

@@ -10,6 +10,8 @@ use Rattle.bits.specs.Mask.{hasBit, withoutBit}
 use Rattle.level.specs.declared.Level.the-variants.{Unheard}
 use Rattle.level.specs.Consts.{nought}
 use Rattle.stream.specs.Table.{Table, freedTable}
+use Rattle.recent.specs.declared.Recent.{Recent}
+use Rattle.recent.specs.Readings.{empty}
 use Rattle.roster.specs.declared.Member.{Member}
 use Rattle.roster.specs.Members.{newMember, withLinks, withVia, withMissed, withMark}
 use Rattle.net.specs.declared.Station.{Station}
@@ -18,7 +20,7 @@ use Rattle.net.specs.declared.Reply.{Reply}
 use Rattle.net.specs.declared.Turn.{Turn}
 use Rattle.net.specs.declared.Turn.the-variants.{Idle, Sending, Waiting}
 use Rattle.net.specs.declared.Wait.{Wait}
-use Rattle.net.specs.State.{withWait, withRound, withUsed, withHears, withTable, tableOf, withList, withToack, withTreenews}
+use Rattle.net.specs.State.{withWait, withRound, withUsed, withHears, withTable, tableOf, withList, withToack, withTreenews, withRecent, recentAt, emptied}
 use Rattle.net.specs.Net.{isMember, blankCall, idleWait, waitOf}
 use Rattle.bursts.specs.Rows.{seated}
 use Rattle.bursts.specs.Reroute.{withSeated}
@@ -29,9 +31,9 @@ use Rattle.station.specs.Entries.{Outcome, done, unless}
 abbrev pub vacant : Member
 vacant = newMember blankCall 63 nought
 
--- to come: U4's barred numbers and U13's readings, which are of the stay, go with the record; U1's directed queue of the slot is emptied here
+-- its readings go with it (U13). To come: U4's barred numbers, which are of the stay, go with the record; U1's directed queue of the slot is emptied here
 abbrev pub leave : ℕ → Station → Station
-leave slot s = withUsed (withSeated s slot vacant) (withoutBit (s .used) slot)
+leave slot s = withUsed (emptied (withSeated s slot vacant) slot) (withoutBit (s .used) slot)
 
 -- ---- the other boats
 
@@ -39,16 +41,22 @@ leave slot s = withUsed (withSeated s slot vacant) (withoutBit (s .used) slot)
 abbrev pub untried : ℕ → Member → Member
 untried slot m = withMark m (m .marknext) (m .markbits) (withoutBit (m .tried) slot)
 
--- 'Boats relayed by it lose the relay, their up level becomes unheard and their missed count becomes the miss limit.' (U13: and their readings are none)
+-- 'Boats relayed by it lose the relay, their up level becomes unheard and their missed count becomes the miss limit.'
 abbrev pub cutOff : ℕ → Member → Member
 cutOff limit m = withMissed (withVia (withLinks m Unheard (m .snrdown) (m .direct) (m .lastheard)) 63) limit
 
 abbrev pub bereft : ℕ → ℕ → Member → Member
 bereft slot limit m = cond (eqb (m .via) slot) (cutOff limit (untried slot m)) (untried slot m)
 
+-- 'anything that makes the up level unheard' makes its readings none (U13)
+abbrev pub bereftOf : ℕ → Member → Recent → Recent
+bereftOf slot m r = cond (eqb (m .via) slot) empty r
+
 -- each boat by slot; the total of silent boats goes with it
 unfoldable pub bereaveAt : ℕ → ℕ → Station → Station
-bereaveAt slot i s = cond (hasBit (s .used) i) (withSeated s i (bereft slot (s .settings .misslimit) (seated s i))) s
+bereaveAt slot i s =
+    cond (hasBit (s .used) i)
+    (withRecent (withSeated s i (bereft slot (s .settings .misslimit) (seated s i))) (set (s .recent) i (bereftOf slot (seated s i) (recentAt s i)))) s
 
 unfoldable pub bereaveAll : ℕ → Station → Station
 bereaveAll slot s = fold (bereaveAt slot) 62 0 s

@@ -11,7 +11,9 @@ ghost use lib.Seq.{sets};
 ghost use Rattle.words.specs.Words.{parse, shapeOf};
 ghost use Rattle.station.specs.Entries.{startRefusal, check1, closeRefusal, cellRefusal, checkRelay, admitRefusal, nextRefusal, receiveCheck, framesOr65, answered, heardOf, startOf, admitOf, receiveOf, nextOf, sentOf, closeOf, readRefusal, readingOf, freeOf};
 ghost use Rattle.station.specs.SignOff.{signOffRefusal, signOffOf};
+ghost use Rattle.station.specs.Worst.{worstOf};
 use config::Given;
+use level::Level;
 use net::Station;
 use words::Shape;
 
@@ -362,4 +364,26 @@ pub fn sign_off(s: Station, slot: u8) -> Answered
         station: s,
         answer: Answer::Refused(no),
     }
+}
+
+// ---- the worst of the last thirty-two
+
+// A refusal's number, or the lowest of a boat's last 32 reception levels, Unheard where there are none.
+pub enum Lowest {
+    Refused(u8),
+    Is(Level),
+}
+
+// A boat's poorest signal of late (request U13).
+pub fn worst(s: Station, slot: u8) -> Lowest
+    ensures { λ r. ⌜ r ≡ worstOf s slot ⌝ }
+{
+    let no = sign_refusal(s.used, slot);
+    if no != 0 {
+        return Lowest::Refused(no);
+    }
+    let rs = s.recent;
+    let i = net::index(slot);
+    let r = rs[i];
+    Lowest::Is(recent::worst(r))
 }

@@ -3,6 +3,7 @@ ghost use mathlib.Core.Path.{_≡_};
 ghost use mathlib.Core.Bool.{cond};
 ghost use Prim.Native.Nat.{_<_};
 ghost use lib.Dec.{leb};
+ghost use Rattle.recent.specs.Readings.{empty};
 ghost use Rattle.roster.specs.Members.{tally};
 ghost use Rattle.net.specs.State.{withTable, tableOf, withHears};
 ghost use Rattle.station.specs.SignOff.{vacant, bereft, bereaveAll, clearAll, unhearAll, strikeRound, strikeBy, strikeWait, signOff};
@@ -12,6 +13,7 @@ use net::Round;
 use net::Station;
 use net::Turn;
 use net::Wait;
+use recent::Recent;
 use roster::Member;
 
 // What a start has in every slot.
@@ -58,6 +60,16 @@ fn bereft_if(yes: bool, m: Member, slot: u8, limit: u32) -> Member
     m
 }
 
+// None where the up level is unheard now.
+fn recent_if(lost: bool, r: Recent) -> Recent
+    ensures { λ k. ⌜ k ≡ cond lost empty r ⌝ }
+{
+    if lost {
+        return recent::empty();
+    }
+    r
+}
+
 fn bereave_all(mut s: Station, slot: u8) -> Station
     ensures { λ r. ⌜ r ≡ bereaveAll slot s ⌝ }
 {
@@ -68,6 +80,9 @@ fn bereave_all(mut s: Station, slot: u8) -> Station
         let here = bits::has(s.used, i);
         let k = bereft_if(here, m, slot, limit);
         s.members[i] = k;
+        let r = s.recent[i];
+        let q = recent_if(here & (m.via == slot), r);
+        s.recent[i] = q;
         let silent = tally_if(s.totals.silent, here, limit, m, k);
         s.totals.silent = silent;
         i += 1;
@@ -161,6 +176,8 @@ pub fn sign_off(mut s: Station, slot: u8) -> Station
     let k = vacant();
     let limit = s.settings.misslimit;
     s.members[i] = k;
+    let none = recent::empty();
+    s.recent[i] = none;
     let silent = roster::tally(s.totals.silent, limit <= m.missed, limit <= k.missed);
     s.totals.silent = silent;
     s.used = bits::without(s.used, i);

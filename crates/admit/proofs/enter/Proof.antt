@@ -17,6 +17,15 @@ mul-m c = omega (arith, rw (← c .before .index .ensures) at (index-lt (c .befo
 element-set-from-m : tie.Need-element-set-from-m
 element-set-from-m c = omega (arith, rw (← c .before .index .ensures) at (index-lt (c .before .before .args .slot)))
 
+empty-requires : tie.Need-empty-requires
+empty-requires c κs = search needs
+
+mul-none : tie.Need-mul-none
+mul-none c = omega (arith, rw (← c .before .before .index .ensures) at (index-lt (c .before .before .before .args .slot)))
+
+element-set-from-none : tie.Need-element-set-from-none
+element-set-from-none c = omega (arith, rw (← c .before .before .index .ensures) at (index-lt (c .before .before .before .args .slot)))
+
 with-requires : tie.Need-with-requires
 with-requires c κs = search needs
 
@@ -26,7 +35,7 @@ with-requires-2 c κs = search needs
 returns : tie.Need-returns
 returns c =
     let b = c .before .before in
-    rw (c .before .with2 .ensures, b .with .ensures, b .before .new-member .ensures, b .before .before .index .ensures)
+    rw (c .before .with2 .ensures, b .with .ensures, b .before .empty .ensures, b .before .before .new-member .ensures, b .before .before .before .index .ensures)
 
 pub enter-spec : {M : Type 1} → statement M
 enter-spec =
@@ -36,6 +45,9 @@ enter-spec =
     new-member-requires
     mul-m
     element-set-from-m
+    empty-requires
+    mul-none
+    element-set-from-none
     with-requires
     with-requires-2
     returns)

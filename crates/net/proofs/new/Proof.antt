@@ -16,9 +16,14 @@ first-round-requires c κs = search needs
 no-totals-requires : tie.Need-no-totals-requires
 no-totals-requires c κs = search needs
 
+empty-requires : tie.Need-empty-requires
+empty-requires c κs = search needs
+
 returns : tie.Need-returns
 unfolding newStation
-returns c = rw (c .no-totals .ensures, c .before .first-round .ensures, c .before .before .empty-cell .ensures, c .before .before .before .new-member .ensures)
+returns c =
+    let b = c .before .before in
+    rw (c .empty .ensures, c .before .no-totals .ensures, b .first-round .ensures, b .before .empty-cell .ensures, b .before .before .new-member .ensures)
 
 pub new-spec : {M : Type 1} → statement M
 new-spec =
@@ -28,4 +33,5 @@ new-spec =
     empty-cell-requires
     first-round-requires
     no-totals-requires
+    empty-requires
     returns)

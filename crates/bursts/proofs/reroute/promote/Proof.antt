@@ -46,6 +46,21 @@ mul-k c = omega arith
 element-set-from-k : tie.Need-element-set-from-k Inv-loop μ-loop
 element-set-from-k c = omega arith
 
+mul-r : tie.Need-mul-r Inv-loop μ-loop
+mul-r c = omega arith
+
+element-copy-out-r : tie.Need-element-copy-out-r Inv-loop μ-loop
+element-copy-out-r c = omega arith
+
+recent-by-requires : tie.Need-recent-by-requires Inv-loop μ-loop
+recent-by-requires c κs = tt
+
+mul-q : tie.Need-mul-q Inv-loop μ-loop
+mul-q c = omega arith
+
+element-set-from-q : tie.Need-element-set-from-q Inv-loop μ-loop
+element-set-from-q c = omega arith
+
 tally-requires : tie.Need-tally-requires Inv-loop μ-loop
 tally-requires c κs = tt
 
@@ -65,13 +80,14 @@ loop-again : tie.Need-loop-again Inv-loop μ-loop
 loop-again c =
     let w = c .before .before .before .before .before in
     let t = w .before .before in
-    let k = t .before .before .before in
+    let r = t .before .before .before in
+    let k = r .before .before in
     let x = k .before .before in
     let l = x .before .before .before .before .loop in
     let e = rw (x .before .has .ensures) at (x .promotable .ensures) in (
       omega (arith, l .inv .0),
       going-turn _ _ _ _ (x .before .before .before .loop-test .taken) (c .before .before .routed .ensures) (l .inv .1)
-          (λ ws. rw (w .with-if .ensures, t .tally .ensures, k .promote-member .ensures, k .before .is-heard .ensures) (promote-turn _ (l .i) (l .s) (x .promotable .result) e ws)),
+          (λ ws. rw (w .with-if .ensures, t .tally .ensures, r .recent-by .ensures, k .promote-member .ensures, k .before .is-heard .ensures) (promote-turn _ (l .i) (l .s) (x .promotable .result) e ws)),
     )
 
 same-length : tie.Need-same-length Inv-loop μ-loop
@@ -96,6 +112,11 @@ promote-spec =
     promote-member-requires
     mul-k
     element-set-from-k
+    mul-r
+    element-copy-out-r
+    recent-by-requires
+    mul-q
+    element-set-from-q
     tally-requires
     with-if-requires
     routed-requires

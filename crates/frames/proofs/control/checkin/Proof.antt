@@ -48,17 +48,33 @@ mul-k c = omega (arith, rw (← c .before .before .index .ensures) at (index-lt 
 element-set-from-k : tie.Need-element-set-from-k
 element-set-from-k c = omega (arith, rw (← c .before .before .index .ensures) at (index-lt (c .before .before .before .before .slot-of .result)))
 
+mul-r : tie.Need-mul-r
+mul-r c = omega (arith, rw (← c .before .before .index .ensures) at (index-lt (c .before .before .before .before .slot-of .result)))
+
+element-copy-out-r : tie.Need-element-copy-out-r
+element-copy-out-r c = omega (arith, rw (← c .before .before .index .ensures) at (index-lt (c .before .before .before .before .slot-of .result)))
+
+noted-requires : tie.Need-noted-requires
+noted-requires c κs = search needs
+
+mul-q : tie.Need-mul-q
+mul-q c = let d = c .before .before in omega (arith, rw (← d .before .before .index .ensures) at (index-lt (d .before .before .before .before .slot-of .result)))
+
+element-set-from-q : tie.Need-element-set-from-q
+element-set-from-q c = let d = c .before .before in omega (arith, rw (← d .before .before .index .ensures) at (index-lt (d .before .before .before .before .slot-of .result)))
+
 same-length-2 : tie.Need-same-length-2
 same-length-2 c = search needs
 
 returns-2 : tie.Need-returns-2
 returns-2 c =
-    let b = c .before .before .before .before .before .before .before .before .before .before .before .before .before .before .before in
+    let d = c .before .before in
+    let b = d .before .before .before .before .before .before .before .before .before .before .before .before .before .before .before in
     checkin-seated (b .args .a) (b .args .len) (payloadIn (b .args .words .now) (b .args .at) (b .args .len)) (b .args .s) _ _ _ _
-    (c .before .before .before .before .before .before .before .before .before .before .before .before .call-in .ensures)
-    (c .before .before .before .before .before .before .before .before .before .before .before .seat-of .ensures)
-    (c .before .before .before .before .slot-of .ensures) _ _ (c .before .before .before .before .before .before .before .before .admit .ensures)
-    (c .before .before .before .if1 .left) (c .before .before .index .ensures) (c .checkin-member .ensures)
+    (d .before .before .before .before .before .before .before .before .before .before .before .before .call-in .ensures)
+    (d .before .before .before .before .before .before .before .before .before .before .before .seat-of .ensures)
+    (d .before .before .before .before .slot-of .ensures) _ _ _ (d .before .before .before .before .before .before .before .before .admit .ensures)
+    (d .before .before .before .if1 .left) (d .before .before .index .ensures) (d .checkin-member .ensures) (c .noted .ensures)
 
 pub checkin-spec : {M : Type 1} → statement M
 checkin-spec =
@@ -76,5 +92,10 @@ checkin-spec =
     checkin-member-requires
     mul-k
     element-set-from-k
+    mul-r
+    element-copy-out-r
+    noted-requires
+    mul-q
+    element-set-from-q
     same-length-2
     returns-2)

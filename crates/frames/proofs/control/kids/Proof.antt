@@ -77,6 +77,21 @@ element-set-from-k c =
     omega
     (arith, rw (← c .before .before .before .before .index .ensures) at (index-lt (c .before .before .before .before .before .before .byte-in .result)))
 
+mul-r : tie.Need-mul-r Inv-loop μ-loop
+mul-r d = omega (arith, rw (← d .before .before .before .before .index .ensures) at (index-lt (d .before .before .before .before .before .before .byte-in .result)))
+
+element-copy-out-r : tie.Need-element-copy-out-r Inv-loop μ-loop
+element-copy-out-r d = omega (arith, rw (← d .before .before .before .before .index .ensures) at (index-lt (d .before .before .before .before .before .before .byte-in .result)))
+
+kid-recent-requires : tie.Need-kid-recent-requires Inv-loop μ-loop
+kid-recent-requires c κs = search needs
+
+mul-q : tie.Need-mul-q Inv-loop μ-loop
+mul-q c = let d = c .before .before in omega (arith, rw (← d .before .before .before .before .index .ensures) at (index-lt (d .before .before .before .before .before .before .byte-in .result)))
+
+element-set-from-q : tie.Need-element-set-from-q Inv-loop μ-loop
+element-set-from-q c = let d = c .before .before in omega (arith, rw (← d .before .before .before .before .index .ensures) at (index-lt (d .before .before .before .before .before .before .byte-in .result)))
+
 tally-requires : tie.Need-tally-requires Inv-loop μ-loop
 tally-requires c κs = search needs
 
@@ -84,14 +99,15 @@ kid-event-requires : tie.Need-kid-event-requires Inv-loop μ-loop
 kid-event-requires c κs = search needs
 
 add-e : tie.Need-add-e Inv-loop μ-loop
-add-e c = omega (arith, c .before .before .before .before .before .before .before .before .before .before .before .before .before .before .before .loop-test .taken, c .before .before .before .before .before .before .before .before .before .before .before .before .before .before .before .before .before .before .before .before .fits .len)
+add-e c = omega (arith, c .before .before .before .before .before .before .before .before .before .before .before .before .before .before .before .before .before .loop-test .taken, c .before .before .before .before .before .before .before .before .before .before .before .before .before .before .before .before .before .before .before .before .before .before .fits .len)
 
 loop-less : tie.Need-loop-less Inv-loop μ-loop
-loop-less c = omega (arith, c .before .before .before .before .before .before .before .before .before .before .before .before .before .before .before .loop-test .taken, c .before .before .before .before .before .before .before .before .before .before .before .before .before .before .before .before .before .before .before .before .fits .len)
+loop-less c = omega (arith, c .before .before .before .before .before .before .before .before .before .before .before .before .before .before .before .before .before .loop-test .taken, c .before .before .before .before .before .before .before .before .before .before .before .before .before .before .before .before .before .before .before .before .before .before .fits .len)
 
 loop-again : tie.Need-loop-again Inv-loop μ-loop
 loop-again c =
-    let i = c .before .before .before .before .before .before .before .before in
+    let r = c .before .before .before .before .before .before .before .before in
+    let i = r .before .before in
     let h = i .before .before .before .before in
     let l = h .before .before .before .before in
     let b = l .before .before .before .before in
@@ -102,8 +118,8 @@ loop-again c =
         done = kidEntry (b .args .a) p (b .args .slot) (l .loop .e) (g .done);
         rest = rest-on _ _ _ _ _ _ (g .rest) (h .before .before .before .loop-test .taken);
         did = kid-stored (b .args .a) p (b .args .slot) (l .loop .e) _ _ (h .before .before .byte-in .ensures) (h .before .byte-in2 .ensures)
-            (g .done) (l .loop .s) _ _ _ _ _ (g .did) (h .index .ensures) (i .before .before .is-member .ensures) (i .before .is-kid .ensures)
-            (i .kid-member .ensures) (c .before .before .before .before .before .tally .ensures) (c .before .before .kid-event .ensures);
+            (g .done) (l .loop .s) _ _ _ _ _ _ (g .did) (h .index .ensures) (i .before .before .is-member .ensures) (i .before .is-kid .ensures)
+            (i .kid-member .ensures) (r .kid-recent .ensures) (c .before .before .before .before .before .tally .ensures) (c .before .before .kid-event .ensures);
       },
     )
 
@@ -133,6 +149,11 @@ kids-spec =
     kid-member-requires
     mul-k
     element-set-from-k
+    mul-r
+    element-copy-out-r
+    kid-recent-requires
+    mul-q
+    element-set-from-q
     tally-requires
     kid-event-requires
     add-e

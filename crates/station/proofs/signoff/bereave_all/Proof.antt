@@ -4,18 +4,19 @@ use Prim.Native.Nat.{ℕ, _+_, _≤_, _-_}
 use native.Mathlib.Omega.{arith}
 use Rattle.bits.specs.Loop.{fold}
 use Rattle.bits.proofs.Loops.{fold-turn, fold-end}
-use mathlib.Core.Bool.{Bool, true, false, cond}
-use lib.Dec.{leb}
+use mathlib.Core.Bool.{Bool, true, false, cond, _&&_}
+use lib.Dec.{leb, eqb}
 use lib.ListN.{set}
 use lib.Seq.{set-getD}
 use Rattle.bits.specs.Mask.{hasBit}
+use Rattle.recent.specs.Readings.{noRecent, empty}
 use Rattle.roster.specs.declared.Member.{Member}
 use Rattle.roster.specs.Members.{noMember, tally}
 use Rattle.net.specs.declared.Station.{Station}
-use Rattle.net.specs.State.{withMembers, withTotals, withSilent}
+use Rattle.net.specs.State.{withMembers, withTotals, withSilent, withRecent, recentAt}
 use Rattle.bursts.specs.Rows.{seated}
 use Rattle.bursts.specs.Reroute.{withSeated}
-use Rattle.station.specs.SignOff.{bereft, bereaveAt, bereaveAll}
+use Rattle.station.specs.SignOff.{bereft, bereftOf, bereaveAt, bereaveAll}
 use Rattle.station.proofs.signoff.bereave_all.Statement.{statement}
 use Rattle.station.proofs.signoff.bereave_all.Tie as tie
 
@@ -24,11 +25,12 @@ abbrev left : Station → ℕ → ℕ → Bool → Member
 left s slot i b = cond b (bereft slot (s .settings .misslimit) (seated s i)) (seated s i)
 
 seat-step : (s : Station) (slot i : ℕ) (b : Bool)
-    → withTotals (withMembers s (set (s .members) i (left s slot i b)))
+    → withTotals
+    (withRecent (withMembers s (set (s .members) i (left s slot i b))) (set (s .recent) i (cond (b && eqb (seated s i .via) slot) empty (recentAt s i))))
     (withSilent (s .totals) (cond b (tally (s .totals .silent) (leb (s .settings .misslimit) (seated s i .missed)) (leb (s .settings .misslimit) (left s slot i b .missed))) (s .totals .silent)))
-    ≡ cond b (withSeated s i (bereft slot (s .settings .misslimit) (seated s i))) s
+    ≡ cond b (withRecent (withSeated s i (bereft slot (s .settings .misslimit) (seated s i))) (set (s .recent) i (bereftOf slot (seated s i) (recentAt s i)))) s
 seat-step s slot i true = refl
-seat-step s slot i false = ap (withMembers s) (set-getD (s .members) i noMember)
+seat-step s slot i false = rw (set-getD (s .recent) i noRecent) (ap (withMembers s) (set-getD (s .members) i noMember))
 
 abbrev Inv-loop : tie.InvT-loop
 Inv-loop slot s₀ i₀ s i = (i ≤ 62) × (fold (bereaveAt slot) (62 - i) i s ≡ bereaveAll slot s₀)
@@ -58,6 +60,21 @@ mul-k c = omega arith
 element-set-from-k : tie.Need-element-set-from-k Inv-loop μ-loop
 element-set-from-k c = omega arith
 
+mul-r : tie.Need-mul-r Inv-loop μ-loop
+mul-r c = omega arith
+
+element-copy-out-r : tie.Need-element-copy-out-r Inv-loop μ-loop
+element-copy-out-r c = omega arith
+
+recent-if-requires : tie.Need-recent-if-requires Inv-loop μ-loop
+recent-if-requires c κs = tt
+
+mul-q : tie.Need-mul-q Inv-loop μ-loop
+mul-q c = omega arith
+
+element-set-from-q : tie.Need-element-set-from-q Inv-loop μ-loop
+element-set-from-q c = omega arith
+
 tally-if-requires : tie.Need-tally-if-requires Inv-loop μ-loop
 tally-if-requires c κs = tt
 
@@ -70,11 +87,13 @@ loop-less c = omega arith
 loop-again : tie.Need-loop-again Inv-loop μ-loop
 unfolding bereaveAt
 loop-again c =
-    let l = c .before .before .before .before .before .before .loop in
-    let slot = c .before .before .before .before .before .before .before .args .slot in
-    let h = c .before .before .before .before .before .loop-test .taken in (
+    let r = c .before .before in
+    let k = r .before .before .before in
+    let l = k .before .before .before .before .loop in
+    let slot = k .before .before .before .before .before .args .slot in
+    let h = k .before .before .before .loop-test .taken in (
       omega arith,
-      rw (c .before .tally-if .ensures, c .before .before .bereft-if .ensures, c .before .before .before .has .ensures)
+      rw (c .before .tally-if .ensures, r .recent-if .ensures, k .bereft-if .ensures, k .before .has .ensures)
           (ap (fold (bereaveAt slot) (62 - (l .i + 1)) (l .i + 1)) (seat-step (l .s) slot (l .i) (hasBit (l .s .used) (l .i)))
           ∙ sym (fold-turn (bereaveAt slot) 62 (l .i) (l .s) h) ∙ l .inv .1),
     )
@@ -95,6 +114,11 @@ bereave-all-spec =
     bereft-if-requires
     mul-k
     element-set-from-k
+    mul-r
+    element-copy-out-r
+    recent-if-requires
+    mul-q
+    element-set-from-q
     tally-if-requires
     add-i
     loop-less

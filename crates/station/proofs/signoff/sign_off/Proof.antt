@@ -31,6 +31,15 @@ mul-k c = search needs
 element-set-from-k : tie.Need-element-set-from-k
 element-set-from-k c = search needs
 
+empty-requires : tie.Need-empty-requires
+empty-requires c κs = search needs
+
+mul-none : tie.Need-mul-none
+mul-none c = search needs
+
+element-set-from-none : tie.Need-element-set-from-none
+element-set-from-none c = search needs
+
 tally-requires : tie.Need-tally-requires
 tally-requires c κs = search needs
 
@@ -43,7 +52,20 @@ bereave-all-requires c κs = search needs
 returns : tie.Need-returns
 unfolding signOff
 returns c =
-    rw (c .bereave-all .ensures, c .before .without .ensures, c .before .before .before .tally .ensures, c .before .before .before .before .before .before .vacant .ensures, c .before .before .before .before .before .before .before .before .unhear-all .ensures, c .before .before .before .before .before .before .before .before .before .clear-all .ensures, c .before .before .before .before .before .before .before .before .before .before .strike-round .ensures, c .before .before .before .before .before .before .before .before .before .before .before .before .strike-wait .ensures)
+    let e = c .before .before .before .before .before .before in
+    let v = e .before in
+    let u = v .before .before in
+    rw (
+      c .bereave-all .ensures,
+      c .before .without .ensures,
+      c .before .before .before .tally .ensures,
+      e .empty .ensures,
+      v .vacant .ensures,
+      u .unhear-all .ensures,
+      u .before .clear-all .ensures,
+      u .before .before .strike-round .ensures,
+      u .before .before .before .before .strike-wait .ensures,
+    )
 
 pub sign-off-spec : {M : Type 1} → statement M
 sign-off-spec =
@@ -58,6 +80,9 @@ sign-off-spec =
     vacant-requires
     mul-k
     element-set-from-k
+    empty-requires
+    mul-none
+    element-set-from-none
     tally-requires
     without-requires
     bereave-all-requires
