@@ -16,7 +16,7 @@ use Rattle.rx.specs.Reception.{ncsRx}
 use Rattle.net.specs.declared.Station.{Station}
 use Rattle.config.specs.declared.Given.{Given}
 use Rattle.station.specs.Entries.{startRefusal}
-use Rattle.promise.specs.Promise.{TurnEvent, drew, over, poll, ack, struck, overIf, drewIf, lentTo, ofBurst, outcome, burstBy, Net, Call, admission, reception, decision, sending, closing, reading, freeing, charging, signing, result, inBook, isRefused, step, after, started, LinksHold, burstsIn, turnEvents, trace, has, View, emptyView, begins, view, Spread, OneTurn, TurnsHold, Sent, Message, Book, emptyBook, Entered, unchanged, alsoHanded, same, answersOf, bookDone, bookCall, CallOk, AtCall, Once, Stayed, stayed, handedIn, alsoStayed, OnceInStay, CallsOk, Holds}
+use Rattle.promise.specs.Promise.{TurnEvent, drew, over, poll, ack, struck, overIf, drewIf, lentTo, ofBurst, outcome, burstBy, Net, Call, admission, reception, decision, sending, closing, reading, freeing, charging, signing, asking, result, inBook, isRefused, step, after, started, LinksHold, burstsIn, turnEvents, trace, has, View, emptyView, begins, view, Spread, OneTurn, TurnsHold, Sent, Message, Book, emptyBook, Entered, unchanged, alsoHanded, same, answersOf, bookDone, bookCall, CallOk, AtCall, Once, Stayed, stayed, handedIn, alsoStayed, OnceInStay, CallsOk, Holds}
 use Rattle.promise.proofs.Item3.{item-3}
 
 -- ---- the calls
@@ -128,6 +128,7 @@ none-result (reading cell lent) n f = (tt, tt)
 none-result (freeing cell) n f = (tt, tt)
 none-result (charging figures) n f = (tt, tt)
 none-result (signing slot) n f = absurd (f slot refl)
+none-result (asking slot) n f = (tt, tt)
 
 none-call : (c : Call) (n : Net) → ((slot : ℕ) → c ≡ signing slot → ⊥) → NoStruck (turnEvents c n)
 unfolding turnEvents
@@ -179,6 +180,7 @@ done-stay M (reading cell lent) n b f = refl
 done-stay M (freeing cell) n b f = refl
 done-stay M (charging figures) n b f = refl
 done-stay M (signing slot) n b f = absurd (f slot refl)
+done-stay M (asking slot) n b f = refl
 
 call-stay : (M : Sent) (c : Call) (n : Net) (b : Book) → ((slot : ℕ) → c ≡ signing slot → ⊥) → bookCall M c n b .left .stay ≡ b .stay
 call-stay M c n b f = cond-keeps (λ (e : Entered Book). e .left .stay ≡ b .stay) (answersOf c n .refused) (unchanged b) _ (λ _. refl) (λ _. done-stay M c n b f)

@@ -36,8 +36,9 @@ use Rattle.config.specs.declared.Given.{Given}
 use Rattle.config.specs.Checks.{settingsOk, settingsOf}
 use Rattle.station.specs.Entries.{Outcome, refused, done, unless, admitted, receivedAs, receiveOf, admitRefusal, admitOf, nextRefusal, nextOf, sentOf, check1, closeRefusal, closeOf, startRefusal, startOf, cellRefusal, check22, readRefusal, readingOf, freeOf}
 use Rattle.station.specs.SignOff.{signOff, signOffRefusal, signOffOf}
+use Rattle.station.specs.Worst.{worstOf, refusalIn}
 use Rattle.dues.specs.Dues.{duesRefusal}
-use Rattle.promise.specs.Promise.{Lent, lentTo, Net, net, ofBurst, InBook, Call, admission, reception, decision, sending, closing, reading, freeing, charging, signing, result, inBook, outcome, isRefused, step, started, Stays, Sent, sentNow, Message, Ledger, Book, emptyBook, same, alsoHanded, Entered, unchanged, bookFrames, framesBy, Event2, eventsIn, enter, enterAll, answersOf, bookEnds, bookDone, bookCall, FramesOk, CallOk, CallsOk, Once, Paired, ReadsAs, AtCall, Holds, Stayed, stayed, handedIn, alsoStayed, OnceInStay, Messages}
+use Rattle.promise.specs.Promise.{Lent, lentTo, Net, net, ofBurst, InBook, Call, admission, reception, decision, sending, closing, reading, freeing, charging, signing, result, inBook, outcome, isRefused, step, started, Stays, Sent, sentNow, Message, Ledger, Book, emptyBook, same, alsoHanded, Entered, unchanged, bookFrames, framesBy, Event2, eventsIn, enter, enterAll, answersOf, bookEnds, bookDone, bookCall, FramesOk, CallOk, CallsOk, Once, Paired, ReadsAs, AtCall, Holds, Stayed, stayed, handedIn, alsoStayed, OnceInStay, Messages, handed, another, asking, LentOk}
 use Rattle.promise.proofs.Outcomes.{refusedBy, receive-cases, lent-is}
 use Rattle.promise.proofs.Ledgers.{none-below, same-true}
 use Rattle.promise.proofs.Modest.{fresh-free}
@@ -189,6 +190,7 @@ other-events (reading cell lent) n =
 other-events (freeing cell) n = quiet-unless (cellRefusal (n .station .count) (n .station .landed) cell) (n .station) [] (done _ [] []) events-none
 other-events (charging figures) n = quiet-unless (duesRefusal figures) (n .station) (n .store) (done (n .station) (n .store) []) events-none
 other-events (signing slot) n = quiet-unless (signOffRefusal (n .station .used) slot) (n .station) [] (done (signOff (n .station) slot) [] []) events-none
+other-events (asking slot) n = quiet-unless (refusalIn (worstOf (n .station) slot)) (n .station) (n .store) (done (n .station) (n .store) []) events-none
 
 -- ---- calls that keep them
 
@@ -254,6 +256,11 @@ pub charging-kept : (figures : List ℕ) (n : Net) → KeepsOutcome (n .station)
 unfolding result
 charging-kept figures n =
     cond-keeps (KeepsOutcome (n .station)) (eqb (duesRefusal figures) 0) _ _ (λ _. kept-self (n .station)) (λ _. kept-self (n .station))
+
+pub asking-kept : (slot : ℕ) (n : Net) → KeepsOutcome (n .station) (outcome (asking slot) n)
+unfolding result
+asking-kept slot n =
+    cond-keeps (KeepsOutcome (n .station)) (eqb (refusalIn (worstOf (n .station) slot)) 0) _ _ (λ _. kept-self (n .station)) (λ _. kept-self (n .station))
 
 -- ---- freeing
 
@@ -628,6 +635,8 @@ module _ (M : Stays) (small : (s t k : ℕ) → length (M s t k) ≤ 2046) where
   call-good (charging figures) n b t ok =
       goes-on M (charging figures) n b (quiet-call (sentNow M b) (charging figures) n b t (charging-kept figures n) refl refl (other-events (charging figures) n))
   call-good (signing slot) n b t ok = signing-good M slot n b t
+  call-good (asking slot) n b t ok =
+      goes-on M (asking slot) n b (quiet-call (sentNow M b) (asking slot) n b t (asking-kept slot n) refl refl (other-events (asking slot) n))
 
   calls-hold : (count : ℕ) (cs : List Call) (n : Net) (b : Book) → n .station .count ≡ count → Tied (sentNow M b) n b → CallsOk M cs n b → Holds M count cs n b
   unfolding CallsOk Holds step

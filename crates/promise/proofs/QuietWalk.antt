@@ -8,7 +8,7 @@ use Rattle.roster.specs.Members.{newMember}
 use Rattle.net.specs.declared.Station.{Station}
 use Rattle.net.specs.State.{indexOf, memberAt, tableOf}
 use Rattle.net.proofs.Laws.{index-is}
-use Rattle.promise.proofs.Walk.{Allowed, stays-up, over-keeps, Change, others, turned, over, hears, written, counted, promoted, moved, entered, piece, landed, freed, barred, signsOff, Chain, chain-keeps}
+use Rattle.promise.proofs.Walk.{Allowed, stays-up, over-keeps, Change, others, turned, over, hears, written, counted, promoted, moved, entered, piece, landed, freed, barred, signsOff, Chain, chain-keeps, readings}
 use Rattle.promise.proofs.Quiet.{Kept, Keeps, kept-self, kept-same, kept-new}
 
 abbrev pub uncelled : Allowed
@@ -24,6 +24,7 @@ change-kept s₀ s t (written i m l here f) k = kept-same s₀ (tableOf s) (s .u
 change-kept s₀ s t (counted i m n l here f) k = kept-same s₀ (tableOf s) (s .used) (s .members) i _ (stays-up f) k
 change-kept s₀ s t (promoted i snr l here d) k = kept-same s₀ (tableOf s) (s .used) (s .members) i _ refl k
 change-kept s₀ s t (moved c r l here there able n) k = kept-same s₀ (tableOf s) (s .used) (s .members) c _ refl k
+change-kept s₀ s t (readings i r l here) k = k
 change-kept s₀ s t (entered i call v now l free r) k =
     subst (λ (j : ℕ). Kept s₀ (tableOf s) (withBit (s .used) j) (set (s .members) j (newMember call v now))) (index-is i l)
     (kept-new s₀ (tableOf s) (s .used) (s .members) i (newMember call v now) l free refl k)

@@ -36,6 +36,7 @@ use Rattle.promise.proofs.Quiet.{windowIn, windowAt, Keeps, kept-self, 
 use Rattle.promise.proofs.Events.{events-none, relayed-word, message-word}
 use Rattle.promise.proofs.Signs.{sign-beside, cleared}
 use Rattle.promise.proofs.Walk.{Change, others, turned, over, hears, written, counted, promoted, moved, entered, piece, landed, freed, barred, signsOff, Chain, chain-keeps}
+use Rattle.promise.proofs.Walk as walk
 use Rattle.promise.proofs.WalkCalls.{all}
 use Rattle.promise.proofs.QuietRx.{Untouched, untouched, control-untouched}
 
@@ -221,6 +222,7 @@ count-kept n s t (written i m l here f) h = h
 count-kept n s t (counted i m k l here f) h = h
 count-kept n s t (promoted i snr l here d) h = h
 count-kept n s t (moved c r l here there able z) h = h
+count-kept n s t (walk.readings i r l here) h = h
 count-kept n s t (entered i call v now l free r) h = h
 count-kept n s t (piece a store slot field p m here f l d) h = accept-count (tableOf s) (memberAt s slot .up) store slot field p ∙ h
 count-kept n s t (landed a store slot field p m here f l d) h = accept-count (tableOf s) (memberAt s slot .up) store slot field p ∙ h

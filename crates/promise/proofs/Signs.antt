@@ -20,11 +20,11 @@ use Rattle.roster.specs.declared.Member.{Member}
 use Rattle.roster.specs.Members.{noMember}
 use Rattle.net.specs.declared.Station.{Station}
 use Rattle.net.specs.declared.Settings.{Settings}
-use Rattle.net.specs.State.{tableOf}
+use Rattle.net.specs.State.{tableOf, withRecent, recentAt}
 use Rattle.net.specs.Net.{isMember}
 use Rattle.bursts.specs.Rows.{seated}
 use Rattle.bursts.specs.Reroute.{withSeated}
-use Rattle.station.specs.SignOff.{vacant, leave, bereft, bereaveAt, bereaveAll, struckOff, strikeRound, strikeWait, isCellOf, clearAt, clearAll, unhearAll, signOff, signOffRefusal}
+use Rattle.station.specs.SignOff.{vacant, leave, bereft, bereftOf, bereaveAt, bereaveAll, struckOff, strikeRound, strikeWait, isCellOf, clearAt, clearAll, unhearAll, signOff, signOffRefusal}
 
 -- ---- the other boats
 
@@ -64,7 +64,7 @@ module _ (slot : ℕ) (s : Station) where
       bit : (t : Bool) → hasBit (r .used) i ≡ t → hasBit (s .used) i ≡ t
       bit t e = ap (λ (u : ℕ). hasBit u i) (sym (b .used)) ∙ e
 
-      go : (t : Bool) → hasBit (r .used) i ≡ t → Bereaved slot (i + 1) s (cond t (withSeated r i (bereft slot (r .settings .misslimit) (seated r i))) r)
+      go : (t : Bool) → hasBit (r .used) i ≡ t → Bereaved slot (i + 1) s (cond t (withRecent (withSeated r i (bereft slot (r .settings .misslimit) (seated r i))) (set (r .recent) i (bereftOf slot (seated r i) (recentAt r i)))) r)
       go false e =
           record {
             settings = b .settings;

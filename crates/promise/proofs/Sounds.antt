@@ -28,7 +28,7 @@ use Rattle.frames.specs.Frames.{frameStep, readFrames}
 use Rattle.rx.specs.Reception.{Received, airOf, ncsRx}
 use Rattle.config.specs.declared.Given.{Given}
 use Rattle.station.specs.Entries.{Outcome, receiveOf, startRefusal, cellRefusal, freeOf}
-use Rattle.promise.specs.Promise.{Lent, lentTo, Net, net, Call, admission, reception, decision, sending, closing, reading, freeing, charging, signing, result, outcome, isRefused, step, after, started, framesBy}
+use Rattle.promise.specs.Promise.{Lent, lentTo, Net, net, Call, admission, reception, decision, sending, closing, reading, freeing, charging, signing, result, outcome, isRefused, step, after, started, framesBy, asking}
 use Rattle.station.specs.SignOff.{signOff, signOffRefusal, signOffOf}
 use Rattle.net.proofs.Laws.{member-lt}
 use Rattle.promise.proofs.Signs.{sign-member, signed, cleared-tidy}
@@ -37,7 +37,7 @@ use Rattle.promise.proofs.Ties.{View}
 use Rattle.promise.proofs.Pieces.{windowsAfter, viewAfter, windowsBarred, viewBarred}
 use Rattle.promise.proofs.Quiet.{windowAt, Keeps, viewOf, kept-view}
 use Rattle.promise.proofs.WalkFrames.{viewIn, FrameRead, other, unkept, barred, piece, step-reads, firstIn, rx-end}
-use Rattle.promise.proofs.Messages.{started-tied, admission-kept, decision-kept, sending-kept, closing-kept, reading-kept, charging-kept, same-cond}
+use Rattle.promise.proofs.Messages.{started-tied, admission-kept, decision-kept, sending-kept, closing-kept, reading-kept, charging-kept, asking-kept, same-cond}
 use Rattle.promise.proofs.Outcomes.{refusedBy, receive-cases}
 
 -- one to 64 cells, all in the store, and no message in two of them; every slot's window in its bounds
@@ -249,6 +249,7 @@ step-fit (reading cell lent) n f = quiet-fit (reading cell lent) n f (reading-ke
 step-fit (freeing cell) n f = freeing-fit cell n f
 step-fit (charging figures) n f = quiet-fit (charging figures) n f (charging-kept figures n) refl
 step-fit (signing slot) n f = signing-fit slot n f
+step-fit (asking slot) n f = quiet-fit (asking slot) n f (asking-kept slot n) refl
 
 pub after-fit : (cs : List Call) (n : Net) → Fit n → Fit (after cs n)
 unfolding after

@@ -28,8 +28,9 @@ use Rattle.next.specs.Next.{ncsNext}
 use Rattle.rx.specs.Reception.{ncsRx}
 use Rattle.station.specs.Entries.{Outcome, refused, done, unless, startRefusal, startOf, admitted, admitOf, receiveBy, receiveRefusal, receiveOf, nextOf, sentOf, closeOf, freeOf, readRefusal, check1, admitRefusal, nextRefusal, closeRefusal, cellRefusal}
 use Rattle.station.specs.SignOff.{noSource, strikeBy, signOff, signOffRefusal, signOffOf}
+use Rattle.station.specs.Worst.{worstOf, refusalIn}
 use Rattle.dues.specs.Dues.{duesRefusal}
-use Rattle.promise.specs.Promise.{lentTo, Net, ofBurst, Call, admission, reception, decision, sending, closing, reading, freeing, charging, signing, result, outcome, step, after, started, TurnEvent, struck, overIf, drewIf, burstsIn, turnEvents, trace, emptyView, TurnsHold}
+use Rattle.promise.specs.Promise.{lentTo, Net, ofBurst, Call, admission, reception, decision, sending, closing, reading, freeing, charging, signing, result, outcome, step, after, started, TurnEvent, struck, overIf, drewIf, burstsIn, turnEvents, trace, emptyView, TurnsHold, asking}
 use Rattle.promise.specs.Waits.{awaited, TurnsMatch}
 use Rattle.promise.proofs.Monitor.{Run, rest, turn, runWithout, Acc, slots, accepted, ends-in}
 use Rattle.promise.proofs.TurnsWords.{Quiet, quiet-none}
@@ -170,6 +171,7 @@ module _ (r : Run) (n : Net) (e : Rel r (n .station .wait .turn)) (l : Low (n .s
   fine-call (freeing cell) = fine-freeing cell
   fine-call (charging figures) = fine-reading (duesRefusal figures) (n .store)
   fine-call (signing slot) = fine-sign slot
+  fine-call (asking slot) = fine-reading (refusalIn (worstOf s slot)) (n .store)
 
 -- ### Every list of calls
 

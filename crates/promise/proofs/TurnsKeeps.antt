@@ -14,7 +14,7 @@ use Rattle.frames.specs.declared.Air.{Air}
 use Rattle.frames.specs.Reading.{Reading}
 use Rattle.frames.specs.Frames.{readFrames}
 use Rattle.promise.proofs.TurnsWords.{Mute, mute-none, mute-both, mute-event, mute-message, mute-missed}
-use Rattle.promise.proofs.Walk.{Allowed, Change, others, turned, over, hears, written, counted, promoted, moved, entered, piece, landed, freed, barred, signsOff, Chain, start, chain-keeps}
+use Rattle.promise.proofs.Walk.{Allowed, Change, others, turned, over, hears, written, counted, promoted, moved, entered, piece, landed, freed, barred, signsOff, Chain, start, chain-keeps, readings}
 use Rattle.promise.proofs.WalkNext.{reroute-walk}
 use Rattle.promise.proofs.WalkRx.{frames-walk}
 use Rattle.promise.proofs.WalkWords.{Words, reroute-words, admit-words, frames-words}
@@ -46,6 +46,7 @@ change-still s₀ s t (written i m l here f) h = h
 change-still s₀ s t (counted i m n l here f) h = h
 change-still s₀ s t (promoted i snr l here d) h = h
 change-still s₀ s t (moved c r l here there able n) h = h
+change-still s₀ s t (readings i r l here) h = h
 change-still s₀ s t (entered i call v now l free r) h = h
 change-still s₀ s t (piece a store slot field p m here f l d) h = h
 change-still s₀ s t (landed a store slot field p m here f l d) h = h

@@ -18,6 +18,7 @@ use Rattle.level.specs.declared.Clock.the-variants.{At}
 use Rattle.wire.specs.Fields.{snrFromQ}
 use Rattle.stream.specs.Window.{bitmapOf}
 use Rattle.stream.specs.Table.{Accepted, accept, freedTable, hasLanded}
+use Rattle.recent.specs.declared.Recent.{Recent}
 use Rattle.roster.specs.declared.Member.{Member}
 use Rattle.roster.specs.Members.{newMember, withLinks, withMissed, withBurst, withMark, knownCaps, knownVersion, withHeard, withDown, withDirect, receivedAt, promotedAt, reroutedTo, landedOne, barredOne, toldNow}
 use Rattle.roster.specs.Relays.{couldRelay, turnOver}
@@ -28,7 +29,7 @@ use Rattle.net.specs.declared.Totals.{Totals}
 use Rattle.net.specs.declared.Turn.{Turn}
 use Rattle.net.specs.declared.Turn.the-variants.{Idle, Sending, Waiting}
 use Rattle.net.specs.declared.Wait.{Wait}
-use Rattle.net.specs.State.{memberAt, withMember, withMembers, withUsed, withHears, withWait, withRound, withTotals, withTable, tableOf}
+use Rattle.net.specs.State.{memberAt, withMember, withMembers, withUsed, withHears, withWait, withRound, withTotals, withTable, withRecent, tableOf}
 use Rattle.net.specs.Net.{isMember}
 use Rattle.bursts.specs.Rows.{seated}
 use Rattle.bursts.specs.Reroute.{withSeated, sourceFor}
@@ -157,6 +158,8 @@ pub data Change (A : Allowed) (s : Station) : Station → Type 0 where
   promoted : (i : ℕ) (snr : Float) → i < 62 → isMember (s .used) i ≡ true → seated s i .direct ≡ Decibels snr → Change A s (withSeated s i (promotedAt (seated s i) snr))
   moved : (c r : ℕ) → c < 62 → isMember (s .used) c ≡ true → isMember (s .used) r ≡ true → couldRelay (seated s r) ≡ true → (r ≡ c → ⊥)
       → Change A s (withSeated s c (reroutedTo (seated s c) r))
+  -- a boat's last reception levels
+  readings : (i : ℕ) (r : Recent) → i < 62 → isMember (s .used) i ≡ true → Change A s (withRecent s (set (s .recent) i r))
   -- a newcomer takes a free slot
   entered : (i : ℕ) (call : List ℕ) (v : ℕ) (now : Float) → i < 62 → hasBit (s .used) i ≡ false → RelayOk (s .used) v
       → Change A s (withUsed (withMembers s (set (s .members) i (newMember call v now))) (withBit (s .used) i))

@@ -24,8 +24,9 @@ use Rattle.config.specs.declared.Given.{Given}
 use Rattle.config.specs.Checks.{settingsOf}
 use Rattle.station.specs.Entries.{Outcome, done, refused, unless, check1, checkRelay, startRefusal, startOf, admitRefusal, admitOf, receiveBy, receiveRefusal, receiveOf, nextRefusal, nextOf, sentOf, closeRefusal, closeOf, readRefusal, cellRefusal, freeOf}
 use Rattle.station.specs.SignOff.{signOffRefusal, signOffOf}
+use Rattle.station.specs.Worst.{worstOf, refusalIn}
 use Rattle.dues.specs.Dues.{duesRefusal}
-use Rattle.promise.specs.Promise.{Lent, lentTo, Net, Call, admission, reception, decision, sending, closing, reading, freeing, charging, signing, result, step, after, started}
+use Rattle.promise.specs.Promise.{Lent, lentTo, Net, Call, admission, reception, decision, sending, closing, reading, freeing, charging, signing, asking, result, step, after, started}
 use Rattle.promise.proofs.Walk.{Allowed, RelayOk, Turned, still, ends, Change, freed, signsOff, Chain, start, more, chain-then, chain-keeps}
 use Rattle.promise.proofs.Signs.{sign-member}
 use Rattle.promise.proofs.WalkNext.{calm, turn, next-walk}
@@ -132,6 +133,7 @@ module _ (A : Allowed) where
   step-walk turns cells (freeing cell) n ok = freeing-walk cells (n .station) cell
   step-walk turns cells (charging figures) n ok = unless-walk (duesRefusal figures) (n .station) (n .store) _ (λ _. start)
   step-walk turns cells (signing slot) n ok = signing-walk turns cells (n .station) slot
+  step-walk turns cells (asking slot) n ok = unless-walk (refusalIn (worstOf (n .station) slot)) (n .station) (n .store) _ (λ _. start)
 
   -- THE WALK: any calls are a chain of single changes
   pub after-walk : A .turns → A .cells → (cs : List Call) (n : Net) → LevelsIn (A .level) cs → Chain A (n .station) (after cs n .station)
@@ -141,7 +143,7 @@ module _ (A : Allowed) where
 
 -- ---- from a start
 
-started-is : (s : Station) (g : Given) (store : List ℕ) → startRefusal g (length store) ≡ 0
+pub started-is : (s : Station) (g : Given) (store : List ℕ) → startRefusal g (length store) ≡ 0
     → started s g store .station ≡ newStation (settingsOf g) (cellCount (length store / 6400))
 unfolding startOf
 started-is s g store e = rw e

@@ -20,6 +20,8 @@ use Rattle.level.specs.declared.Level.{Level}
 use Rattle.level.specs.declared.Clock.{Clock}
 use Rattle.level.specs.declared.Clock.the-variants.{Never, At}
 use Rattle.level.specs.declared.Level.the-variants.{Unheard, Decibels}
+use Rattle.recent.specs.declared.Recent.{Recent}
+use Rattle.recent.specs.Readings.{empty}
 use Rattle.roster.specs.declared.Member.{Member}
 use Rattle.roster.specs.Members.{isNews, withMissed, toldNow}
 use Rattle.roster.specs.Relays.{couldRelay, promoteBy, promotableAt, isLeaf}
@@ -31,7 +33,7 @@ use Rattle.net.specs.declared.Totals.{Totals}
 use Rattle.net.specs.declared.Turn.{Turn}
 use Rattle.net.specs.declared.Turn.the-variants.{Idle, Sending, Waiting}
 use Rattle.net.specs.declared.Wait.{Wait}
-use Rattle.net.specs.State.{indexOf, memberAt, withMember, withMembers, withCounted, withWait, withRound, withTotals, withRxsent, withRxdirty, alsoAck, alsoNews}
+use Rattle.net.specs.State.{indexOf, memberAt, withMember, withMembers, withCounted, withWait, withRound, withTotals, withRxsent, withRxdirty, alsoAck, alsoNews, withRecent}
 use Rattle.net.specs.Net.{isMember, idleWait, Said, said, membersIn}
 use Rattle.net.proofs.Laws.{index-lt, index-is, member-lt, member-is}
 use Rattle.bursts.specs.Rows.{seated}
@@ -44,7 +46,7 @@ use Rattle.next.specs.declared.Due.the-variants.{Free, Quiet, Close, Again, Mis
 use Rattle.next.specs.declared.Act.{Act}
 use Rattle.next.specs.declared.Act.the-variants as act
 use Rattle.next.specs.Next.{Decision, pollBy, pollStage, drawn, drawStage, reroutedStage, rerouteStage, listStage, roundEnd, hurried, actOf, actBy, windowStage, closeStage, againStage, turnOverIn, missedIn, missedStage, dueTurn, dueOf, byDue, ncsNext}
-use Rattle.promise.proofs.Walk.{Allowed, told, Fields, none, also, Turned, ends, sends, polls, goes, draws, Within, Marks, others, turned, over, written, counted, promoted, moved, Chain, start, more}
+use Rattle.promise.proofs.Walk.{Allowed, told, Fields, none, also, Turned, ends, sends, polls, goes, draws, Within, Marks, others, turned, over, written, counted, promoted, moved, readings, Chain, start, more}
 
 -- ---- what is known where a change is made
 
@@ -158,6 +160,9 @@ module _ (A : Allowed) where
         → Chain A s₀ (withCounted s slot (withMissed m n))
     count s slot m n here f k = more k (counted (indexOf slot) m n (index-lt slot) (index-member (s .used) slot here) f)
 
+    pub heard-at : (s : Station) (slot : ℕ) (r : Recent) → isMember (s .used) slot ≡ true → Chain A s₀ s → Chain A s₀ (withRecent s (set (s .recent) (indexOf slot) r))
+    heard-at s slot r here k = more k (readings (indexOf slot) r (index-lt slot) (index-member (s .used) slot here))
+
     abbrev WalkSaid : Said → Type 0
     WalkSaid x = Chain A s₀ (x .station)
 
@@ -182,7 +187,8 @@ module _ (A : Allowed) where
         → ((snr : Float) → l ≡ Decibels snr → (isMember (x .station .used) i ≡ true) × (seated (x .station) i .direct ≡ Decibels snr)) → WalkSaid x
         → WalkSaid (promoteWith l i x)
     promote-with Unheard i x h f k = k
-    promote-with (Decibels snr) i x h f k = news _ i (f snr refl .0) (more k (promoted i snr h (f snr refl .0) (f snr refl .1)))
+    promote-with (Decibels snr) i x h f k =
+        news _ i (f snr refl .0) (more (more k (promoted i snr h (f snr refl .0) (f snr refl .1))) (readings i empty h (f snr refl .0)))
 
     promote-walk : (floor : Float) (i : ℕ) (x : Said) → i < 62 → WalkSaid x → WalkSaid (promoteAt floor i x)
     unfolding promoteAt

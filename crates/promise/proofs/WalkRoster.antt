@@ -17,12 +17,12 @@ use Rattle.roster.specs.Members.{noMember, newMember, withMissed, withMark, pro
 use Rattle.roster.specs.Relays.{couldRelay}
 use Rattle.net.specs.declared.Station.{Station}
 use Rattle.net.specs.declared.Settings.{Settings}
-use Rattle.net.specs.State.{indexOf}
+use Rattle.net.specs.State.{indexOf, withRecent, recentAt}
 use Rattle.net.specs.Net.{isMember, blankCall}
 use Rattle.net.proofs.Laws.{index-lt}
 use Rattle.bursts.specs.Rows.{seated}
 use Rattle.bursts.specs.Reroute.{withSeated}
-use Rattle.station.specs.SignOff.{vacant, leave, untried, cutOff, bereft, bereaveAt, bereaveAll, struckOff, signOff}
+use Rattle.station.specs.SignOff.{vacant, leave, untried, cutOff, bereft, bereftOf, bereaveAt, bereaveAll, struckOff, signOff}
 use Rattle.promise.proofs.Walk.{Allowed, Field, fields-keep, Stays, stays, over-keeps, over-stays, RelayOk, Change}
 use Rattle.promise.proofs.Walk as walk
 use Rattle.promise.proofs.WalkNext.{index-member}
@@ -60,6 +60,7 @@ roster (walk.written i m l here f) = written i m l here (stays f)
 roster (walk.counted i m n l here f) = counted i (withMissed m n) l here (stays f .call) (stays f .via)
 roster (walk.promoted i snr l here d) = promoted i snr l here
 roster (walk.moved c r l here there able n) = moved c r l here there able n
+roster (walk.readings i r l here) = same
 roster (walk.entered i call v now l free r) = entered i call v now l free r
 roster {s = s} (walk.piece a store slot field p m here f l d) = written (indexOf slot) m (index-lt slot) (index-member (s .used) slot here) (stays f)
 roster {s = s} (walk.landed a store slot field p m here f l d) =
@@ -100,7 +101,7 @@ module _ (A : Allowed) (Q : Member → Type 0) (e : Each A Q) where
   bereave-every slot j s l =
       let m = seated s j in
       let q = e .marked m (m .marknext) (m .markbits) (withoutBit (m .tried) slot) (l j) in
-      cond-keeps (Every Q) (hasBit (s .used) j) (withSeated s j (bereft slot (s .settings .misslimit) m)) s
+      cond-keeps (Every Q) (hasBit (s .used) j) (withRecent (withSeated s j (bereft slot (s .settings .misslimit) m)) (set (s .recent) j (bereftOf slot m (recentAt s j)))) s
       (λ _. set-every Q (s .members) j _ (cond-keeps Q (eqb (m .via) slot) _ _ (λ _. e .cut (untried slot m) (s .settings .misslimit) q) (λ _. q)) l) (λ _. l)
 
   sign-every : (s : Station) (slot : ℕ) → Every Q s → Every Q (signOff s slot)
@@ -119,6 +120,7 @@ module _ (A : Allowed) (Q : Member → Type 0) (e : Each A Q) where
   every s t (walk.counted i m n h here f) l = set-every Q (s .members) i _ (e .missed m n (fields-keep Q (e .field) f (l i))) l
   every s t (walk.promoted i snr h here d) l = set-every Q (s .members) i _ (e .promoted (seated s i) snr d (l i)) l
   every s t (walk.moved c r h here there able n) l = set-every Q (s .members) c _ (e .moved (seated s c) r (l c)) l
+  every s t (walk.readings i r h here) l = l
   every s t (walk.entered i call v now h free r) l = set-every Q (s .members) i _ (e .entered call v now) l
   every s t (walk.piece a store slot field p m here f h d) l = set-every Q (s .members) (indexOf slot) m (fields-keep Q (e .field) f (l (indexOf slot))) l
   every s t (walk.landed a store slot field p m here f h d) l =

@@ -17,6 +17,7 @@ use Rattle.wire.specs.Fields.{snrFromQ}
 use Rattle.words.specs.declared.Head.{Head}
 use Rattle.words.specs.Words.{Heard, lost, heard, Burst}
 use Rattle.stream.specs.Table.{hasLanded}
+use Rattle.recent.specs.Readings.{empty}
 use Rattle.roster.specs.declared.Member.{Member}
 use Rattle.roster.specs.Members.{withCaps, withVersion, receivedAt, isWilling}
 use Rattle.net.specs.declared.Station.{Station}
@@ -35,14 +36,14 @@ use Rattle.admit.proofs.Laws.{known-lt, known-used, seat-lt, seat-free}
 use Rattle.frames.specs.declared.Air.{Air}
 use Rattle.frames.specs.Reading.{Reading}
 use Rattle.frames.specs.Pieces.{isAsideLeaf, heardMember, isRelayed, trafficIf, relayIf, unkeptAt, barredPiece, keptPiece, pieceFrame}
-use Rattle.frames.specs.Control.{eachEntry, checkinMember, checkedIn, withActive, callAt, checkinFrame, isForwarded, reportMember, hearPair, reportStation, reportFrame, relayOf, newcomer, hearing, overheardBy, overheardEntry, overheardFrame, isKid, kidEntry, kidsFrame}
+use Rattle.frames.specs.Control.{eachEntry, checkinMember, checkedIn, withActive, callAt, checkinFrame, isForwarded, reportMember, hearPair, reportStation, reportFrame, relayOf, newcomer, hearing, overheardBy, overheardEntry, overheardFrame, isKid, kidEntry, kidsFrame, kidMember}
 use Rattle.frames.specs.Frames.{controlBy, readFrame, frameStep, readFrames}
-use Rattle.rx.specs.Ending.{isBusy, putOff, turnOverIn, idleHeard, idleBy, idleEnd, replyHeard, answerBy, goesOn, isReply, replyBy, replyEnd, Ended, busyWait}
+use Rattle.rx.specs.Ending.{isBusy, putOff, turnOverIn, idleMember, idleHeard, idleBy, idleEnd, replyHeard, answerBy, goesOn, isReply, replyBy, replyEnd, Ended, busyWait}
 use Rattle.rx.specs.Reception.{Received, airOf, firstReading, ncsRx}
 use Rattle.promise.proofs.FrameCases.{control-cases, frame-cases}
 use Rattle.promise.proofs.Walk.{Allowed, Fields, none, also, burst, caps, version, down, received, direct, reached, Turned, still, ends, sends, goes, RelayOk, hears, entered, offered, piece, landed, barred, Chain, start, more, chain-then}
 use Rattle.promise.proofs.Walk as walk
-use Rattle.promise.proofs.WalkNext.{index-member, calm, ack, turn, over-walk, write, count}
+use Rattle.promise.proofs.WalkNext.{index-member, calm, ack, turn, over-walk, write, count, heard-at}
 
 -- what each entry keeps, all keep
 pub each-keeps : {A : Type 0} (P : A → Type 0) (f : ℕ → A → A) → ((e : ℕ) (x : A) → P x → P (f e x)) → (w len n e : ℕ) (x : A) → P x → P (eachEntry f w len n e x)
@@ -109,7 +110,11 @@ module _ (A : Allowed) where
     admit-by (Free i) e =
         let l = seat-lt s call i e in
         let free = ap (hasBit (s .used)) (index-is i l) ∙ seat-free s call i e in
-        (ack A s₀ _ (indexOf i) (index-member (withBit (s .used) (indexOf i)) i (new-here (s .used) i l)) (more k (entered (indexOf i) call v now (index-lt i) free r)), relay-with (s .used) (indexOf i) v r)
+        let here = new-here (s .used) i l in (
+          ack A s₀ _ (indexOf i) (index-member (withBit (s .used) (indexOf i)) i here)
+              (heard-at A s₀ _ i empty here (more k (entered (indexOf i) call v now (index-lt i) free r))),
+          relay-with (s .used) (indexOf i) v r,
+        )
     admit-by Full e = (k, r)
 
   pub admit-walk : (s : Station) (call : List ℕ) (v : ℕ) (now : Float) → RelayOk (s .used) v → Chain A s (admitBy (seatOf s call) s call v now .station)
@@ -142,7 +147,8 @@ module _ (A : Allowed) where
       checked-walk : (len : ℕ) (p : List ℕ) (slot : ℕ) (s : Station) → isMember (s .used) slot ≡ true → Chain A s₀ s
           → WalkSaid (checkedIn a len p slot (said s []))
       checked-walk len p slot s here k =
-          cond-keeps (Chain A s₀) (eqb slot 255) s _ (λ _. k) (λ _. write A s₀ s slot _ here (checkin-fields len p (memberAt s slot)) k)
+          cond-keeps (Chain A s₀) (eqb slot 255) s _ (λ _. k)
+          (λ _. heard-at A s₀ _ slot _ here (write A s₀ s slot _ here (checkin-fields len p (memberAt s slot)) k))
 
       checkin-by : (len : ℕ) (p : List ℕ) (s : Station) → Chain A s₀ s → (seat : Seat) → seatOf s (callAt p 1) ≡ seat
           → WalkSaid (checkedIn a len p (slotOf seat) (said (withActive (admitBy seat s (callAt p 1) 63 (a .time) .station)) []))
@@ -196,9 +202,10 @@ module _ (A : Allowed) where
           cond-keeps WalkSaid (isKid s c slot) _ x
           (λ q.
           let here = and-true (isMember (s .used) c) _ (and-true (isMember (s .used) c && eqb (memberAt s c .via) slot) _ q .0) .0 in
-          cond-keeps (λ (m : Member). Chain A s₀ (withCounted s c m)) (leb 128 b) _ _
+          heard-at A s₀ (withCounted s c (kidMember a b (memberAt s c))) c _ here
+          (cond-keeps (λ (m : Member). Chain A s₀ (withCounted s c m)) (leb 128 b) _ _
           (λ _. count A s₀ s c _ 0 here (also none (reached b (a .time))) k)
-          (λ _. count A s₀ s c (memberAt s c) _ here none k))
+          (λ _. count A s₀ s c (memberAt s c) _ here none k)))
           (λ _. k)
 
     pub checkin-walk : (len : ℕ) (p : List ℕ) (s : Station) → Chain A s (checkinFrame a len p s .station)
@@ -284,9 +291,10 @@ module _ (A : Allowed) where
           let f : Fields A m (receivedAt m (a .level) q (a .time)) = also none (received (a .level) q (a .time) ok) in
           cond-keeps (Chain A s₀) (isMember (s .used) slot) _ s
           (λ here.
-          cond-keeps (λ (y : Member). Chain A s₀ (withCounted s slot y)) (eqb (m .via) 63) _ _
+          heard-at A s₀ (withCounted s slot (idleMember a extra m)) slot _ here
+          (cond-keeps (λ (y : Member). Chain A s₀ (withCounted s slot y)) (eqb (m .via) 63) _ _
           (λ _. count A s₀ s slot _ 0 here f k)
-          (λ _. count A s₀ s slot _ 0 here (also f (direct (a .level) ok)) k))
+          (λ _. count A s₀ s slot _ 0 here (also f (direct (a .level) ok)) k)))
           (λ _. k)
 
       idle-by : (t : Turn) (slot : ℕ) (s : Station) → s .wait .turn ≡ t → Chain A s₀ s → Ends (idleBy t slot s)
@@ -299,7 +307,8 @@ module _ (A : Allowed) where
       reply-heard : (slot n : ℕ) (s : Station) → Chain A s₀ s → Chain A s₀ (replyHeard a slot n s)
       reply-heard slot n s k =
           cond-keeps (Chain A s₀) (isMember (s .used) slot) _ s
-          (λ here. count A s₀ s slot _ 0 here (also (also none (received (a .level) (memberAt s slot .snrdown) (a .time) ok)) (burst ((n + 1) % 4))) k)
+          (λ here. heard-at A s₀ _ slot _ here
+          (count A s₀ s slot _ 0 here (also (also none (received (a .level) (memberAt s slot .snrdown) (a .time) ok)) (burst ((n + 1) % 4))) k))
           (λ _. k)
 
       answer-walk : (b : Bool) (r : Reply) (n frames : ℕ) (s : Station) → s .wait .turn ≡ Waiting r → Chain A s₀ s → Ends (answerBy b r n frames s)

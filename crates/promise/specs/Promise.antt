@@ -23,6 +23,7 @@ use Rattle.rx.specs.Reception.{Received, ncsRx}
 use Rattle.config.specs.declared.Given.{Given}
 use Rattle.station.specs.Entries.{Outcome, done, unless, startRefusal, startOf, admitOf, receiveOf, nextOf, sentOf, closeOf, freeOf, readRefusal, readingOf}
 use Rattle.station.specs.SignOff.{signOffOf}
+use Rattle.station.specs.Worst.{worstOf, refusalIn}
 use Rattle.dues.specs.Dues.{duesRefusal}
 
 -- ---- what happens to lists and turns (document 01: 'those of item 2's definitions run over the same calls, never the station's record')
@@ -105,6 +106,7 @@ pub data Call : Type 0 where
   freeing : (cell : ℕ) → Call
   charging : (figures : List ℕ) → Call
   signing : (slot : ℕ) → Call
+  asking : (slot : ℕ) → Call
 
 -- the definitions that the entry points' contracts name
 unfoldable pub result : Call → Net → Result
@@ -127,6 +129,8 @@ result (charging figures) n =
     plain n (unless (duesRefusal figures) (n .station) (n .store) (done (n .station) (n .store) []))
 result (signing slot) n =
     record { outcome = signOffOf (n .station) slot; store = n .store; seen = []; before = struck slot ∷ []; behind = [] }
+result (asking slot) n =
+    plain n (unless (refusalIn (worstOf (n .station) slot)) (n .station) (n .store) (done (n .station) (n .store) []))
 
 -- and the calls as they are in the book
 abbrev pub inBook : Call → InBook
@@ -139,6 +143,7 @@ inBook (reading cell lent) = reads cell lent
 inBook (freeing cell) = frees cell
 inBook (charging figures) = changesNothing
 inBook (signing slot) = ends slot
+inBook (asking slot) = changesNothing
 
 -- refusal, station, words and mask
 abbrev pub outcome : Call → Net → Outcome
