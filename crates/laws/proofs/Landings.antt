@@ -35,7 +35,7 @@ use Rattle.frames.specs.Reading.{Reading}
 use Rattle.frames.specs.Frames.{frameStep, readFrames}
 use Rattle.rx.specs.Reception.{airOf, ncsRx}
 use Rattle.station.specs.Entries.{Outcome, receiveOf, cellRefusal, freeOf}
-use Rattle.promise.specs.Promise.{lentTo, Net, net, Call, admission, reception, decision, sending, closing, reading, freeing, charging, signing, result, inBook, outcome, step, after, alsoHanded, framesBy, Event2, eventsIn, answersOf}
+use Rattle.promise.specs.Promise.{lentTo, Net, net, Call, admission, reception, decision, sending, closing, reading, freeing, charging, signing, result, inBook, outcome, step, after, alsoHanded, framesBy, Event2, eventsIn, answersOf, asking}
 use Rattle.laws.specs.Marks.{alsoLanded, landedBy, landedIn}
 use Rattle.promise.proofs.Ledgers.{handed-other}
 use Rattle.promise.proofs.Ties.{View}
@@ -45,7 +45,7 @@ use Rattle.promise.proofs.Events.{events-none}
 use Rattle.promise.proofs.WalkFrames.{viewIn, offeredIn, FrameRead, other, unkept, barred, piece, firstIn, rx-end}
 use Rattle.promise.proofs.Signs.{sign-member}
 use Rattle.promise.proofs.SignTies.{window-gone, window-still}
-use Rattle.promise.proofs.Messages.{admission-kept, decision-kept, sending-kept, closing-kept, reading-kept, charging-kept}
+use Rattle.promise.proofs.Messages.{admission-kept, decision-kept, sending-kept, closing-kept, reading-kept, charging-kept, asking-kept}
 use Rattle.promise.proofs.Outcomes.{refusedBy, receive-cases}
 use Rattle.promise.proofs.Sounds.{FitView, Fit, FitRead, accept-land, fit-frame, step-read-fit, read-fine, first-fit, lent-fit, step-fit}
 
@@ -325,6 +325,7 @@ module _ (f : ℕ → ℕ → Bool) (n : Net) (fit : Fit n) (told : Told f (n .s
   call-told (freeing cell) = free-told cell
   call-told (charging figures) = kept-told (charging figures) (charging-kept figures n)
   call-told (signing slot) = sign-told slot
+  call-told (asking slot) = kept-told (asking slot) (asking-kept slot n)
 
 -- every list of calls
 pub calls-told : (cs : List Call) (n : Net) (f : ℕ → ℕ → Bool) → Fit n → Told f (n .station) → Told (landedIn cs n f) (after cs n .station)

@@ -21,5 +21,9 @@ pub mod Bars
 pub mod Vacant
 pub mod VacantSign
 pub mod VacantWalk
+pub mod VacantReadings
 pub mod RoundTrip
 pub mod RoundTripRun
+pub mod WorstRings
+pub mod Worst
+pub mod WorstRun

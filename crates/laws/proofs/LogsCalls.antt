@@ -44,8 +44,9 @@ use Rattle.frames.specs.Frames.{readFrames}
 use Rattle.rx.specs.Ending.{Ended, nothingMore, turnOverIn, idleHeard, idleBy, idleEnd, answerBy, goesOn, isReply, replyBy, replyEnd, busyWait}
 use Rattle.rx.specs.Reception.{Received, airOf, firstReading, receivedOf, ncsRxFrom, ncsRx}
 use Rattle.station.specs.Entries.{Outcome, refused, done, unless, admitOf, receiveBy, receiveRefusal, receiveOf, nextOf, sentOf, closeOf, freeOf, readRefusal, check1, admitRefusal, nextRefusal, closeRefusal, cellRefusal}
+use Rattle.station.specs.Worst.{worstOf, refusalIn}
 use Rattle.dues.specs.Dues.{duesRefusal}
-use Rattle.promise.specs.Promise.{lentTo, Net, ofBurst, Call, admission, reception, decision, sending, closing, reading, freeing, charging, signing, result, outcome, overIf, drewIf, leads, LinksHold}
+use Rattle.promise.specs.Promise.{lentTo, Net, ofBurst, Call, admission, reception, decision, sending, closing, reading, freeing, charging, signing, asking, result, outcome, overIf, drewIf, leads, LinksHold}
 use Rattle.promise.proofs.TurnsWords.{Mute, mute-none, mute-both, mute-missed, other-burst, quiet-both, quiet-ctrl, quiet-chunk-words}
 use Rattle.promise.proofs.TurnsKeeps.{reroute-calm, admit-calm, CalmIn, calm-start, frames-calm}
 use Rattle.laws.proofs.LogsWords.{Burst, burst-none, burst-other, burst-poll, burst-pollack, burst-ack, burst-close}
@@ -344,6 +345,7 @@ overOf (reading cell lent) n = none
 overOf (freeing cell) n = none
 overOf (charging figures) n = none
 overOf (signing slot) n = none
+overOf (asking slot) n = none
 
 abbrev pub drewOf : Call → Net → Option ℕ
 drewOf (admission packed relay now room) n = none
@@ -355,6 +357,7 @@ drewOf (reading cell lent) n = none
 drewOf (freeing cell) n = none
 drewOf (charging figures) n = none
 drewOf (signing slot) n = none
+drewOf (asking slot) n = none
 
 abbrev pub behindOf : Call → Net → Option ℕ
 behindOf (admission packed relay now room) n = none
@@ -366,6 +369,7 @@ behindOf (reading cell lent) n = none
 behindOf (freeing cell) n = none
 behindOf (charging figures) n = none
 behindOf (signing slot) n = none
+behindOf (asking slot) n = none
 
 pub events-are : (c : Call) (n : Net) → ((slot : ℕ) → c ≡ signing slot → ⊥)
     → (result c n .before ≡ overIf (overOf c n) ++ drewIf (drewOf c n)) × (result c n .behind ≡ overIf (behindOf c n))
@@ -379,6 +383,7 @@ events-are (reading cell lent) n f = (refl, refl)
 events-are (freeing cell) n f = (refl, refl)
 events-are (charging figures) n f = (refl, refl)
 events-are (signing slot) n f = absurd (f slot refl)
+events-are (asking slot) n f = (refl, refl)
 
 pub reports : (c : Call) (n : Net) → ((slot : ℕ) → c ≡ signing slot → ⊥) → Sendable (n .station .settings) → LinksHold (outcome c n .station) → Reports (n .station) (outcome c n) (behindOf c n)
 unfolding result admitOf receiveOf nextOf sentOf closeOf freeOf onTxDone
@@ -401,3 +406,5 @@ reports (freeing cell) n f o =
     reports-unless (cellRefusal (n .station .count) (n .station .landed) cell) (n .station) [] _ none (λ l. reports-mute (n .station) _ [] [] mute-none refl)
 reports (charging figures) n f o = reports-unless (duesRefusal figures) (n .station) (n .store) _ none (λ l. reports-mute (n .station) (n .station) (n .store) [] mute-none refl)
 reports (signing slot) n f o = absurd (f slot refl)
+reports (asking slot) n f o =
+    reports-unless (refusalIn (worstOf (n .station) slot)) (n .station) (n .store) _ none (λ l. reports-mute (n .station) (n .station) (n .store) [] mute-none refl)

@@ -16,6 +16,8 @@ use Rattle.bits.proofs.Loops.{fold-keeps-below}
 use Rattle.wire.specs.Call.{unpackCall}
 use Rattle.out.specs.Encode.{eventWord}
 use Rattle.stream.specs.Table.{Table}
+use Rattle.recent.specs.declared.Recent.{Recent}
+use Rattle.recent.specs.Readings.{noRecent, empty}
 use Rattle.roster.specs.declared.Member.{Member}
 use Rattle.roster.specs.Members.{noMember, newMember, withMark, silentAt, tally}
 use Rattle.roster.specs.Relays.{heardAt}
@@ -25,7 +27,7 @@ use Rattle.net.specs.declared.Totals.{Totals}
 use Rattle.net.specs.declared.Turn.{Turn}
 use Rattle.net.specs.declared.Turn.the-variants.{Idle, Sending, Waiting}
 use Rattle.net.specs.declared.Wait.{Wait}
-use Rattle.net.specs.State.{indexOf, memberAt, tableOf, withList, withToack, withTreenews, withSilent, withMembers, withUsed, alsoAck}
+use Rattle.net.specs.State.{indexOf, memberAt, tableOf, withList, withToack, withTreenews, withSilent, withMembers, withUsed, withRecent, recentAt, emptied, alsoAck}
 use Rattle.net.specs.Net.{isMember, Said, said}
 use Rattle.net.proofs.Laws.{index-is, member-is, member-lt}
 use Rattle.bursts.specs.Rows.{seated}
@@ -35,7 +37,7 @@ use Rattle.admit.specs.declared.Seat.the-variants.{Free}
 use Rattle.admit.specs.Admission.{seatOf, isFull, viaFor, admitBy, enterAt, leadsTo}
 use Rattle.admit.proofs.Laws.{seat-lt, seat-free}
 use Rattle.station.specs.Entries.{Outcome, done, refused, unless, admitted, admitRefusal, admitOf}
-use Rattle.station.specs.SignOff.{vacant, leave, untried, bereft, bereaveAt, bereaveAll, isCellOf, clearAt, clearAll, unhearAt, unhearAll, strikeRound, strikeBy, strikeWait, struckOff, signOff, signOffRefusal, signOffOf}
+use Rattle.station.specs.SignOff.{vacant, leave, untried, bereft, bereftOf, bereaveAt, bereaveAll, isCellOf, clearAt, clearAll, unhearAt, unhearAll, strikeRound, strikeBy, strikeWait, struckOff, signOff, signOffRefusal, signOffOf}
 use Rattle.promise.specs.Promise.{Net, net, admission, signing, result, outcome, isRefused, step, after, started, leads, LinksHold}
 use Rattle.promise.proofs.Links.{links}
 use Rattle.promise.proofs.Signs.{sign-member, signed}
@@ -43,6 +45,7 @@ use Rattle.laws.specs.RoundTrip.{Unnamed, StruckRows, RoundTrip}
 use Rattle.laws.specs.FreeSlots.{Apart, BlankIn}
 use Rattle.laws.proofs.VacantSign.{AllKeep, column-struck}
 use Rattle.laws.proofs.VacantWalk.{runs-kept}
+use Rattle.laws.proofs.VacantReadings.{UnreadIn, runs-unread}
 
 -- ---- there and back
 
@@ -57,25 +60,26 @@ unfolding tally
 tally-same n true = refl
 tally-same n false = refl
 
-station-is : (s : Station) (w : Wait) (r : Round) (x : Totals) (u : ℕ) (t : Table) (ms : List Member) (h : List ℕ)
-    → w ≡ s .wait → r ≡ s .round → x ≡ s .totals → u ≡ s .used → t ≡ tableOf s → ms ≡ s .members → h ≡ s .hears
-    → _≡_ {A = Station} (record { settings = s .settings; wait = w; round = r; totals = x; used = u; busy = t .busy; landed = t .landed; count = t .count; members = ms; hears = h; owners = t .owners; cells = t .cells }) s
-station-is s w r x u t ms h a b c d e f g =
-    λ j. record { settings = s .settings; wait = a j; round = b j; totals = c j; used = d j; busy = e j .busy; landed = e j .landed; count = e j .count; members = f j; hears = g j; owners = e j .owners; cells = e j .cells }
+station-is : (s : Station) (w : Wait) (r : Round) (x : Totals) (u : ℕ) (t : Table) (ms : List Member) (rs : List Recent) (h : List ℕ)
+    → w ≡ s .wait → r ≡ s .round → x ≡ s .totals → u ≡ s .used → t ≡ tableOf s → ms ≡ s .members → rs ≡ s .recent → h ≡ s .hears
+    → _≡_ {A = Station} (record { settings = s .settings; wait = w; round = r; totals = x; used = u; busy = t .busy; landed = t .landed; count = t .count; members = ms; recent = rs; hears = h; owners = t .owners; cells = t .cells }) s
+station-is s w r x u t ms rs h a b c d e f p g =
+    λ j. record { settings = s .settings; wait = a j; round = b j; totals = c j; used = d j; busy = e j .busy; landed = e j .landed; count = e j .count; members = f j; recent = p j; hears = g j; owners = e j .owners; cells = e j .cells }
 
 round-is : (r : Round) (l a n : ℕ) → l ≡ r .list → a ≡ r .toack → n ≡ r .treenews
     → _≡_ {A = Round} (withList (withTreenews (withToack r a) n) l) r
 round-is r l a n p q w =
     λ j. record { list = p j; toack = q j; treenews = w j; windowend = r .windowend; nextbeacon = r .nextbeacon; nextround = r .nextround; txat = r .txat; number = r .number; rxsent = r .rxsent; closeleft = r .closeleft; closed = r .closed; traffic = r .traffic; rxdirty = r .rxdirty; activity = r .activity }
 
--- a boat written as it is
-seated-same : (s : Station) (j : ℕ) (m : Member) → m ≡ seated s j → withSeated s j m ≡ s
-seated-same s j m e =
-    ap (withSeated s j) e
-    ∙ station-is s (s .wait) (s .round) _ (s .used) (tableOf s) _ (s .hears) refl refl
-    (ap (withSilent (s .totals)) (tally-same (s .totals .silent) (silentAt (s .settings .misslimit) (seated s j)))) refl refl (set-getD (s .members) j noMember) refl
+-- a boat and its readings written as they are
+seated-same : (s : Station) (j : ℕ) (m : Member) (r : Recent) → m ≡ seated s j → r ≡ recentAt s j → withRecent (withSeated s j m) (set (s .recent) j r) ≡ s
+seated-same s j m r e q =
+    ap (λ (x : Member). withRecent (withSeated s j x) (set (s .recent) j r)) e
+    ∙ station-is s (s .wait) (s .round) _ (s .used) (tableOf s) _ _ (s .hears) refl refl
+    (ap (withSilent (s .totals)) (tally-same (s .totals .silent) (silentAt (s .settings .misslimit) (seated s j)))) refl refl (set-getD (s .members) j noMember)
+    (ap (set (s .recent) j) q ∙ set-getD (s .recent) j noRecent) refl
 
-module _ (s : Station) (slot : ℕ) (low : slot < 62) (free : hasBit (s .used) slot ≡ false) (k : AllKeep s) (links : LinksHold s) (unnamed : Unnamed s slot) where
+module _ (s : Station) (slot : ℕ) (low : slot < 62) (free : hasBit (s .used) slot ≡ false) (k : AllKeep s) (u : UnreadIn s) (links : LinksHold s) (unnamed : Unnamed s slot) where
   b : BlankIn slot s
   b = k slot low .blank free
 
@@ -99,8 +103,10 @@ module _ (s : Station) (slot : ℕ) (low : slot < 62) (free : hasBit (s .used) s
   bereave-same : (j : ℕ) → j < 62 → bereaveAt slot j s ≡ s
   unfolding bereaveAt
   bereave-same j l =
-      cond-keeps (λ (x : Station). x ≡ s) (hasBit (s .used) j) (withSeated s j (bereft slot (s .settings .misslimit) (seated s j))) s
-      (λ h. seated-same s j (bereft slot (s .settings .misslimit) (seated s j)) (bereft-same j l h)) (λ _. refl)
+      cond-keeps (λ (x : Station). x ≡ s) (hasBit (s .used) j)
+      (withRecent (withSeated s j (bereft slot (s .settings .misslimit) (seated s j))) (set (s .recent) j (bereftOf slot (seated s j) (recentAt s j)))) s
+      (λ h. seated-same s j (bereft slot (s .settings .misslimit) (seated s j)) (bereftOf slot (seated s j) (recentAt s j)) (bereft-same j l h)
+      (cond-false (eqb (seated s j .via) slot) empty (recentAt s j) (ne-eqb (seated s j .via) slot (no-relay j l h)))) (λ _. refl)
 
   all-same : bereaveAll slot s ≡ s
   unfolding bereaveAll
@@ -153,13 +159,13 @@ module _ (s : Station) (slot : ℕ) (low : slot < 62) (free : hasBit (s .used) s
 
     -- the admission, with the slot for its index
     abbrev enter : ℕ → Station
-    enter x = alsoAck (withUsed (withMembers s (set (s .members) x new)) (withBit (s .used) x)) x
+    enter x = alsoAck (withUsed (withMembers (emptied s x) (set (s .members) x new)) (withBit (s .used) x)) x
 
     gone : leave slot (struckOff slot (enter slot)) ≡ s
     gone =
         let n = k slot low .long in
         station-is s (strikeWait slot (s .wait)) (strikeRound slot (withToack (s .round) (withBit (s .round .toack) slot))) _ (withoutBit (withBit (s .used) slot) slot) (clearAll slot (tableOf s))
-        (set (set (s .members) slot new) slot vacant) (unhearAll slot (s .hears))
+        (set (set (s .members) slot new) slot vacant) (set (set (s .recent) slot empty) slot empty) (unhearAll slot (s .hears))
         (strike-same (s .wait .turn) (s .wait) (b .turn))
         (round-is (s .round) _ _ _ (without-gone (s .round .list) slot (b .list)) (without-with (s .round .toack) slot (omega arith) (b .toack)) (without-gone (s .round .treenews) slot (b .treenews)))
         (ap (λ (m : Member). withSilent (s .totals) (tally (s .totals .silent) (silentAt (s .settings .misslimit) m) (silentAt (s .settings .misslimit) vacant))) (getD-set-same (s .members) slot new noMember (omega arith))
@@ -167,6 +173,7 @@ module _ (s : Station) (slot : ℕ) (low : slot < 62) (free : hasBit (s .used) s
         (without-with (s .used) slot (omega arith) free)
         clear-same
         (set-set (s .members) slot new vacant ∙ ap (set (s .members) slot) (sym (b .member)) ∙ set-getD (s .members) slot noMember)
+        (set-set (s .recent) slot empty empty ∙ ap (set (s .recent) slot) (sym (u .none slot low free)) ∙ set-getD (s .recent) slot noRecent)
         unhear-same
 
     pub back : signOff (enterAt s slot call 63 now) slot ≡ s
@@ -266,5 +273,5 @@ round-trip s g store e cs packed now room slot seat unnamed ok =
       taken = ap (λ (x : Net). outcome (signing slot) x .refusal) p ∙ ap (λ (x : Outcome). x .refusal) o;
       silent = ap (λ (x : Net). outcome (signing slot) x .words) p ∙ ap (λ (x : Outcome). x .words) o;
       back = ap (step (signing slot)) p ∙ leaves-is t (n .store) slot z
-          ∙ ap (λ (x : Station). net x (n .store)) (back (n .station) slot low (seat-free (n .station) call slot seat) (runs-kept s g store e cs) (links s g store e cs) unnamed call now);
+          ∙ ap (λ (x : Station). net x (n .store)) (back (n .station) slot low (seat-free (n .station) call slot seat) (runs-kept s g store e cs) (runs-unread s g store e cs) (links s g store e cs) unnamed call now);
     }

@@ -16,6 +16,7 @@ use Rattle.roster.specs.declared.Member.{Member}
 use Rattle.roster.specs.Members.{noMember, newMember, promotedAt, reroutedTo}
 use Rattle.level.specs.Consts.{nought}
 use Rattle.net.specs.declared.Station.{Station}
+use Rattle.net.specs.State.{withRecent, recentAt}
 use Rattle.net.specs.declared.Settings.{Settings}
 use Rattle.net.specs.Net.{isMember, blankCall, newStation}
 use Rattle.net.proofs.Laws.{member-lt, member-is}
@@ -24,7 +25,7 @@ use Rattle.bursts.specs.Reroute.{withSeated}
 use Rattle.config.specs.declared.Given.{Given}
 use Rattle.config.specs.Checks.{secondsOk, durationsOk, decibelsOk, numbersOk, settingsOk, settingsOf}
 use Rattle.station.specs.Entries.{startRefusal}
-use Rattle.station.specs.SignOff.{vacant, leave, bereft, bereaveAt, bereaveAll, struckOff, signOff}
+use Rattle.station.specs.SignOff.{vacant, leave, bereft, bereftOf, bereaveAt, bereaveAll, struckOff, signOff}
 use Rattle.promise.specs.Promise.{after, started}
 use Rattle.laws.specs.Silent.{SilentCounted}
 use Rattle.promise.proofs.Walk.{Change}
@@ -46,7 +47,8 @@ leave-kept slot s h k =
 bereave-kept : (slot j : ℕ) (s : Station) → j < 62 → Keeps s → Keeps (bereaveAt slot j s)
 unfolding bereaveAt
 bereave-kept slot j s l k =
-    cond-keeps Keeps (hasBit (s .used) j) (withSeated s j (bereft slot (s .settings .misslimit) (seated s j))) s
+    cond-keeps Keeps (hasBit (s .used) j)
+    (withRecent (withSeated s j (bereft slot (s .settings .misslimit) (seated s j))) (set (s .recent) j (bereftOf slot (seated s j) (recentAt s j)))) s
     (λ h. kept-tally _ _ (s .used) (s .members) j (bereft slot (s .settings .misslimit) (seated s j)) l (member-is (s .used) j l ∙ h) k) (λ _. k)
 
 sign-kept : (s : Station) (slot : ℕ) → isMember (s .used) slot ≡ true → Keeps s → Keeps (signOff s slot)

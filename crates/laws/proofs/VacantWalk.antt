@@ -33,7 +33,7 @@ use Rattle.config.specs.declared.Given.{Given}
 use Rattle.station.specs.Entries.{startRefusal}
 use Rattle.station.specs.SignOff.{vacant}
 use Rattle.promise.specs.Promise.{Call, after, started}
-use Rattle.promise.proofs.Walk.{Allowed, Field, burst, told, caps, version, heard, down, received, direct, reached, Fields, fields-keep, Turned, still, ends, sends, polls, goes, draws, Within, Change, others, turned, over, hears, written, counted, promoted, moved, entered, piece, landed, freed, barred, signsOff, offered}
+use Rattle.promise.proofs.Walk.{Allowed, Field, burst, told, caps, version, heard, down, received, direct, reached, Fields, fields-keep, Turned, still, ends, sends, polls, goes, draws, Within, Change, others, turned, over, hears, written, counted, promoted, moved, entered, piece, landed, freed, barred, signsOff, offered, readings}
 use Rattle.promise.proofs.WalkCalls.{all, always}
 use Rattle.laws.specs.FreeSlots.{Apart, FreeSlots}
 use Rattle.laws.proofs.Vacant.{index-has, put-kept, seat-kept, member-kept, enter-kept, lists-kept, wait-kept, hears-kept, table-kept, freed-kept}
@@ -138,6 +138,7 @@ change-kept s t (written j m l here f) k i low = seat-kept i low s j m (member-h
 change-kept s t (counted j m n l here f) k i low = seat-kept i low s j _ (member-has (s .used) j here) (tried-same f) (k i low)
 change-kept s t (promoted j snr l here d) k i low = seat-kept i low s j (promotedAt (seated s j) snr) (member-has (s .used) j here) refl (k i low)
 change-kept s t (moved c r l here there able n) k i low = seat-kept i low s c (reroutedTo (seated s c) r) (member-has (s .used) c here) refl (k i low)
+change-kept s t (readings j r l here) k i low = k i low
 change-kept s t (entered c call v now l free r) k i low = enter-kept i low s c (newMember call v now) l refl (k i low)
 change-kept s t (piece a store slot field p m here f l d) k i low =
     member-kept i low (withTable s (offered s store slot field p .table)) slot m here (tried-same f) (table-kept i low s slot field (memberAt s slot .up) store p here (k i low))

@@ -7,3 +7,4 @@ pub mod Room
 pub mod Bars
 pub mod RoundTrip
 pub mod FreeSlots
+pub mod Worst
