@@ -3,3 +3,4 @@ pub mod Spans
 pub mod Total
 pub mod Levels
 pub mod Whole
+pub mod Sign

@@ -1,7 +1,7 @@
 // Signal levels and clocks, and the checks of numbers handed in.
 ghost use mathlib.Core.Path.{_≡_};
 ghost use Rattle.level.specs.Levels.{smoothed, levelOf, levelFor, orElse, isHeard, isAt};
-ghost use Rattle.level.specs.Order.{isNan, least};
+ghost use Rattle.level.specs.Order.{negative, totalLt, isNan, least};
 ghost use Rattle.level.specs.Spans.{upTo, within};
 
 // How well a station is heard, in dB.
@@ -76,6 +76,20 @@ pub fn is_at(c: Clock) -> bool
         Clock::At(_) => true,
         Clock::Never => false,
     }
+}
+
+// The sign: of a zero by the infinity that 1 over it is.
+fn is_negative(x: f32) -> bool
+    ensures { λ r. ⌜ r ≡ negative x ⌝ }
+{
+    if x == 0.0 { 1.0 / x < 0.0 } else { x < 0.0 }
+}
+
+// total_cmp: a is less than b, and -0 less than +0.
+pub fn total_lt(a: f32, b: f32) -> bool
+    ensures { λ r. ⌜ r ≡ totalLt a b ⌝ }
+{
+    (a < b) | ((a == b) & (is_negative(a) & !is_negative(b)))
 }
 
 // A NaN is not equal to itself.
