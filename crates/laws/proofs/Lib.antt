@@ -25,5 +25,6 @@ pub mod VacantReadings
 pub mod RoundTrip
 pub mod RoundTripRun
 pub mod WorstRings
+pub mod WorstFinite
 pub mod Worst
 pub mod WorstRun

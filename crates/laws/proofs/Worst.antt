@@ -67,6 +67,7 @@ use Rattle.dues.specs.Dues.{duesRefusal}
 use Rattle.promise.specs.Promise.{lentTo, Net, ofBurst, Call, admission, reception, decision, sending, closing, reading, freeing, charging, signing, asking, result, outcome, step, after, started}
 use Rattle.promise.proofs.WalkCalls.{started-is}
 use Rattle.laws.specs.Worst.{Update, measured, emptied, readingsOf, ofSeat, ofCheckin, ofLevel, ofKid, ofEntries, ofKids, ofOverheard, ofControl, ofFrame, ofFrames, ofSender, ofReply, ofBurstAt, ofReception, ofSlots, emptiedIf, promotions, ofReroute, ofRoundEnd, ofAct, ofWindow, ofDue, ofDecision, ofSignOff, ofCall, updatesOf, WorstOfLast}
+use Rattle.laws.proofs.WorstFinite.{last-finite}
 use Rattle.laws.proofs.WorstRings.{applied, Follows, follow, follow-cond, follow-slots, Holds, updates-hold, new-holds}
 
 -- ---- a slot and its index
@@ -444,5 +445,6 @@ worst-of-last s g store e cs slot here =
     subst (λ (rs : List Recent). Holds rs (λ i. readingsOf i (updatesOf cs n) [])) (sym (calls-follow cs n)) (updates-hold (updatesOf cs n) (n .station .recent) (λ i. []) h) in
     record {
       answer = answer-is (after cs n .station) slot here ∙ ap (λ (xs : List Float). Is (leastOf xs)) (k .last slot (member-lt (after cs n .station .used) slot here));
+      finite = last-finite cs n slot;
       lowest = lowest _;
     }

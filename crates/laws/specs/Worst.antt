@@ -12,7 +12,7 @@ use Rattle.bits.specs.Mask.{hasBit, withoutBit}
 use Rattle.level.specs.declared.Level.{Level}
 use Rattle.level.specs.declared.Level.the-variants.{Unheard, Decibels}
 use Rattle.level.specs.Levels.{isHeard}
-use Rattle.recent.specs.Readings.{leastOf, Lowest}
+use Rattle.recent.specs.Readings.{leastOf, Finite, Lowest}
 use Rattle.wire.specs.Call.{unpackCall}
 use Rattle.wire.specs.Fields.{snrFromQ}
 use Rattle.wire.specs.Kinds.{tiny, kIdle, tUp, tCtrl, cCheckin, cReport, cOverheard, cKids}
@@ -209,6 +209,7 @@ lastOf cs n slot = take 32 (readingsOf slot (updatesOf cs n) [])
 -- the call answers their lowest, which is one of them, none being below it; unheard where there are none
 pub record Worst (n : Net) (cs : List Call) (slot : ℕ) : Type 0 where
   pub answer : worstOf (after cs n .station) slot ≡ Is (leastOf (lastOf cs n slot))
+  pub finite : Finite (lastOf cs n slot)
   pub lowest : Lowest (leastOf (lastOf cs n slot)) (lastOf cs n slot)
 
 -- from a start that is not refused, after any calls, of each boat
