@@ -49,12 +49,12 @@ use Rattle.rx.specs.Reception.{airOf, ncsRx}
 use Rattle.station.specs.Entries.{Outcome, refused, receivedAs, receiveOf, cellRefusal, freeOf, startRefusal}
 use Rattle.station.specs.SignOff.{signOffRefusal, signOffOf, isCellOf, clearAll}
 use Rattle.config.specs.declared.Given.{Given}
-use Rattle.promise.specs.Promise.{lentTo, Net, net, ofBurst, Call, admission, reception, decision, sending, closing, reading, freeing, charging, signing, result, inBook, isRefused, step, after, started, isBoats, framesBy}
+use Rattle.promise.specs.Promise.{lentTo, Net, net, ofBurst, Call, admission, reception, decision, sending, closing, reading, freeing, charging, signing, asking, result, inBook, isRefused, step, after, started, isBoats, framesBy}
 use Rattle.laws.specs.Laws.{from, InCells, alsoIn, wentBy, wentIn, wentAll, wentRx, wentWith, inCells, StoreOk, StoresOk, AllCut, Splits, AllSplit}
 use Rattle.promise.proofs.Ties.{View}
 use Rattle.promise.proofs.Quiet.{windowAt, viewOf}
 use Rattle.promise.proofs.WalkFrames.{viewIn, isPiece, FrameRead, other, unkept, barred, piece, firstIn, rx-end}
-use Rattle.promise.proofs.Messages.{admission-kept, decision-kept, sending-kept, closing-kept, reading-kept, charging-kept, same-cond}
+use Rattle.promise.proofs.Messages.{admission-kept, decision-kept, sending-kept, closing-kept, reading-kept, charging-kept, asking-kept, same-cond}
 use Rattle.promise.proofs.Outcomes.{refusedBy, receive-cases, lent-is}
 use Rattle.promise.proofs.Signs.{sign-beside, Cleared, cleared}
 use Rattle.promise.proofs.Sounds.{Fit, FitRead, accept-bar, fit-frame, step-read-fit, read-fine, first-fit, quiet-view, step-fit, runs-fit}
@@ -298,6 +298,7 @@ module _ (f : InCells) (n : Net) (fit : Fit n) (d : TracedIn f (viewOf (n .stati
   call-traced (reading cell lent) ok = quiet-traced (reading cell lent) (quiet-view (reading cell lent) n (reading-kept cell lent n) refl)
   call-traced (freeing cell) ok = same-store (freeing cell) (freeOf (n .station) cell .station) (free-traced cell)
   call-traced (charging figures) ok = quiet-traced (charging figures) (quiet-view (charging figures) n (charging-kept figures n) refl)
+  call-traced (asking slot) ok = quiet-traced (asking slot) (quiet-view (asking slot) n (asking-kept slot n) refl)
   call-traced (signing slot) ok = same-store (signing slot) (signOffOf (n .station) slot .station) (sign-traced slot)
 
 calls-traced : (cs : List Call) (n : Net) (f : InCells) → Fit n → TracedIn f (viewOf (n .station) (n .store)) → StoresOk cs n

@@ -21,7 +21,7 @@ use Rattle.config.specs.declared.Given.{Given}
 use Rattle.station.specs.Entries.{startRefusal}
 use Rattle.station.specs.SignOff.{bereaveAt, bereaveAll, leave, struckOff, signOff}
 use Rattle.promise.specs.Promise.{Call, after, started}
-use Rattle.promise.proofs.Walk.{Change, others, turned, over, hears, written, counted, promoted, moved, readings, entered, piece, landed, freed, signsOff}
+use Rattle.promise.proofs.Walk.{Change, others, turned, over, hears, written, counted, promoted, moved, readings, entered, piece, landed, freed, barred, signsOff}
 use Rattle.promise.proofs.WalkCalls.{all, always}
 use Rattle.laws.proofs.Vacant.{differ}
 
@@ -82,6 +82,7 @@ change-unread s t (entered i call v now l free r) k = enter-unread (s .used) (s 
 change-unread s t (piece a store slot field p m here f l d) k = k
 change-unread s t (landed a store slot field p m here f l d) k = k
 change-unread s t (freed a cell) k = k
+change-unread s t (barred a store slot field p here b) k = k
 change-unread s t (signsOff a b slot here) k = sign-unread s slot here k
 
 new-unread : (g : Settings) (count : ℕ) → UnreadIn (newStation g count)

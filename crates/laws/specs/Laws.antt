@@ -38,7 +38,7 @@ use Rattle.rx.specs.Ending.{busyWait}
 use Rattle.rx.specs.Reception.{airOf, firstReading}
 use Rattle.config.specs.declared.Given.{Given}
 use Rattle.station.specs.Entries.{startRefusal}
-use Rattle.promise.specs.Promise.{Lent, lentTo, Net, ofBurst, InBook, brings, reads, frees, ends, changesNothing, Call, admission, reception, decision, sending, closing, reading, freeing, charging, signing, inBook, isRefused, step, after, started, isBoats, framesBy, LentOk}
+use Rattle.promise.specs.Promise.{Lent, lentTo, Net, ofBurst, InBook, brings, reads, frees, ends, changesNothing, Call, admission, reception, decision, sending, closing, reading, freeing, charging, signing, asking, inBook, isRefused, step, after, started, isBoats, framesBy, LentOk}
 
 -- ---- a smoothed level
 
@@ -130,6 +130,7 @@ wentWith (reading cell lent) n f = f
 wentWith (freeing cell) n f = f
 wentWith (charging figures) n f = f
 wentWith (signing slot) n f = f
+wentWith (asking slot) n f = f
 
 -- all the calls
 unfoldable pub inCells : List Call → Net → InCells → InCells

@@ -29,7 +29,7 @@ use Rattle.station.specs.Entries.{startRefusal}
 use Rattle.station.specs.SignOff.{leave, struckOff, bereaveAt, bereaveAll, signOff}
 use Rattle.promise.specs.Promise.{Call, after, started, leads}
 use Rattle.promise.proofs.Links.{links}
-use Rattle.promise.proofs.Walk.{Turned, still, ends, sends, polls, goes, draws, stays-up, also, none, RelayOk, Change, others, turned, over, hears, written, counted, promoted, moved, entered, piece, landed, freed, signsOff}
+use Rattle.promise.proofs.Walk.{Turned, still, ends, sends, polls, goes, draws, stays-up, also, none, RelayOk, Change, others, turned, over, hears, written, counted, promoted, moved, entered, piece, landed, freed, barred, readings, signsOff}
 use Rattle.promise.proofs.WalkCalls.{all, always}
 use Rattle.promise.proofs.WalkRoster.{Every, Each, every, every-new}
 
@@ -109,6 +109,8 @@ narrow-kept s t (entered i call v now l free r) n = record { used = λ j h. with
 narrow-kept s t (piece a store slot field p m here f l d) n = record { used = n .used; list = n .list }
 narrow-kept s t (landed a store slot field p m here f l d) n = record { used = n .used; list = n .list }
 narrow-kept s t (freed a cell) n = record { used = n .used; list = n .list }
+narrow-kept s t (barred a store slot field p here b) n = record { used = n .used; list = n .list }
+narrow-kept s t (readings i r l here) n = record { used = n .used; list = n .list }
 narrow-kept s t (signsOff a b slot here) n = sign-narrow s slot n
 
 new-narrow : (g : Settings) (count : ℕ) → Narrow (newStation g count)

@@ -35,7 +35,7 @@ use Rattle.rx.specs.Ending.{Ended, busyWait, idleHeard, idleBy, idleEnd, ackExt
 use Rattle.rx.specs.Reception.{airOf, firstReading, tinyBurst, fullBurst, ncsRx}
 use Rattle.station.specs.Entries.{Outcome, receivedAs, receiveBy, receiveRefusal, receiveOf}
 use Rattle.promise.specs.Promise.{burstBy, burstsIn, TurnEvent, ofBurst, framesBy}
-use Rattle.promise.proofs.Walk.{Allowed, Change, others, turned, over, hears, written, counted, promoted, moved, entered, piece, landed, freed, signsOff, start, chain-keeps}
+use Rattle.promise.proofs.Walk.{Allowed, Change, others, turned, over, hears, written, counted, promoted, moved, entered, piece, landed, freed, barred, readings, signsOff, start, chain-keeps}
 use Rattle.promise.proofs.WalkRx.{member-with, frames-walk, busy-turn}
 use Rattle.promise.proofs.TurnsKeeps.{calm-start, frames-calm}
 use Rattle.promise.proofs.Readings.{frame-runs}
@@ -93,6 +93,8 @@ module _ (slot : ℕ) where
   change-here s t (piece a store i field p m here f l d) h = h
   change-here s t (landed a store i field p m here f l d) h = h
   change-here s t (freed a cell) h = h
+  change-here s t (barred a store i field p here b) h = h
+  change-here s t (readings i r l here) h = h
   change-here s t (signsOff a b i here) h = absurd a
 
   -- frame j came, is not marked, and as it was read the slot had a member

@@ -29,7 +29,7 @@ use Rattle.stream.specs.Table.{cellCount}
 use Rattle.station.specs.Entries.{startRefusal}
 use Rattle.station.specs.SignOff.{strikeBy, signOff, bereaveAt, bereaveAll, leave, struckOff}
 use Rattle.promise.specs.Promise.{Call, Net, step, started}
-use Rattle.promise.proofs.Walk.{Turned, still, ends, sends, polls, goes, draws, Change, others, turned, over, hears, written, counted, promoted, moved, entered, piece, landed, freed, signsOff, chain-keeps}
+use Rattle.promise.proofs.Walk.{Turned, still, ends, sends, polls, goes, draws, Change, others, turned, over, hears, written, counted, promoted, moved, entered, piece, landed, freed, barred, readings, signsOff, chain-keeps}
 use Rattle.promise.proofs.WalkCalls.{all, step-walk}
 use Rattle.promise.proofs.WalkRx.{member-with}
 use Rattle.promise.proofs.Signs.{sign-beside}
@@ -144,6 +144,8 @@ change-polled s t (entered c call v now l free r) p =
 change-polled s t (piece a store slot field b m here f l d) p = record { turn = p .turn; list = p .list }
 change-polled s t (landed a store slot field b m here f l d) p = record { turn = p .turn; list = p .list }
 change-polled s t (freed a cell) p = record { turn = p .turn; list = p .list }
+change-polled s t (barred a store slot field b here z) p = record { turn = p .turn; list = p .list }
+change-polled s t (readings i r l here) p = record { turn = p .turn; list = p .list }
 change-polled s t (signsOff a b slot here) p = sign-polled s slot p
 
 pub step-polled : (c : Call) (n : Net) → Polled (n .station) → Polled (step c n .station)

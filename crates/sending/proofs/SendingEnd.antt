@@ -24,7 +24,7 @@ use Rattle.outbox.specs.Bursts.{msg-field}
 use Rattle.outbox.specs.Senders.{postRefusal, takeRefusal, memoryRefusal, bothRefusal}
 use Rattle.outbox.proofs.Bursting.{take-open}
 use Rattle.promise.specs.Promise as item3
-use Rattle.promise.specs.Promise.{Call, admission, reception, decision, sending, closing, reading, freeing, charging, signing, handed, lentTo, Net, result, InBook, brings, reads, frees, ends, changesNothing, inBook, outcome, isRefused, Answers, answersOf, Stays, sentNow, Ledger, Book, Entered, unchanged, emptyBook, Message, Event2, enter, enterAll, bookFrames, bookEnds, bookDone, bookCall, framesBy, isBoats, allBelow, PieceOk, FrameOk, FramesOk, CallOk, Pairs, ReadsAs, AtCall, started}
+use Rattle.promise.specs.Promise.{Call, admission, reception, decision, sending, closing, reading, freeing, charging, signing, asking, handed, lentTo, Net, result, InBook, brings, reads, frees, ends, changesNothing, inBook, outcome, isRefused, Answers, answersOf, Stays, sentNow, Ledger, Book, Entered, unchanged, emptyBook, Message, Event2, enter, enterAll, bookFrames, bookEnds, bookDone, bookCall, framesBy, isBoats, allBelow, PieceOk, FrameOk, FramesOk, CallOk, Pairs, ReadsAs, AtCall, started}
 use Rattle.promise.proofs.Ledgers.{all-of}
 use Rattle.promise.proofs.Messages.{Tied, started-tied, StayGood, call-good}
 use Rattle.promise.proofs.Readings.{chain-count}
@@ -231,6 +231,7 @@ module _ (slot : ℕ) (low : slot < 62) (bodies : List (List ℕ)) (M : Stays) (
   new-acked N (reading cell lent) n b p r h = absurd h
   new-acked N (freeing cell) n b p r h = absurd h
   new-acked N (charging figures) n b p r h = absurd h
+  new-acked N (asking slot) n b p r h = absurd h
   new-acked N (signing s) n b p r h = absurd h
   new-acked N (reception words snr now lent room numbers) n b p r (inr h) = absurd h
   new-acked N (reception words snr now lent room numbers) n b p r (inl q) =
