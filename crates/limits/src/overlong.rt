@@ -11,6 +11,24 @@ fn high(size: u32) -> u8 {
     (size / 256 % 256) as u8
 }
 
+// The first and the second byte of what stands from the offset on.
+fn first(size: u32, offset: u32) -> u8 {
+    if offset == 0 {
+        return low(size);
+    }
+    if offset == 1 {
+        return high(size);
+    }
+    7
+}
+
+fn second(size: u32, offset: u32) -> u8 {
+    if offset == 0 {
+        return high(size);
+    }
+    7
+}
+
 // The n bytes from the offset on of a message: the two of its length, which says `size`, and sevens.
 fn part(
     w: &mut [u32; 8192],
@@ -22,13 +40,8 @@ fn part(
     n: usize,
 ) -> usize {
     let mut p = [7u8; 255];
-    if offset == 0 {
-        p[0] = low(size);
-        p[1] = high(size);
-    }
-    if offset == 1 {
-        p[0] = high(size);
-    }
+    p[0] = first(size, offset);
+    p[1] = second(size, offset);
     out::put_frame(w, at, slot, number % 256 * 65536 + offset % 65536, &p, n)
 }
 
@@ -64,13 +77,31 @@ pub fn shown(
     let mut w = [0u32; 8192];
     let h = burst::head(&mut w, 0);
     let n = part(&mut w, h, 0, 0, 2047, 0, 2);
-    let a = told(t, at, b"a length of 2,047, shown by the first piece", s, &w, n, lent, out);
+    let a = told(
+        t,
+        at,
+        b"a length of 2,047, shown by the first piece",
+        s,
+        &w,
+        n,
+        lent,
+        out,
+    );
     let i = part(&mut w, h, 0, 0, 2047, 0, 1);
     let j = part(&mut w, i, 0, 0, 2047, 1, 1);
     let b = told(t, a, b"shown by the second byte alone", s, &w, j, lent, out);
     let k = part(&mut w, h, 0, 0, 2047, 1, 1);
     let l = part(&mut w, k, 0, 0, 2047, 0, 1);
-    let c = told(t, b, b"shown by the first byte, the second waiting", s, &w, l, lent, out);
+    let c = told(
+        t,
+        b,
+        b"shown by the first byte, the second waiting",
+        s,
+        &w,
+        l,
+        lent,
+        out,
+    );
     let d = later(t, c, s, lent, out);
     neighbour(t, d, s, lent, out)
 }
@@ -89,7 +120,16 @@ fn later(
     let b = part(&mut w, a, 0, 0, 65535, 100, 0);
     let c = part(&mut w, b, 0, 0, 65535, 100, 5);
     let n = part(&mut w, c, 0, 1, 0, 0, 2);
-    told(t, at, b"an empty piece later, one of five bytes, the next message", s, &w, n, lent, out)
+    told(
+        t,
+        at,
+        b"an empty piece later, one of five bytes, the next message",
+        s,
+        &w,
+        n,
+        lent,
+        out,
+    )
 }
 
 // The boat in slot 1 has a message in cell 0.
@@ -140,9 +180,27 @@ pub fn full(
     let s = burst::with_boat(burst::fresh(lent), 1, out);
     let mut w = [0u32; 8192];
     let n = crowded(&mut w, 1, 10);
-    let a = told(t, at, b"no cell is free: ten other messages have them", s, &w, n, lent, out);
+    let a = told(
+        t,
+        at,
+        b"no cell is free: ten other messages have them",
+        s,
+        &w,
+        n,
+        lent,
+        out,
+    );
     let m = crowded(&mut w, 0, 10);
-    let b = told(t, a, b"all cells are in use, its own among them", s, &w, m, lent, out);
+    let b = told(
+        t,
+        a,
+        b"all cells are in use, its own among them",
+        s,
+        &w,
+        m,
+        lent,
+        out,
+    );
     let k = scattered(&mut w, 16);
     told(t, b, b"16 of its pieces wait", s, &w, k, lent, out)
 }
@@ -177,10 +235,37 @@ pub fn limits(
     let s = burst::with_boat(burst::fresh(lent), 1, out);
     let mut w = [0u32; 8192];
     let n = whole(&mut w, 2046);
-    let a = told(t, at, b"2,048 bytes of a message that says 2,046", s, &w, n, lent, out);
+    let a = told(
+        t,
+        at,
+        b"2,048 bytes of a message that says 2,046",
+        s,
+        &w,
+        n,
+        lent,
+        out,
+    );
     let m = whole(&mut w, 2047);
-    let b = told(t, a, b"2,048 bytes of a message that says 2,047", s, &w, m, lent, out);
+    let b = told(
+        t,
+        a,
+        b"2,048 bytes of a message that says 2,047",
+        s,
+        &w,
+        m,
+        lent,
+        out,
+    );
     let h = burst::head(&mut w, 0);
     let k = part(&mut w, h, 0, 0, 2047, 0, 2);
-    told(t, b, b"the number limit comes first", at_the_limit(s), &w, k, lent, out)
+    told(
+        t,
+        b,
+        b"the number limit comes first",
+        at_the_limit(s),
+        &w,
+        k,
+        lent,
+        out,
+    )
 }
