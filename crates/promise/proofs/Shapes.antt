@@ -2,11 +2,11 @@
 -- relay is a boat. That cells fit, and windows are in their bounds, is in Sounds. Assumes nothing.
 use mathlib.Core.Path.{_≡_, refl, sym, ap, _∙_, subst}
 use mathlib.Core.Logic.{⊎-elim, inl, inr}
-use mathlib.Core.Bool.{Bool, true, false, _||_}
+use mathlib.Core.Bool.{Bool, true, false, _&&_, _||_}
 use mathlib.Core.List.{List}
 use Prim.Native.Nat.{ℕ, zero, suc, _+_, _-_, _≤_}
 use native.Mathlib.Omega.{arith}
-use lib.Dec.{ltb, eqb}
+use lib.Dec.{leb, ltb, eqb}
 use lib.ListN.{length}
 use borrow.Author.Tests.{eqb-true}
 use Rattle.bits.specs.Mask.{hasBit, withoutBit}
@@ -15,7 +15,7 @@ use Rattle.bits.proofs.Lists.{cond-keeps, and-true, eq-or-not}
 use Rattle.bits.proofs.Loops.{fold-keeps}
 use Rattle.bits.proofs.Stops.{stop-most}
 use Rattle.stream.specs.declared.window.Window.{Window}
-use Rattle.stream.specs.Window.{slideOf, markOf, landOf}
+use Rattle.stream.specs.Window.{barOf, slideOf, markOf, landOf}
 use Rattle.roster.specs.declared.Member.{Member}
 use Rattle.net.specs.declared.Settings.{Settings}
 use Rattle.net.specs.declared.Station.{Station}
@@ -38,16 +38,20 @@ use Rattle.promise.proofs.WalkRoster.{Every, Each, every, every-new}
 abbrev Low : Member → Type 0
 Low m = m .up .next ≤ 4294967295
 
-slide-low : (f n m : ℕ) → slideOf f n m .next ≤ 4294967295
+slide-low : (f n m b : ℕ) → slideOf f n m b .next ≤ 4294967295
 unfolding slideOf
-slide-low zero n m = stop-most (n + 1)
-slide-low (suc f) n m = cond-keeps (λ (w : Window). w .next ≤ 4294967295) (hasBit m 0) _ _ (λ _. slide-low f _ _) (λ _. stop-most (n + 1))
+slide-low zero n m b = stop-most (n + 1)
+slide-low (suc f) n m b = cond-keeps (λ (w : Window). w .next ≤ 4294967295) (hasBit m 0) _ _ (λ _. slide-low f _ _ _) (λ _. stop-most (n + 1))
 
 land-low : (w : Window) (k : ℕ) → w .next ≤ 4294967295 → landOf w k .next ≤ 4294967295
 unfolding markOf
 land-low w k l =
     cond-keeps (λ (x : Window). x .next ≤ 4294967295) (ltb (w .next) k) _ _
-    (λ _. cond-keeps (λ (x : Window). x .next ≤ 4294967295) (ltb (k - w .next - 1) 128) _ w (λ _. l) (λ _. l)) (λ _. slide-low 128 _ _)
+    (λ _. cond-keeps (λ (x : Window). x .next ≤ 4294967295) (ltb (k - w .next - 1) 128) _ w (λ _. l) (λ _. l)) (λ _. slide-low 128 _ _ _)
+
+bar-low : (w : Window) (k : ℕ) → w .next ≤ 4294967295 → barOf w k .next ≤ 4294967295
+unfolding barOf
+bar-low w k l = cond-keeps (λ (x : Window). x .next ≤ 4294967295) (leb (w .next) k && ltb (k - w .next) 128) _ w (λ _. l) (λ _. l)
 
 each-low : Each all Low
 each-low =
@@ -58,6 +62,7 @@ each-low =
       promoted = λ m snr e l. l;
       moved = λ m r l. l;
       landed = λ m number n l. land-low (m .up) number l;
+      barred = λ m number l. bar-low (m .up) number l;
       entered = λ call v now. omega arith;
       cut = λ m limit l. l;
     }
