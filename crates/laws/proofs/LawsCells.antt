@@ -123,13 +123,14 @@ module _ (t : Table) (w : Window) (store : List ℕ) (slot field : ℕ) (p : Lis
             → Made (joinedOf store (placeOf r) (cellFor r (cellAt t (placeOf r))) o p) (alsoIn r (from o p) f (placeOf r))
         go (Own d) q y l =
             subst (λ (b : Bool). Made (accept (held (cellAt t d) (cellOf store d)) o p) (cond b (f d ++ (from o p ∷ [])) (f d))) (sym (eq-eqb d d refl))
-            (made-more (held (cellAt t d) (cellOf store d)) (f d) o p (old d (q .filling .taken)) (yes-is k o (length p) _ true (cellAt t d) y .fits)
-            (kept-room k o _ true (cellAt t d) (cellOf store d) p (inl y)))
+            (made-more (held (cellAt t d) (cellOf store d)) (f d) o p (old d (q .filling .taken)) (yes-is k o (length p) (isOver (barredOf w k) store (Own d) (cellAt t d) o p) true (cellAt t d) y .fits)
+            (kept-room k o (isOver (barredOf w k) store (Own d) (cellAt t d) o p) true (cellAt t d) (cellOf store d) p (inl y)))
         go (Free d) q y l =
             let n = cell-length store d l in
             subst (λ (b : Bool). Made (accept (held emptyCell (cellOf store d)) o p) (cond b (from o p ∷ []) (f d))) (sym (eq-eqb d d refl))
-            (made-first (cellOf store d) o p (omega arith) (yes-is k o (length p) _ true emptyCell y .fits) (kept-room k o _ true emptyCell (cellOf store d) p (inl y)))
-        go Full q y l = absurd (never-both false (yes-is k o (length p) _ false emptyCell y .celled) refl)
+            (made-first (cellOf store d) o p (omega arith) (yes-is k o (length p) (isOver (barredOf w k) store (Free d) (cellAt t d) o p) true emptyCell y .fits)
+            (kept-room k o (isOver (barredOf w k) store (Free d) (cellAt t d) o p) true emptyCell (cellOf store d) p (inl y)))
+        go Full q y l = absurd (never-both false (yes-is k o (length p) (isOver (barredOf w k) store Full (cellAt t 0) o p) false emptyCell y .celled) refl)
 
     put-traced : Traced (alsoIn (tableRoom t slot k) (from o p) f) (putAs t w store slot k o p .table) (putAs t w store slot k o p .store)
     put-traced d b = ⊎-elim here there (eq-or-not d c)

@@ -1,7 +1,7 @@
 -- One more piece of a cell's message, whole or in two parts in either order, joins the same bytes: each way covers the same, and the joined bytes are the message's up
 -- to the first byte that is not covered. Assumes nothing.
 use mathlib.Core.Path.{_≡_, refl, sym, ap, _∙_, subst}
-use mathlib.Core.Bool.{true, false, _&&_}
+use mathlib.Core.Bool.{Bool, true, false, cond, _&&_}
 use mathlib.Core.List.{List, [], _∷_, _++_}
 use mathlib.Core.Logic.{_⊎_, inl, inr, ⊎-elim}
 use Prim.Native.Nat.{ℕ, _+_, _≤_, _<_}
@@ -249,6 +249,6 @@ module _ (number : ℕ) (M : List ℕ) (h : Held) (ps : List Piece) (fits : Fits
       ))
       (λ z.
       let e : o + length (p ++ q) ≤ 2048 =
-      ⊎-elim (λ l. l) (λ l. absurd (never-both _ (past-lost (h .cell) fits number o (length (p ++ q)) _ z l) (one .0))) (le-or-lt (o + length (p ++ q)) 2048) in
+      ⊎-elim (λ l. l) (λ l. absurd (never-both _ (past-lost (h .cell) fits number o (length (p ++ q)) (showsOf h o (p ++ q)) z l) (one .0))) (le-or-lt (o + length (p ++ q)) 2048) in
       splits number (take 2048 M) _ h inv o p q (cut-short M o (p ++ q) e cut) one two turned)
       (eq-or-not (length (p ++ q)) 0)

@@ -53,7 +53,7 @@ use Rattle.next.specs.Next.{Decision, pollBy, pollStage, drawn, drawStage, rero
 use Rattle.next.specs.Next as next
 use Rattle.frames.specs.declared.Air.{Air}
 use Rattle.frames.specs.Reading.{Reading}
-use Rattle.frames.specs.Pieces.{isRelayed, keptPiece, pieceFrame}
+use Rattle.frames.specs.Pieces.{unkeptAt, barredPiece, isRelayed, keptPiece, pieceFrame}
 use Rattle.frames.specs.Control.{eachEntry, callAt, checkinFrame, reportStation, reportFrame, relayOf, overheardBy, overheardEntry, overheardFrame, heardAs, kidRecent, isKid, kidEntry, kidsFrame}
 use Rattle.frames.specs.Frames.{controlBy, readFrame, frameStep, readFrames}
 use Rattle.rx.specs.Ending.{Ended, turnOverIn, idleHeard, idleBy, idleEnd, replyHeard, answerBy, goesOn, isReply, replyBy, replyEnd, busyWait}
@@ -168,7 +168,8 @@ module _ (a : Air) where
       let r = accept (tableOf s) (memberAt s slot .up) (x .store) slot field p in
       let P : Station → Type 0 = λ (t : Station). t .recent ≡ s .recent in
       cond-keeps (λ (y : Reading). y .station .recent ≡ s .recent) (isMember (s .used) slot) _ x
-      (λ _. cond-keeps (λ (y : Reading). y .station .recent ≡ s .recent) (r .lost) _ (keptPiece a slot r x) (λ _. refl)
+      (λ _. cond-keeps (λ (y : Reading). y .station .recent ≡ s .recent) (r .lost) _ (keptPiece a slot r x)
+      (λ _. cond-keeps (λ (y : Reading). unkeptAt y .station .recent ≡ s .recent) (r .bars) (barredPiece slot r x) x (λ _. refl) (λ _. refl))
       (λ _. cond-keeps P (isRelayed a s slot r) _ _
       (λ _. cond-keeps P (hasLanded (r .landed)) _ _ (λ _. refl) (λ _. refl))
       (λ _. cond-keeps P (hasLanded (r .landed)) _ _ (λ _. refl) (λ _. refl))))

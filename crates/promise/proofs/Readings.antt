@@ -1,5 +1,5 @@
 -- The station and the events after a kept piece; what a frame leaves of a reception's running values, and every call of the number of cells. Assumes nothing.
-use mathlib.Core.Path.{_≡_, refl, sym, ap, _∙_}
+use mathlib.Core.Path.{_≡_, refl, sym, ap, _∙_, subst}
 use mathlib.Core.Bool.{Bool, true, false, cond, _&&_}
 use mathlib.Core.Option.{none, some}
 use mathlib.Core.List.{List, [], _∷_, _++_}
@@ -70,6 +70,13 @@ window-old used ms slot m here i z =
     (getD-set-other ms (indexOf slot) (indexOf i) m noMember
     (λ e. z (sym (index-is i a) ∙ e ∙ index-is slot (member-lt used slot here)))))
     (le-or-lt 62 i)
+
+-- what holds of each slot's window holds after one member is written with a window of which it holds
+pub written-keeps : (P : ℕ → Window → Type 0) (used : ℕ) (ms : List Member) (slot : ℕ) (m : Member) → isMember used slot ≡ true → length ms ≡ 62
+    → P slot (m .up) → ((i : ℕ) → P i (windowIn used ms i)) → (i : ℕ) → P i (windowIn used (set ms (indexOf slot) m) i)
+written-keeps P used ms slot m here long new old i =
+    ⊎-elim (λ q. subst (λ (j : ℕ). P j (windowIn used (set ms (indexOf slot) m) j)) (sym q) (subst (P slot) (sym (window-new used ms slot m here long)) new))
+    (λ z. subst (P i) (sym (window-old used ms slot m here i z)) (old i)) (eq-or-not i slot)
 
 -- a number barred in its window
 windows-barred : (used : ℕ) (ms : List Member) (slot k : ℕ) → isMember used slot ≡ true → length ms ≡ 62

@@ -28,7 +28,7 @@ use Rattle.net.specs.Net.{isMember}
 use Rattle.net.proofs.Laws.{member-lt}
 use Rattle.frames.specs.declared.Air.{Air}
 use Rattle.frames.specs.Reading.{Reading}
-use Rattle.frames.specs.Pieces.{pieceFrame}
+use Rattle.frames.specs.Pieces.{unkeptAt, pieceFrame}
 use Rattle.frames.specs.Control.{isForwarded, reportFrame}
 use Rattle.frames.specs.Frames.{controlBy, readFrame, isThere, frameStep, readFrames}
 use Rattle.rx.specs.Ending.{Ended, busyWait, idleHeard, idleBy, idleEnd, ackExtra, replyHeard, answerBy, goesOn, isReply, replyBy, replyEnd}
@@ -66,7 +66,9 @@ frame-heard a lost x = refl
 frame-heard a (heard flags field p) x =
     cond-keeps (SameHeard x) (eqb (flags / 64) tUp) _ _
     (λ _. cond-keeps (SameHeard x) (isMember (x .station .used) (flags % 64)) _ x
-    (λ _. cond-keeps (SameHeard x) (accept (tableOf (x .station)) (memberAt (x .station) (flags % 64) .up) (x .store) (flags % 64) field p .lost) _ _ (λ _. refl) (λ _. refl))
+    (λ _. cond-keeps (SameHeard x) (accept (tableOf (x .station)) (memberAt (x .station) (flags % 64) .up) (x .store) (flags % 64) field p .lost) _ _
+    (λ _. cond-keeps (λ (y : Reading). SameHeard x (unkeptAt y)) (accept (tableOf (x .station)) (memberAt (x .station) (flags % 64) .up) (x .store) (flags % 64) field p .bars) _ x (λ _. refl) (λ _. refl))
+    (λ _. refl))
     (λ _. refl))
     (λ _. cond-keeps (SameHeard x) (eqb (flags / 64) tCtrl) _ x
     (λ _. cond-keeps (SameHeard x) (eqb (length p) 0) x _ (λ _. refl) (λ _. control-heard a (flags % 64) (getD p 0 0) (length p) p x)) (λ _. refl))

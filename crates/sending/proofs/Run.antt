@@ -22,6 +22,7 @@ use Rattle.words.specs.Words.{Heard, lost, heard, wordOk, payloadOk, unpack, pa
 use Rattle.out.specs.Encode.{headWord, pack, framesWords, burstWords, chunksOf}
 use Rattle.inbox.specs.Cells.{seek, next, grow, settle, store, await}
 use Rattle.inbox.specs.Cells as cells
+use Rattle.inbox.specs.Messages.{showsOf}
 use Rattle.stream.specs.Window.{slideOf, markOf}
 use Rattle.stream.specs.Table.{ownCell, putOf, accept}
 use Rattle.roster.specs.Relays.{heardAt, relaySrcFor, turnOver}
@@ -129,7 +130,7 @@ pub record HiRun : Type 0 where
       ≡ record { message = record { slot = 0; number = 0 }; event = record { slot = 0; cell = 0; number = 0 }; bytes = 104 ∷ 105 ∷ [] } ∷ []
 
 pub hi-run : HiRun
-unfolding after size units round sum add mul lt le ofInt ofBits first fold every any hasBit withBit withoutBit bothOf eitherOf minusOf lowestBit lowestFree slotsOf stop levelBelow totalLt digit char trimStart trimEnd unpacked shifted widened widenedAt wordOk payloadOk unpack payload frameOf itemAt framesOf headOk parse pack framesWords chunksOf seek next grow settle store await cells.accept slideOf markOf ownCell putOf accept heardAt relaySrcFor turnOver isMember newStation onTxDone seatOf findCall leadsTo pollBurst acksBurst beaconRows beaconPayload beyond beaconOf tellAll listSent rxListBurst triedOf sourceFor promoteAt promoteAll moveAt moveAll rerouteOf maskWhere rowsOn leastReach leastDirect pollStage listFor drawStage rerouteStage roundEnd actOf windowStage againStage dueOf ncsNext pieceFrame readFrame frameStep readFrames replyEnd ncsRx admitRefusal admitOf receiveRefusal receiveOf nextRefusal nextOf sentOf readRefusal cellRefusal readingOf cut-up recut picked swept sweep sweep-out fresh fresh-out lens take-out retain remove acked result item3.step cover alsoHanded allBelow bookFrame bookFrames eventsIn acksFrom doneBy runAfter bodiesIn posted stepped runs.step
+unfolding after size units round sum add mul lt le ofInt ofBits first fold every any hasBit withBit withoutBit bothOf eitherOf minusOf lowestBit lowestFree slotsOf stop levelBelow totalLt digit char trimStart trimEnd unpacked shifted widened widenedAt wordOk payloadOk unpack payload frameOf itemAt framesOf headOk parse pack framesWords chunksOf seek next grow settle store await cells.accept showsOf slideOf markOf ownCell putOf accept heardAt relaySrcFor turnOver isMember newStation onTxDone seatOf findCall leadsTo pollBurst acksBurst beaconRows beaconPayload beyond beaconOf tellAll listSent rxListBurst triedOf sourceFor promoteAt promoteAll moveAt moveAll rerouteOf maskWhere rowsOn leastReach leastDirect pollStage listFor drawStage rerouteStage roundEnd actOf windowStage againStage dueOf ncsNext pieceFrame readFrame frameStep readFrames replyEnd ncsRx admitRefusal admitOf receiveRefusal receiveOf nextRefusal nextOf sentOf readRefusal cellRefusal readingOf cut-up recut picked swept sweep sweep-out fresh fresh-out lens take-out retain remove acked result item3.step cover alsoHanded allBelow bookFrame bookFrames eventsIn acksFrom doneBy runAfter bodiesIn posted stepped runs.step
 hi-run = record { posts = refl; holds = refl; lands = refl }
 
 -- ---- premises that are needed
@@ -148,7 +149,7 @@ pub record Mistaken : Type 0 where
 
 -- so an acknowledgement has to be taken for the burst it was made for
 pub mistaken-run : Mistaken
-unfolding after size units round sum add mul lt le ofInt ofBits first fold every any hasBit withBit withoutBit bothOf eitherOf minusOf lowestBit lowestFree slotsOf stop levelBelow totalLt digit char trimStart trimEnd unpacked shifted widened widenedAt wordOk payloadOk unpack payload frameOf itemAt framesOf headOk parse pack framesWords chunksOf seek next grow settle store await cells.accept slideOf markOf ownCell putOf accept heardAt relaySrcFor turnOver isMember newStation onTxDone seatOf findCall leadsTo pollBurst acksBurst beaconRows beaconPayload beyond beaconOf tellAll listSent rxListBurst triedOf sourceFor promoteAt promoteAll moveAt moveAll rerouteOf maskWhere rowsOn leastReach leastDirect pollStage listFor drawStage rerouteStage roundEnd actOf windowStage againStage dueOf ncsNext pieceFrame readFrame frameStep readFrames replyEnd ncsRx admitRefusal admitOf receiveRefusal receiveOf nextRefusal nextOf sentOf readRefusal cellRefusal readingOf cut-up recut picked swept sweep sweep-out fresh fresh-out lens take-out retain remove acked result item3.step cover alsoHanded allBelow bookFrame bookFrames eventsIn acksFrom doneBy runAfter bodiesIn posted stepped runs.step
+unfolding after size units round sum add mul lt le ofInt ofBits first fold every any hasBit withBit withoutBit bothOf eitherOf minusOf lowestBit lowestFree slotsOf stop levelBelow totalLt digit char trimStart trimEnd unpacked shifted widened widenedAt wordOk payloadOk unpack payload frameOf itemAt framesOf headOk parse pack framesWords chunksOf seek next grow settle store await cells.accept showsOf slideOf markOf ownCell putOf accept heardAt relaySrcFor turnOver isMember newStation onTxDone seatOf findCall leadsTo pollBurst acksBurst beaconRows beaconPayload beyond beaconOf tellAll listSent rxListBurst triedOf sourceFor promoteAt promoteAll moveAt moveAll rerouteOf maskWhere rowsOn leastReach leastDirect pollStage listFor drawStage rerouteStage roundEnd actOf windowStage againStage dueOf ncsNext pieceFrame readFrame frameStep readFrames replyEnd ncsRx admitRefusal admitOf receiveRefusal receiveOf nextRefusal nextOf sentOf readRefusal cellRefusal readingOf cut-up recut picked swept sweep sweep-out fresh fresh-out lens take-out retain remove acked result item3.step cover alsoHanded allBelow bookFrame bookFrames eventsIn acksFrom doneBy runAfter bodiesIn posted stepped runs.step
 mistaken-run = record { holds = refl; handed = refl }
 
 -- the boat signs off as its message has landed: the book forgets it, and then the sending end lets it go
@@ -169,7 +170,7 @@ pub record Gone : Type 0 where
 
 -- so the boat may not sign off
 pub gone-run : Gone
-unfolding after signOffRefusal signOffOf signOff bereaveAt bereaveAll clearAll clearAt unhearAll unhearAt bookEnds size units round sum add mul lt le ofInt ofBits first fold every any hasBit withBit withoutBit bothOf eitherOf minusOf lowestBit lowestFree slotsOf stop levelBelow totalLt digit char trimStart trimEnd unpacked shifted widened widenedAt wordOk payloadOk unpack payload frameOf itemAt framesOf headOk parse pack framesWords chunksOf seek next grow settle store await cells.accept slideOf markOf ownCell putOf accept heardAt relaySrcFor turnOver isMember newStation onTxDone seatOf findCall leadsTo pollBurst acksBurst beaconRows beaconPayload beyond beaconOf tellAll listSent rxListBurst triedOf sourceFor promoteAt promoteAll moveAt moveAll rerouteOf maskWhere rowsOn leastReach leastDirect pollStage listFor drawStage rerouteStage roundEnd actOf windowStage againStage dueOf ncsNext pieceFrame readFrame frameStep readFrames replyEnd ncsRx admitRefusal admitOf receiveRefusal receiveOf nextRefusal nextOf sentOf readRefusal cellRefusal readingOf cut-up recut picked swept sweep sweep-out fresh fresh-out lens take-out retain remove acked result item3.step cover alsoHanded allBelow bookFrame bookFrames eventsIn acksFrom doneBy runAfter bodiesIn posted stepped runs.step
+unfolding after signOffRefusal signOffOf signOff bereaveAt bereaveAll clearAll clearAt unhearAll unhearAt bookEnds size units round sum add mul lt le ofInt ofBits first fold every any hasBit withBit withoutBit bothOf eitherOf minusOf lowestBit lowestFree slotsOf stop levelBelow totalLt digit char trimStart trimEnd unpacked shifted widened widenedAt wordOk payloadOk unpack payload frameOf itemAt framesOf headOk parse pack framesWords chunksOf seek next grow settle store await cells.accept showsOf slideOf markOf ownCell putOf accept heardAt relaySrcFor turnOver isMember newStation onTxDone seatOf findCall leadsTo pollBurst acksBurst beaconRows beaconPayload beyond beaconOf tellAll listSent rxListBurst triedOf sourceFor promoteAt promoteAll moveAt moveAll rerouteOf maskWhere rowsOn leastReach leastDirect pollStage listFor drawStage rerouteStage roundEnd actOf windowStage againStage dueOf ncsNext pieceFrame readFrame frameStep readFrames replyEnd ncsRx admitRefusal admitOf receiveRefusal receiveOf nextRefusal nextOf sentOf readRefusal cellRefusal readingOf cut-up recut picked swept sweep sweep-out fresh fresh-out lens take-out retain remove acked result item3.step cover alsoHanded allBelow bookFrame bookFrames eventsIn acksFrom doneBy runAfter bodiesIn posted stepped runs.step
 gone-run = record { holds = refl; handed = refl }
 
 some-is : (a b : ℕ) → some a ≡ some b → a ≡ b
@@ -190,7 +191,7 @@ one-case P a (suc i) j q = not-some j q
 
 -- the premises hold: the frames of each reception are pieces sent before, and each acknowledgement is taken for the burst of that reception
 pub hi-ok : StepsOk 0 M steps begin
-unfolding StepsOk size units round sum add mul lt le ofInt ofBits first fold every any hasBit withBit withoutBit bothOf eitherOf minusOf lowestBit lowestFree slotsOf stop levelBelow totalLt digit char trimStart trimEnd unpacked shifted widened widenedAt wordOk payloadOk unpack payload frameOf itemAt framesOf headOk parse pack framesWords chunksOf seek next grow settle store await cells.accept slideOf markOf ownCell putOf accept heardAt relaySrcFor turnOver isMember newStation onTxDone seatOf findCall leadsTo pollBurst acksBurst beaconRows beaconPayload beyond beaconOf tellAll listSent rxListBurst triedOf sourceFor promoteAt promoteAll moveAt moveAll rerouteOf maskWhere rowsOn leastReach leastDirect pollStage listFor drawStage rerouteStage roundEnd actOf windowStage againStage dueOf ncsNext pieceFrame readFrame frameStep readFrames replyEnd ncsRx admitRefusal admitOf receiveRefusal receiveOf nextRefusal nextOf sentOf readRefusal cellRefusal readingOf cut-up recut picked swept sweep sweep-out fresh fresh-out lens take-out retain remove acked result item3.step cover alsoHanded allBelow bookFrame bookFrames eventsIn acksFrom doneBy runAfter bodiesIn posted stepped runs.step
+unfolding StepsOk size units round sum add mul lt le ofInt ofBits first fold every any hasBit withBit withoutBit bothOf eitherOf minusOf lowestBit lowestFree slotsOf stop levelBelow totalLt digit char trimStart trimEnd unpacked shifted widened widenedAt wordOk payloadOk unpack payload frameOf itemAt framesOf headOk parse pack framesWords chunksOf seek next grow settle store await cells.accept showsOf slideOf markOf ownCell putOf accept heardAt relaySrcFor turnOver isMember newStation onTxDone seatOf findCall leadsTo pollBurst acksBurst beaconRows beaconPayload beyond beaconOf tellAll listSent rxListBurst triedOf sourceFor promoteAt promoteAll moveAt moveAll rerouteOf maskWhere rowsOn leastReach leastDirect pollStage listFor drawStage rerouteStage roundEnd actOf windowStage againStage dueOf ncsNext pieceFrame readFrame frameStep readFrames replyEnd ncsRx admitRefusal admitOf receiveRefusal receiveOf nextRefusal nextOf sentOf readRefusal cellRefusal readingOf cut-up recut picked swept sweep sweep-out fresh fresh-out lens take-out retain remove acked result item3.step cover alsoHanded allBelow bookFrame bookFrames eventsIn acksFrom doneBy runAfter bodiesIn posted stepped runs.step
 hi-ok = (
   tt,
   (

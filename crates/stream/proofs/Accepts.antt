@@ -148,7 +148,7 @@ module _ (t : Table) (w : Window) (store : List ℕ) (slot field : ℕ) (p : Lis
       → (widened (field / 65536 % 256) (w .next) ≡ Before → P (passed t w store 0))
       → ((k : ℕ) → widened (field / 65536 % 256) (w .next) ≡ Is k → handedOf w k ≡ true → P (passed t w store k))
       → ((k : ℕ) → Open k → (a : Kept) → answerOf t w store slot k (field % 65536) p ≡ a → changes a ≡ false → bars a ≡ false
-          → P (leftAs t w store (cellIn t slot k) k a))
+      → P (leftAs t w store (cellIn t slot k) k a))
       → ((k : ℕ) → Open k → answerOf t w store slot k (field % 65536) p ≡ Overlong → P (barredAs t w store slot k))
       → ((k : ℕ) → Open k → answerOf t w store slot k (field % 65536) p ≡ Yes → P (putAs t w store slot k (field % 65536) p))
       → P (accept t w store slot field p)
