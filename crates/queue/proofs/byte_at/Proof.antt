@@ -18,7 +18,7 @@ returns : tie.Need-returns
 returns c = ap (λ (i : ℕ). getD (c .before .before .before .before .args .queue .now) i 0) (c .before .before .place .ensures)
 
 returns-2 : tie.Need-returns-2
-returns-2 c = 
+returns-2 c =
     let a = c .before .before .before .args in
     let h : length (a .queue .now) ≤ placeOf (a .slot) (a .o) = omega (arith, c .before .place .ensures, c .if1 .left) in
     sym (List·getD-eq-default (a .queue .now) 0 h)

@@ -36,13 +36,13 @@ loop-less : tie.Need-loop-less Inv-loop μ-loop
 loop-less c = omega arith
 
 loop-again : tie.Need-loop-again Inv-loop μ-loop
-loop-again c = 
+loop-again c =
     let l = c .before .before in
     let a = l .before .before .args in
     (omega arith, ap (λ (p : List ℕ). set p (l .loop .k) (c .byte-at .result)) (l .loop .inv .1) ∙ rw (c .byte-at .ensures) (bytes-next (a .queue .now) (a .slot) (a .o) (l .loop .k) 255 (omega arith)))
 
 returns : tie.Need-returns Inv-loop μ-loop
-returns c = 
+returns c =
     let l = c .before in
     let e : l .loop .k ≡ l .before .before .args .n = omega arith in
     l .loop .inv .1 ∙ rw e

@@ -44,11 +44,10 @@ loop-less : tie.Need-loop-less Inv-loop μ-loop
 loop-less c = omega arith
 
 loop-again : tie.Need-loop-again Inv-loop μ-loop
-loop-again c = 
+loop-again c =
     let l = c .before .before .before in
     let a = l .before .before .before .args in
-    let b = framed (a .message .now) in
-    (
+    let b = framed (a .message .now) in (
       omega arith,
       length-set (l .loop .queue) (c .before .place .result) (c .framed-byte .result) ∙ l .loop .inv .1,
       rw (c .before .place .ensures, c .framed-byte .ensures) (put-turn (l .loop .queue) (a .slot) (a .o) (l .loop .k) b (omega arith)) ∙ l .loop .inv .2,
@@ -58,7 +57,7 @@ same-length : tie.Need-same-length Inv-loop μ-loop
 same-length c = c .before .loop .inv .1
 
 returns : tie.Need-returns Inv-loop μ-loop
-returns c = 
+returns c =
     let l = c .before in
     let a = l .before .before .before .args in
     let b = framed (a .message .now) in
