@@ -189,7 +189,7 @@ module _ (a : Air) where
   unfolding readFrames
   step-count f x = chain-count (frames-walk all a tt tt (x .station) (f ∷ []) x start)
 
-  pub step-other : (f : Heard) (x : Reading) (j : ℕ) → (j ≡ x .frame → ⊥) → hasBit (frameStep a f x .unkept) j ≡ hasBit (x .unkept) j
+  step-other : (f : Heard) (x : Reading) (j : ℕ) → (j ≡ x .frame → ⊥) → hasBit (frameStep a f x .unkept) j ≡ hasBit (x .unkept) j
   unfolding frameStep
   step-other f x j z = frame-runs a f x .other j z
 
