@@ -1,10 +1,9 @@
 -- Assumes nothing.
-use Prim.Native.Nat.{ℕ, _+_, _-_, _*_, _≤_, _<_}
+use Prim.Native.Nat.{_-_}
 use native.Mathlib.Omega.{arith}
 use borrow.Author.Needs.{needs}
 use lib.ListN.{length}
-use mathlib.Core.Path.{_≡_, sym}
-use lib.Seq.{length-take-le}
+use mathlib.Core.Path.{_≡_}
 use Rattle.sender.proofs.read_all.Statement.{statement}
 use Rattle.sender.proofs.read_all.Tie as tie
 
