@@ -1,4 +1,6 @@
 // The settings in the bytes of `drive`: 182, or 199 with those of the beacon's timing (prime, lead, latency) behind them.
+ghost use mathlib.Core.Path.{_≡_};
+ghost use Rattle.script.specs.Settings.{hasNan64, hasNan32, hasNan, thresholdsAt, durationsAt, givenAt, lentCells, cellsOf};
 use super::number::f32_at;
 use super::number::f64_at;
 use super::number::nan32_at;
@@ -8,7 +10,9 @@ use config::Given;
 use net::Settings;
 
 // One of the eleven f64 is a NaN's pattern.
-fn has_nan64(p: &[u8; 255]) -> bool {
+fn has_nan64(p: &[u8; 255]) -> bool
+    ensures { λ r. ⌜ r ≡ hasNan64 (now (p .entry)) ⌝ }
+{
     let mut i: usize = 0;
     while i < 11 {
         if nan64_at(p, 8 * i) {
@@ -20,7 +24,9 @@ fn has_nan64(p: &[u8; 255]) -> bool {
 }
 
 // One of the nineteen f32 is.
-fn has_nan32(p: &[u8; 255]) -> bool {
+fn has_nan32(p: &[u8; 255]) -> bool
+    ensures { λ r. ⌜ r ≡ hasNan32 (now (p .entry)) ⌝ }
+{
     let mut i: usize = 0;
     while i < 19 {
         if nan32_at(p, 88 + 4 * i) {
@@ -31,11 +37,15 @@ fn has_nan32(p: &[u8; 255]) -> bool {
     false
 }
 
-pub fn has_nan(p: &[u8; 255]) -> bool {
+pub fn has_nan(p: &[u8; 255]) -> bool
+    ensures { λ r. ⌜ r ≡ hasNan (now (p .entry)) ⌝ }
+{
     has_nan64(p) | has_nan32(p) | nan64_at(p, 183) | nan64_at(p, 191)
 }
 
-fn thresholds(p: &[u8; 255]) -> [f32; 17] {
+fn thresholds(p: &[u8; 255]) -> [f32; 17]
+    ensures { λ r. ⌜ r ≡ thresholdsAt (now (p .entry)) ⌝ }
+{
     let mut t = [0.0f32; 17];
     let mut i: usize = 0;
     while i < 17 {
@@ -45,11 +55,15 @@ fn thresholds(p: &[u8; 255]) -> [f32; 17] {
     t
 }
 
-fn durations(p: &[u8; 255]) -> [f64; 4] {
+fn durations(p: &[u8; 255]) -> [f64; 4]
+    ensures { λ r. ⌜ r ≡ durationsAt (now (p .entry)) ⌝ }
+{
     [f64_at(p, 56), f64_at(p, 64), f64_at(p, 72), f64_at(p, 80)]
 }
 
-pub fn given(p: &[u8; 255]) -> Given {
+pub fn given(p: &[u8; 255]) -> Given
+    ensures { λ r. ⌜ r ≡ givenAt (now (p .entry)) ⌝ }
+{
     let four = durations(p);
     let th = thresholds(p);
     let nobody = [32u8; 7];
@@ -83,10 +97,14 @@ pub fn given(p: &[u8; 255]) -> Given {
 }
 
 // How many cells are lent, of the 64 that the program has.
-pub fn lent_cells(p: &[u8; 255]) -> usize {
+pub fn lent_cells(p: &[u8; 255]) -> usize
+    ensures { λ r. ⌜ r ≡ lentCells (now (p .entry)) ⌝ }
+{
     cells_of(p[181])
 }
 
-fn cells_of(n: u8) -> usize {
+fn cells_of(n: u8) -> usize
+    ensures { λ r. ⌜ r ≡ cellsOf n ⌝ }
+{
     if n < 64 { n as usize } else { 64 }
 }

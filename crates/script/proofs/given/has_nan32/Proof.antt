@@ -1,17 +1,23 @@
 -- Assumes nothing.
-use Prim.Native.Nat.{_-_}
+use mathlib.Core.Path.{_≡_, refl, sym, _∙_}
+use Prim.Native.Nat.{_≤_, _+_, _-_, _*_}
 use native.Mathlib.Omega.{arith}
+use Rattle.bits.specs.Loop.{any}
+use Rattle.bits.proofs.Loops.{any-pass, any-stop, any-end}
+use Rattle.script.specs.Numbers.{nan32At}
+use Rattle.script.specs.Settings.{hasNan32}
 use Rattle.script.proofs.given.has_nan32.Statement.{statement}
 use Rattle.script.proofs.given.has_nan32.Tie as tie
 
 abbrev Inv-loop : tie.InvT-loop
-Inv-loop p i₀ i = Unit
+Inv-loop p i₀ i = (i ≤ 19) × (any (λ k. nan32At p (88 + 4 * k)) (19 - i) i ≡ hasNan32 p)
 
 abbrev μ-loop : tie.MeasureT-loop
 μ-loop p i₀ i = 19 - i
 
 loop-holds : tie.Need-loop-holds Inv-loop μ-loop
-loop-holds c = tt
+unfolding hasNan32
+loop-holds c = (omega arith, refl)
 
 mul-nan32-at : tie.Need-mul-nan32-at Inv-loop μ-loop
 mul-nan32-at c = omega arith
@@ -23,7 +29,9 @@ nan32-at-requires : tie.Need-nan32-at-requires Inv-loop μ-loop
 nan32-at-requires c κs = tt
 
 returns : tie.Need-returns Inv-loop μ-loop
-returns c = tt
+returns c =
+    let b = c .before .before in
+    sym (any-stop _ _ _ (b .loop-test .taken) (sym (c .before .nan32-at .ensures) ∙ c .if1 .taken)) ∙ b .before .loop .inv .1
 
 add-i : tie.Need-add-i Inv-loop μ-loop
 add-i c = omega arith
@@ -32,10 +40,12 @@ loop-less : tie.Need-loop-less Inv-loop μ-loop
 loop-less c = omega arith
 
 loop-again : tie.Need-loop-again Inv-loop μ-loop
-loop-again c = tt
+loop-again c =
+    let b = c .before .before in
+    (omega arith, sym (any-pass _ _ _ (b .loop-test .taken) (sym (c .before .nan32-at .ensures) ∙ c .if1 .left)) ∙ b .before .loop .inv .1)
 
 returns-2 : tie.Need-returns-2 Inv-loop μ-loop
-returns-2 c = tt
+returns-2 c = sym (any-end _ _ _ (c .loop-test .left)) ∙ c .before .loop .inv .1
 
 pub has-nan32-spec : {M : Type 1} → statement M
 has-nan32-spec =

@@ -1,17 +1,22 @@
 -- Assumes nothing.
-use Prim.Native.Nat.{_-_}
+use mathlib.Core.Path.{_≡_, refl, _∙_}
+use Prim.Native.Nat.{_≤_, _-_}
 use native.Mathlib.Omega.{arith}
+use lib.ListN.{length, take, length-set}
+use Rattle.script.specs.Settings.{f32sAt}
+use Rattle.script.proofs.Numbers.{read-next, read-all}
 use Rattle.script.proofs.given.thresholds.Statement.{statement}
 use Rattle.script.proofs.given.thresholds.Tie as tie
 
 abbrev Inv-loop : tie.InvT-loop
-Inv-loop p t₀ i₀ t i = Unit
+Inv-loop p t₀ i₀ t i = (i ≤ 17) × (length t ≡ 17) × (take i t ≡ f32sAt p i 88)
 
 abbrev μ-loop : tie.MeasureT-loop
 μ-loop p t₀ i₀ t i = 17 - i
 
 loop-holds : tie.Need-loop-holds Inv-loop μ-loop
-loop-holds c = tt
+unfolding f32sAt
+loop-holds c = (omega arith, refl, refl)
 
 mul-f32-at : tie.Need-mul-f32-at Inv-loop μ-loop
 mul-f32-at c = omega arith
@@ -35,10 +40,20 @@ loop-less : tie.Need-loop-less Inv-loop μ-loop
 loop-less c = omega arith
 
 loop-again : tie.Need-loop-again Inv-loop μ-loop
-loop-again c = tt
+loop-again c =
+    let l = c .before .before in
+    let p = l .before .args .p .now in
+    let i = l .loop .i in
+    let t = l .loop .t in (
+      omega arith,
+      length-set t i (c .f32-at .result) ∙ l .loop .inv .1,
+      read-next p 88 i t (c .f32-at .result) (omega arith) (c .f32-at .ensures) (l .loop .inv .2),
+    )
 
 returns : tie.Need-returns Inv-loop μ-loop
-returns c = tt
+returns c =
+    let l = c .before in
+    read-all (l .before .args .p .now) 88 17 (l .loop .i) (l .loop .t) (omega arith) (omega arith) (l .loop .inv .1) (l .loop .inv .2)
 
 pub thresholds-spec : {M : Type 1} → statement M
 thresholds-spec =
