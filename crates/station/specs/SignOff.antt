@@ -31,7 +31,7 @@ use Rattle.station.specs.Entries.{Outcome, done, unless}
 abbrev pub vacant : Member
 vacant = newMember blankCall 63 nought
 
--- its readings go with it (U13). To come: U4's barred numbers, which are of the stay, go with the record; U1's directed queue of the slot is emptied here
+-- its readings go with it (U13), and its barred numbers (U4), which are in the record
 abbrev pub leave : ℕ → Station → Station
 leave slot s = withUsed (emptied (withSeated s slot vacant) slot) (withoutBit (s .used) slot)
 
