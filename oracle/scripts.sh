@@ -14,9 +14,14 @@ oracle=$build/oracle
 keep=$build/failed
 dir=$(mktemp -d "$build/scripts.XXXXXX")
 trap 'rm -rf "$dir"' EXIT
-passed=0 failed=0 calls=0
+passed=0 failed=0 calls=0 none=0
 while [ "$seed" -le "$last" ]; do
-    "$oracle" gen "$seed" "$steps" "$@" >"$dir/script" || exit 2
+    # A seed that the generator gives no script for is passed over and counted (README.md).
+    if ! "$oracle" gen "$seed" "$steps" "$@" >"$dir/script" 2>/dev/null; then
+        none=$((none + 1))
+        seed=$((seed + 1))
+        continue
+    fi
     timeout "${LIMIT:-60}" "$binary" <"$dir/script" >"$dir/answers"
     rc=$?
     if "$oracle" compare "$dir/script" "$dir/answers" "$@" >"$dir/verdict" && [ $rc -eq 0 ]; then
@@ -33,5 +38,5 @@ while [ "$seed" -le "$last" ]; do
     fi
     seed=$((seed + 1))
 done
-echo "  $passed alike, $failed differ, $calls calls"
-[ $failed -eq 0 ]
+echo "  $passed alike, $failed differ, $calls calls; $none seeds without a script"
+[ $failed -eq 0 ] && [ $passed -gt 0 ]
