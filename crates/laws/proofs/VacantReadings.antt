@@ -23,6 +23,8 @@ use Rattle.station.specs.SignOff.{bereaveAt, bereaveAll, leave, struckOff, sign
 use Rattle.promise.specs.Promise.{Call, after, started}
 use Rattle.promise.proofs.Walk.{Change, others, turned, over, hears, written, counted, promoted, moved, readings, entered, piece, landed, freed, barred, signsOff}
 use Rattle.promise.proofs.WalkCalls.{all, always}
+use Rattle.laws.specs.FreeSlots.{FreeSlots}
+use Rattle.laws.proofs.VacantWalk.{runs-kept}
 use Rattle.laws.proofs.Vacant.{differ}
 
 -- 62 rings, and none of a slot without a boat has a reading
@@ -91,3 +93,7 @@ new-unread g count = record { long = length-replicate {A = Recent} 62 empty; non
 
 pub runs-unread : (s : Station) (g : Given) (store : List ℕ) → startRefusal g (length store) ≡ 0 → (cs : List Call) → UnreadIn (after cs (started s g store) .station)
 runs-unread s g store e cs = always UnreadIn change-unread s g store e (new-unread _ _) cs
+
+-- with what VacantWalk shows of the other fields
+pub free-slots : FreeSlots
+free-slots s g store e cs i low free = (runs-kept s g store e cs i low .blank free, runs-unread s g store e cs .none i low free)

@@ -35,7 +35,7 @@ use Rattle.station.specs.SignOff.{vacant}
 use Rattle.promise.specs.Promise.{Call, after, started}
 use Rattle.promise.proofs.Walk.{Allowed, Field, burst, told, caps, version, heard, down, received, direct, reached, Fields, fields-keep, Turned, still, ends, sends, polls, goes, draws, Within, Change, others, turned, over, hears, written, counted, promoted, moved, entered, piece, landed, freed, barred, signsOff, offered, readings}
 use Rattle.promise.proofs.WalkCalls.{all, always}
-use Rattle.laws.specs.FreeSlots.{Apart, FreeSlots}
+use Rattle.laws.specs.FreeSlots.{Apart}
 use Rattle.laws.proofs.Vacant.{index-has, put-kept, seat-kept, member-kept, enter-kept, lists-kept, wait-kept, hears-kept, table-kept, freed-kept}
 use Rattle.laws.proofs.VacantSign.{AllKeep, without-false, sign-keeps}
 
@@ -183,6 +183,3 @@ new-kept g count i low =
 
 pub runs-kept : (s : Station) (g : Given) (store : List ℕ) → startRefusal g (length store) ≡ 0 → (cs : List Call) → AllKeep (after cs (started s g store) .station)
 runs-kept s g store e cs = always AllKeep change-kept s g store e (new-kept _ _) cs
-
-pub free-slots : FreeSlots
-free-slots s g store e cs i low free = runs-kept s g store e cs i low .blank free
