@@ -155,7 +155,7 @@ pub fn via_for(s: Station, seat: Seat, via: u8) -> u8
     ensures { λ r. ⌜ r ≡ viaFor s seat via ⌝ }
 {
     if leads_to(s, via, slot_of(seat)) {
-        63
+        wire::ALL
     } else {
         via
     }

@@ -141,7 +141,7 @@ fn new_relay(hears: &[u8; 3844], able: u64, down: bool, via: u8, c: u8, floor: f
         let others = bits::without(bits::without(able, c as usize), via as usize);
         return relay::best_high(hears, others, c, floor);
     }
-    63
+    wire::ALL
 }
 
 fn moved_to(m: Member, r: u8) -> Member

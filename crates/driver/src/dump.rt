@@ -90,7 +90,7 @@ fn put_hears(t: &mut [u8; 65536], at: usize, hears: &[u8; 3844], r: usize) -> us
     let mut a: usize = 0;
     while a < 62 {
         let q = hears[r * 62 + a];
-        if q < 63 {
+        if q < wire::UNHEARD {
             e = put_hear(t, e, e == at, a, q);
         }
         a += 1;

@@ -121,7 +121,7 @@ fn tenth(cents: u32) -> u32
 fn taking(relay: u8, cents: u32) -> u32
     ensures { λ r. ⌜ r ≡ takingBy relay cents ⌝ }
 {
-    if relay == 63 {
+    if relay == wire::ALL {
         cents
     } else {
         cents - tenth(cents)

@@ -166,7 +166,7 @@ fn relay_of(s: Station, slot: u8) -> u8
 {
     let m = net::member_at(s, slot);
     let ok = net::is_member(s.used, slot) & (m.via == wire::ALL) & roster::is_willing(m);
-    if ok { slot } else { 63 }
+    if ok { slot } else { wire::ALL }
 }
 
 fn new_boat(m: Member, words: &[u32], at: usize, len: u8, e: usize) -> Member

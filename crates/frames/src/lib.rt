@@ -107,7 +107,7 @@ fn lost_frame() -> Frame
     Frame {
         lost: true,
         ty: 3,
-        slot: 63,
+        slot: wire::ALL,
         field: 0,
         len: 0,
         size: 1,

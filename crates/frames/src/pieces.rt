@@ -332,6 +332,6 @@ fn heard_member(m: Member, slot: u8, a: Air) -> Member
     ensures { λ r. ⌜ r ≡ heardMember a m slot ⌝ }
 {
     let h = roster::with_heard(m, a.time);
-    let leaf = a.aside & (m.via != 63) & bits::has(a.start, slot as usize);
+    let leaf = a.aside & (m.via != wire::ALL) & bits::has(a.start, slot as usize);
     direct_if(h, leaf, a.level)
 }

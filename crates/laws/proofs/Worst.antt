@@ -62,11 +62,11 @@ use Rattle.config.specs.Checks.{settingsOf}
 use Rattle.station.specs.Entries.{Outcome, done, refused, unless, check1, admitRefusal, admitted, admitOf, receiveBy, receiveRefusal, receiveOf, nextRefusal, nextOf, sentOf, closeRefusal, closeOf, readRefusal, cellRefusal, freeOf}
 use Rattle.station.specs.SignOff.{bereftOf, bereaveAt, bereaveAll, leave, struckOff, vacant, signOff, signOffRefusal, signOffOf}
 use Rattle.station.specs.declared.Lowest.the-variants.{Refused, Is}
-use Rattle.station.specs.Worst.{worstOf, refusalIn}
+use Rattle.station.specs.Worst.{worstOf, refusalIn, decibelsOf}
 use Rattle.dues.specs.Dues.{duesRefusal}
 use Rattle.promise.specs.Promise.{lentTo, Net, ofBurst, Call, admission, reception, decision, sending, closing, reading, freeing, charging, signing, asking, result, outcome, step, after, started}
 use Rattle.promise.proofs.WalkCalls.{started-is}
-use Rattle.laws.specs.Worst.{Update, measured, emptied, readingsOf, ofSeat, ofCheckin, ofLevel, ofKid, ofEntries, ofKids, ofOverheard, ofControl, ofFrame, ofFrames, ofSender, ofReply, ofBurstAt, ofReception, ofSlots, emptiedIf, promotions, ofReroute, ofRoundEnd, ofAct, ofWindow, ofDue, ofDecision, ofSignOff, ofCall, updatesOf, WorstOfLast}
+use Rattle.laws.specs.Worst.{Update, measured, emptied, readingsOf, ofSeat, ofCheckin, ofLevel, ofKid, ofEntries, ofKids, ofOverheard, ofControl, ofFrame, ofFrames, ofSender, ofReply, ofBurstAt, ofReception, ofSlots, emptiedIf, promotions, ofReroute, ofRoundEnd, ofAct, ofWindow, ofDue, ofDecision, ofSignOff, ofCall, updatesOf, WorstOfLast, lastOf}
 use Rattle.laws.proofs.WorstFinite.{last-finite}
 use Rattle.laws.proofs.WorstRings.{applied, Follows, follow, follow-cond, follow-slots, Holds, updates-hold, new-holds}
 
@@ -444,8 +444,11 @@ worst-of-last s g store e cs slot here =
     let h : Holds (n .station .recent) (λ i. []) = subst (λ (t : Station). Holds (t .recent) (λ i. [])) (sym (started-is s g store e)) (new-holds (settingsOf g) _) in
     let k : Holds (after cs n .station .recent) (λ i. readingsOf i (updatesOf cs n) []) =
     subst (λ (rs : List Recent). Holds rs (λ i. readingsOf i (updatesOf cs n) [])) (sym (calls-follow cs n)) (updates-hold (updatesOf cs n) (n .station .recent) (λ i. []) h) in
+    let is : worstOf (after cs n .station) slot ≡ Is (leastOf (lastOf cs n slot)) =
+    answer-is (after cs n .station) slot here ∙ ap (λ (xs : List Float). Is (leastOf xs)) (k .last slot (member-lt (after cs n .station .used) slot here)) in
     record {
-      answer = answer-is (after cs n .station) slot here ∙ ap (λ (xs : List Float). Is (leastOf xs)) (k .last slot (member-lt (after cs n .station .used) slot here));
+      answer = is;
+      number = ap decibelsOf is;
       finite = last-finite cs n slot;
       lowest = lowest _;
     }

@@ -11,7 +11,7 @@ use lib.ListN.{length, getD, take}
 use Rattle.bits.specs.Mask.{hasBit, withoutBit}
 use Rattle.level.specs.declared.Level.{Level}
 use Rattle.level.specs.declared.Level.the-variants.{Unheard, Decibels}
-use Rattle.level.specs.Levels.{isHeard}
+use Rattle.level.specs.Levels.{isHeard, decibelsIn}
 use Rattle.recent.specs.Readings.{leastOf, Finite, Lowest}
 use Rattle.wire.specs.Call.{unpackCall}
 use Rattle.wire.specs.Fields.{snrFromQ}
@@ -44,7 +44,7 @@ use Rattle.rx.specs.Reception.{airOf, firstReading}
 use Rattle.config.specs.declared.Given.{Given}
 use Rattle.station.specs.declared.Lowest.the-variants.{Is}
 use Rattle.station.specs.Entries.{startRefusal}
-use Rattle.station.specs.Worst.{worstOf}
+use Rattle.station.specs.Worst.{worstOf, decibelsOf}
 use Rattle.promise.specs.Promise.{lentTo, Net, ofBurst, Call, admission, reception, decision, sending, closing, reading, freeing, charging, signing, asking, outcome, step, after, started}
 
 -- ---- what happens to a boat's window
@@ -209,6 +209,7 @@ lastOf cs n slot = take 32 (readingsOf slot (updatesOf cs n) [])
 -- the call answers their lowest, which is one of them, none being below it; unheard where there are none
 pub record Worst (n : Net) (cs : List Call) (slot : ℕ) : Type 0 where
   pub answer : worstOf (after cs n .station) slot ≡ Is (leastOf (lastOf cs n slot))
+  pub number : decibelsOf (worstOf (after cs n .station) slot) ≡ decibelsIn (leastOf (lastOf cs n slot))
   pub finite : Finite (lastOf cs n slot)
   pub lowest : Lowest (leastOf (lastOf cs n slot)) (lastOf cs n slot)
 

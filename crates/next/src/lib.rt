@@ -501,7 +501,7 @@ fn poll(mut s: Station, act: Act, o: &mut [u32], at: &mut usize) -> Station
     let w = s.wait;
     let g = s.settings;
     let slot = front(w, s.round.list, act);
-    let mut source: u8 = 63;
+    let mut source: u8 = wire::ALL;
     if slot != 255 {
         let v = reroute::survey(s);
         source = relay::relay_src_for(&s.hears, v.needs, v.able, &v.tried, slot, g.relaysnr);

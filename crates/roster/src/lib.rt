@@ -189,7 +189,7 @@ pub fn promoted(m: Member, snr: f32) -> Member
     let snrdown = m.snrdown;
     let lastheard = m.lastheard;
     let mut k = with_links(m, Level::Decibels(snr), snrdown, Level::Unheard, lastheard);
-    k.via = 63;
+    k.via = wire::ALL;
     k.missed = 0;
     k
 }

@@ -34,7 +34,7 @@ fn loud_enough(q: u8, floor: f32) -> bool
     ensures { λ r. ⌜ r ≡ loudEnough q floor ⌝ }
 {
     let db = wire::field_db(q);
-    (q < 63) & (db >= floor)
+    (q < wire::UNHEARD) & (db >= floor)
 }
 
 // Of equal levels the one looked at first stays: the lowest slot.
@@ -121,10 +121,10 @@ pub fn heard_at(hears: &[u8; 3844], r: u8, a: u8) -> u8
     ensures { λ level. ⌜ level ≡ heardAt (now (hears .entry)) r a ⌝ }
 {
     if 62 <= r {
-        return 63;
+        return wire::UNHEARD;
     }
     if 62 <= a {
-        return 63;
+        return wire::UNHEARD;
     }
     let k = r as usize * 62 + a as usize;
     hears[k]
@@ -187,7 +187,7 @@ pub fn relay_src_for(
         }
         a += 1;
     }
-    63
+    wire::ALL
 }
 
 // Slot i is in `left` and hears a.
@@ -195,7 +195,7 @@ fn hears_it(hears: &[u8; 3844], left: u64, a: u8, i: u8) -> bool
     ensures { λ r. ⌜ r ≡ hearsIt (now (hears .entry)) left a i ⌝ }
 {
     let q = heard_at(hears, i, a);
-    bits::has(left, i as usize) & (q < 63)
+    bits::has(left, i as usize) & (q < wire::UNHEARD)
 }
 
 // Whether a member of `left` hears a.

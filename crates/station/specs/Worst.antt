@@ -2,7 +2,10 @@
 use Prim.Native.Nat.{ℕ}
 use mathlib.Core.Bool.{cond}
 use lib.Dec.{eqb}
+use mathlib.Core.List.{List, []}
+use lib.Ieee.{Float}
 use Rattle.level.specs.declared.Level.{Level}
+use Rattle.level.specs.Levels.{decibelsIn}
 use Rattle.recent.specs.Readings.{worst}
 use Rattle.net.specs.declared.Station.{Station}
 use Rattle.net.specs.State.{indexOf, recentAt}
@@ -19,3 +22,8 @@ worstOf s slot =
 abbrev pub refusalIn : Lowest → ℕ
 refusalIn (Refused n) = n
 refusalIn (Is level) = 0
+
+-- the decibels that an answer is; none for a refusal, and where nothing was heard
+abbrev pub decibelsOf : Lowest → List Float
+decibelsOf (Refused n) = []
+decibelsOf (Is level) = decibelsIn level

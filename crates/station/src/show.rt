@@ -54,7 +54,7 @@ pub fn hears(s: Station, r: u8, a: u8) -> Level
     ensures { λ x. ⌜ x ≡ hearsOf s r a ⌝ }
 {
     let q = roster::relay::heard_at(&s.hears, r, a);
-    if net::is_member(s.used, r) & net::is_member(s.used, a) & (q < 63) {
+    if net::is_member(s.used, r) & net::is_member(s.used, a) & (q < wire::UNHEARD) {
         return wire::snr_from_q(q);
     }
     Level::Unheard

@@ -34,7 +34,7 @@ fn bereft(m: Member, slot: u8, limit: u32) -> Member
         let direct = m.direct;
         let last = m.lastheard;
         let mut c = roster::with_links(k, Level::Unheard, down, direct, last);
-        c.via = 63;
+        c.via = wire::ALL;
         c.missed = limit;
         return c;
     }
@@ -151,8 +151,8 @@ fn unhear_all(mut s: Station, slot: u8) -> Station
     let a = slot as usize;
     let mut i: usize = 0;
     while i < 62 {
-        s.hears[a * 62 + i] = 63;
-        s.hears[i * 62 + a] = 63;
+        s.hears[a * 62 + i] = wire::UNHEARD;
+        s.hears[i * 62 + a] = wire::UNHEARD;
         i += 1;
     }
     s

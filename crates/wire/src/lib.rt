@@ -9,6 +9,9 @@ pub mod number;
 // The slot that means everyone, or nobody.
 pub const ALL: u8 = 63;
 
+// The level field of a boat that measured nothing; in the table of who hears whom: not heard.
+pub const UNHEARD: u8 = 63;
+
 // The code of a header-only message.
 pub const TINY: u32 = 62;
 
@@ -61,11 +64,11 @@ pub fn field_db(q: u8) -> f32
     (q % 64) as f32 - 24.0
 }
 
-// The level that a field says: 63 is a boat that measured nothing.
+// The level that a field says.
 pub fn snr_from_q(q: u8) -> Level
     ensures { λ r. ⌜ r ≡ snrFromQ q ⌝ }
 {
-    if q % 64 == 63 {
+    if q % 64 == UNHEARD {
         return Level::Unheard;
     }
     Level::Decibels(field_db(q))
