@@ -1,6 +1,7 @@
 -- `smooth`, `level_of` and `tiny_wave`'s choice of level in net.rs, `Option::or` on levels, over the declared Level and Clock. Definitions only.
 use Prim.Native.Nat.{ℕ, zero, suc}
-use mathlib.Core.List.{List, [], _∷_}
+use mathlib.Core.List.{List}
+use mathlib.Core.Option.{Option, none, some}
 use mathlib.Core.Bool.{Bool, true, false, cond}
 use lib.ListN.{getD}
 use lib.Ieee.{Float, nan, binary32, add, mul, le}
@@ -34,10 +35,10 @@ abbrev pub orElse : Level → Level → Level
 orElse Unheard b = b
 orElse (Decibels x) b = Decibels x
 
--- the decibels that a level is, an `Option<f32>` of the Rust: one number, or none
-abbrev pub decibelsIn : Level → List Float
-decibelsIn Unheard = []
-decibelsIn (Decibels x) = x ∷ []
+-- the decibels that a level is, an `Option<f32>` of the Rust
+abbrev pub decibelsIn : Level → Option Float
+decibelsIn Unheard = none
+decibelsIn (Decibels x) = some x
 
 abbrev pub isHeard : Level → Bool
 isHeard Unheard = false

@@ -2,7 +2,7 @@
 use Prim.Native.Nat.{ℕ}
 use mathlib.Core.Bool.{cond}
 use lib.Dec.{eqb}
-use mathlib.Core.List.{List, []}
+use mathlib.Core.Option.{Option, none}
 use lib.Ieee.{Float}
 use Rattle.level.specs.declared.Level.{Level}
 use Rattle.level.specs.Levels.{decibelsIn}
@@ -24,6 +24,6 @@ refusalIn (Refused n) = n
 refusalIn (Is level) = 0
 
 -- the decibels that an answer is; none for a refusal, and where nothing was heard
-abbrev pub decibelsOf : Lowest → List Float
-decibelsOf (Refused n) = []
+abbrev pub decibelsOf : Lowest → Option Float
+decibelsOf (Refused n) = none
 decibelsOf (Is level) = decibelsIn level
