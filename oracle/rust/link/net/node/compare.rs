@@ -6,7 +6,7 @@ use super::words::Lines;
 use super::*;
 
 /// Fields of a member's line in the roster before those of the queue.
-const MEMBER_FIELDS: usize = 15;
+pub const MEMBER_FIELDS: usize = 15;
 
 /// Case and blanks at the end do not count, and without posts the queue's fields of the roster.
 fn normal(line: &str, options: &Options) -> String {
