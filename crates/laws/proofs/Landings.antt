@@ -47,7 +47,8 @@ use Rattle.promise.proofs.Signs.{sign-member}
 use Rattle.promise.proofs.SignTies.{window-gone, window-still}
 use Rattle.promise.proofs.Messages.{admission-kept, decision-kept, sending-kept, closing-kept, reading-kept, charging-kept, asking-kept}
 use Rattle.promise.proofs.Outcomes.{refusedBy, receive-cases}
-use Rattle.promise.proofs.Sounds.{FitView, Fit, FitRead, accept-land, fit-frame, step-read-fit, read-fine, first-fit, lent-fit, step-fit}
+use Rattle.promise.proofs.Fits.{FitView, accept-land}
+use Rattle.promise.proofs.Sounds.{Fit, FitRead, fit-frame, step-read-fit, read-fine, first-fit, lent-fit, step-fit}
 
 -- ---- the cell of a landed message
 

@@ -52,7 +52,8 @@ use Rattle.laws.specs.Laws.{noneYet, boxIn, Up, readsUp, both, IsUp, num
 use Rattle.promise.proofs.Ties.{View}
 use Rattle.promise.proofs.Quiet.{windowAt}
 use Rattle.promise.proofs.Readings.{piece-view, piece-long, written-keeps}
-use Rattle.promise.proofs.Sounds.{Fit, accept-bar}
+use Rattle.promise.proofs.Fits.{accept-bar}
+use Rattle.promise.proofs.Sounds.{Fit}
 
 -- ---- what is held of the message of an owner
 

@@ -57,7 +57,8 @@ use Rattle.promise.proofs.WalkFrames.{viewIn, isPiece, FrameRead, other, unkept
 use Rattle.promise.proofs.Messages.{admission-kept, decision-kept, sending-kept, closing-kept, reading-kept, charging-kept, asking-kept, same-cond}
 use Rattle.promise.proofs.Outcomes.{refusedBy, receive-cases, lent-is}
 use Rattle.promise.proofs.Signs.{sign-beside, Cleared, cleared}
-use Rattle.promise.proofs.Sounds.{Fit, FitRead, accept-bar, fit-frame, step-read-fit, read-fine, first-fit, quiet-view, step-fit, runs-fit}
+use Rattle.promise.proofs.Fits.{accept-bar}
+use Rattle.promise.proofs.Sounds.{Fit, FitRead, fit-frame, step-read-fit, read-fine, first-fit, quiet-view, step-fit, runs-fit}
 use Rattle.promise.proofs.Turns.{start-is}
 use Rattle.laws.proofs.LawsParts.{Took, Made, made-splits}
 

@@ -136,15 +136,19 @@ follows has w says =
       marks = marks-window w ∙ ap (λ (f : ℕ → Bool). rebuilt f (w .next)) (λ j k. sym (says k) j);
     }
 
--- the windows of all slots, those without a member too
-windows-hold : (f : ℕ → ℕ → Bool) (s : Station) → ((i k : ℕ) → f i k ≡ handedOf (windowAt s i) k) → MarksHold f s
-windows-hold f s says i here =
+-- the window of a slot
+window-holds : (f : ℕ → ℕ → Bool) (s : Station) (i : ℕ) → ((k : ℕ) → f i k ≡ handedOf (windowAt s i) k) → isMember (s .used) i ≡ true → Follows (f i) (memberAt s i .up)
+window-holds f s i says here =
     follows (f i) (memberAt s i .up)
-    (λ k. says i k ∙ ap (λ (w : Window). handedOf w k) (cond-true (isMember (s .used) i) (memberAt s i .up) freshOf here))
+    (λ k. says k ∙ ap (λ (w : Window). handedOf w k) (cond-true (isMember (s .used) i) (memberAt s i .up) freshOf here))
+
+-- of all slots, those without a member too
+windows-hold : (f : ℕ → ℕ → Bool) (s : Station) → ((i k : ℕ) → f i k ≡ handedOf (windowAt s i) k) → MarksHold f s
+windows-hold f s says i here = window-holds f s i (says i) here
 
 -- ---- the book after the calls
 
-module _ (M : Stays) (small : (s t k : ℕ) → length (M s t k) ≤ 2046) where
+module _ (M : Stays) (small : (s t k : ℕ) → M .watched s t ≡ true → length (M .text s t k) ≤ 2046) where
   pub calls-tied : (cs : List Call) (n : Net) (b : Book) → Tied (sentNow M b) n b → CallsOk M cs n b → Tied (sentNow M (bookAfter M cs n b)) (after cs n) (bookAfter M cs n b)
   unfolding CallsOk after bookAfter
   calls-tied [] n b t ok = t
@@ -156,12 +160,12 @@ module _ (M : Stays) (small : (s t k : ℕ) → length (M s t k) ≤ 2046) where
 pub marks-follow : MarksFollow
 marks-follow s g store e cs =
     let n = started s g store in
-    let t = started-tied (λ x k. []) s g store e in
+    let t = started-tied (record { watched = λ x. true; text = λ x k. [] }) s g store e in
     record {
       window = λ i here. follows (inWindow (after cs n .station) i) (memberAt (after cs n .station) i .up) (λ k. refl);
       landed = windows-hold (landedIn cs n (λ x k. false)) (after cs n .station)
-          (calls-told cs n (λ x k. false) (record { view = record { tidy = t .tie .tidy; sound = t .tie .sound }; long = t .long }) (t .tie .numbers));
-      book = λ M small ok.
-          windows-hold (bookAfter M cs n emptyBook .ledger .handed) (after cs n .station)
-          (calls-tied M small cs n emptyBook (started-tied (sentNow M emptyBook) s g store e) ok .tie .numbers);
+          (calls-told cs n (λ x k. false) (record { view = record { tidy = t .tie .tidy; sound = t .tie .sound }; long = t .long }) (λ x k. t .tie .numbers x k refl));
+      book = λ M small ok i on here.
+          window-holds (bookAfter M cs n emptyBook .ledger .handed) (after cs n .station) i
+          (λ k. calls-tied M small cs n emptyBook (started-tied (sentNow M emptyBook) s g store e) ok .tie .numbers i k on) here;
     }

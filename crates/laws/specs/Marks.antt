@@ -68,13 +68,14 @@ bookAfter M (c ∷ cs) n b = bookAfter M cs (step c n) (bookCall (sentNow M b) c
 
 -- ---- the promise
 
--- of the calls cs from n on, in the station last returned: the marks are those rebuilt from each boat's whole window, from all that landed, and, under item 3's
--- premises on messages, from what the book has handed over
+-- of the calls cs from n on, in the station last returned: the marks are those rebuilt from each boat's whole window, from all that landed, and, of each boat that is
+-- watched, under item 3's premises on its messages, from what the book has handed over
 pub record Marks (n : Net) (cs : List Call) : Type 0 where
   pub window : MarksHold (inWindow (after cs n .station)) (after cs n .station)
   pub landed : MarksHold (landedIn cs n (λ s k. false)) (after cs n .station)
-  pub book : (M : Stays) → ((s t k : ℕ) → length (M s t k) ≤ 2046) → CallsOk M cs n emptyBook
-      → MarksHold (bookAfter M cs n emptyBook .ledger .handed) (after cs n .station)
+  pub book : (M : Stays) → ((s t k : ℕ) → M .watched s t ≡ true → length (M .text s t k) ≤ 2046) → CallsOk M cs n emptyBook
+      → (i : ℕ) → M .watched i (bookAfter M cs n emptyBook .stay i) ≡ true → isMember (after cs n .station .used) i ≡ true
+      → Follows (bookAfter M cs n emptyBook .ledger .handed i) (memberAt (after cs n .station) i .up)
 
 -- from a start that is not refused, of any calls
 abbrev pub MarksFollow : Type 0

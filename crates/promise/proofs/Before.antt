@@ -16,7 +16,7 @@ use Rattle.rx.specs.Reception.{ncsRx}
 use Rattle.net.specs.declared.Station.{Station}
 use Rattle.config.specs.declared.Given.{Given}
 use Rattle.station.specs.Entries.{startRefusal}
-use Rattle.promise.specs.Promise.{TurnEvent, drew, over, poll, ack, struck, overIf, drewIf, lentTo, ofBurst, outcome, burstBy, Net, Call, admission, reception, decision, sending, closing, reading, freeing, charging, signing, asking, result, inBook, isRefused, step, after, started, LinksHold, burstsIn, turnEvents, trace, has, View, emptyView, begins, view, Spread, OneTurn, TurnsHold, Sent, Message, Book, emptyBook, Entered, unchanged, alsoHanded, same, answersOf, bookDone, bookCall, CallOk, AtCall, Once, Stayed, stayed, handedIn, alsoStayed, OnceInStay, CallsOk, Holds}
+use Rattle.promise.specs.Promise.{TurnEvent, drew, over, poll, ack, struck, overIf, drewIf, lentTo, ofBurst, outcome, burstBy, Net, Call, admission, reception, decision, sending, closing, reading, freeing, charging, signing, asking, result, inBook, isRefused, step, after, started, LinksHold, burstsIn, turnEvents, trace, has, View, emptyView, begins, view, Spread, OneTurn, TurnsHold, Stays, Sent, Message, Book, emptyBook, Entered, unchanged, alsoHanded, same, answersOf, bookDone, bookCall, CallOk, AtCall, Once, Stayed, stayed, handedIn, alsoStayed, OnceInStay, CallsOk, Holds}
 use Rattle.promise.proofs.Item3.{item-3}
 
 -- ---- the calls
@@ -159,12 +159,15 @@ handedBefore M [] n b = []
 handedBefore M (c ∷ cs) n b = bookCall M c n b .out ++ handedBefore M cs (step c n) (bookCall M c n b .left)
 
 -- one statement for all stays
-calls-now : (M : Sent) (cs : List Call) (n : Net) (b : Book) → CallsBefore M cs n b → CallsOk (λ s t k. M s k) cs n b
+abbrev stays : Sent → Stays
+stays M = record { watched = λ s t. M .watched s; text = λ s t k. M .text s k }
+
+calls-now : (M : Sent) (cs : List Call) (n : Net) (b : Book) → CallsBefore M cs n b → CallsOk (stays M) cs n b
 unfolding CallsBefore CallsOk
 calls-now M [] n b ok = tt
 calls-now M (c ∷ cs) n b ok = (ok .0, calls-now M cs (step c n) (bookCall M c n b .left) (ok .1))
 
-holds-before : (M : Sent) (count : ℕ) (cs : List Call) (n : Net) (b : Book) → Holds (λ s t k. M s k) count cs n b → HoldsBefore M count cs n b
+holds-before : (M : Sent) (count : ℕ) (cs : List Call) (n : Net) (b : Book) → Holds (stays M) count cs n b → HoldsBefore M count cs n b
 unfolding Holds HoldsBefore
 holds-before M count [] n b h = tt
 holds-before M count (c ∷ cs) n b h = (h .0, holds-before M count cs (step c n) (bookCall M c n b .left) (h .1))
@@ -200,14 +203,14 @@ once-first (m ∷ ms) xs ys f rest o =
     (o .0, subst (Once (ms ++ ys)) (also-first f m) (once-first ms xs ys (alsoStayed (record { slot = m .slot; stay = 0; number = m .number }) f) rest (o .1)))
 
 once-before : (M : Sent) (cs : List Call) (n : Net) (b : Book) → NoSignOff cs → b .stay ≡ (λ s. 0) → (f : ℕ → ℕ → ℕ → Bool)
-    → OnceInStay (handedIn (λ s t k. M s k) cs n b) f → Once (handedBefore M cs n b) (λ s k. f s 0 k)
+    → OnceInStay (handedIn (stays M) cs n b) f → Once (handedBefore M cs n b) (λ s k. f s 0 k)
 unfolding handedIn handedBefore
 once-before M [] n b z e f o = tt
 once-before M (c ∷ cs) n b z e f o =
     let k = bookCall M c n b in
-    once-first (k .out) (handedIn (λ s t k. M s k) cs (step c n) (k .left)) (handedBefore M cs (step c n) (k .left)) f
+    once-first (k .out) (handedIn (stays M) cs (step c n) (k .left)) (handedBefore M cs (step c n) (k .left)) f
     (λ g q. once-before M cs (step c n) (k .left) (z .1) (call-stay M c n b (z .0) ∙ e) g q)
-    (subst (λ (stay : ℕ → ℕ). OnceInStay (stayed stay (k .out) ++ handedIn (λ s t k. M s k) cs (step c n) (k .left)) f) e o)
+    (subst (λ (stay : ℕ → ℕ). OnceInStay (stayed stay (k .out) ++ handedIn (stays M) cs (step c n) (k .left)) f) e o)
 
 pub record MessagesBefore (M : Sent) (n : Net) (cs : List Call) : Type 0 where
   pub calls : HoldsBefore M (n .station .count) cs n emptyBook
@@ -218,7 +221,7 @@ pub record MessagesBefore (M : Sent) (n : Net) (cs : List Call) : Type 0 where
 pub record PromiseBefore (n : Net) (cs : List Call) : Type 0 where
   pub links : LinksHold (after cs n .station)
   pub turns : TurnsBefore emptyView (trace cs n)
-  pub messages : (M : Sent) → ((s k : ℕ) → length (M s k) ≤ 2046) → CallsBefore M cs n emptyBook → MessagesBefore M n cs
+  pub messages : (M : Sent) → ((s k : ℕ) → M .watched s ≡ true → length (M .text s k) ≤ 2046) → CallsBefore M cs n emptyBook → MessagesBefore M n cs
 
 abbrev pub Before : Type 0
 Before =
@@ -232,6 +235,6 @@ before s g store e cs z =
       links = p .links;
       turns = turns-before emptyView (trace cs n) (none-trace cs n z) (p .turns);
       messages = λ M small ok.
-          let m = p .messages (λ s t k. M s k) (λ s t k. small s k) (calls-now M cs n emptyBook ok) in
+          let m = p .messages (stays M) (λ s t k. small s k) (calls-now M cs n emptyBook ok) in
           record { calls = holds-before M (n .station .count) cs n emptyBook (m .calls); once = once-before M cs n emptyBook z refl (λ s t k. false) (m .once) };
     }

@@ -23,6 +23,8 @@ pub mod Ledgers
 pub mod Modest
 pub mod Ties
 pub mod Pieces
+pub mod Fits
+pub mod Others
 pub mod Quiet
 pub mod QuietWalk
 pub mod Events
@@ -36,10 +38,12 @@ pub mod SignTies
 pub mod Messages
 pub mod Sounds
 pub mod Item3
+pub mod Everyone
 pub mod Before
 pub mod Runs
 pub mod StayRun
 pub mod StruckRun
+pub mod BoatsRun
 pub mod Alike
 pub mod Needed
 pub mod Refuted

@@ -4,7 +4,7 @@ use mathlib.Core.Bool.{Bool, true, false, cond, _&&_, _||_}
 use mathlib.Core.Option.{Option, none}
 use mathlib.Core.List.{List, [], _∷_, _++_, append-nil}
 use mathlib.Core.Logic.{⊎-elim}
-use Prim.Native.Nat.{ℕ, suc, _+_, _*_, _/_, _≤_, _<_}
+use Prim.Native.Nat.{ℕ, suc, _+_, _*_, _/_, _%_, _≤_, _<_}
 use native.Mathlib.Omega.{arith}
 use lib.ListN.{length, getD, replicate, length-replicate}
 use lib.Dec.{eqb, ltb, leb}
@@ -16,6 +16,7 @@ use Rattle.bits.proofs.Lists.{cond-keeps, cond-true, cond-false, eq-or-not, nev
 use Rattle.wire.specs.Kinds.{tiny}
 use Rattle.wire.specs.Call.{unpackCall}
 use Rattle.words.specs.Words.{Heard, Burst, Parsed, parsed, parse}
+use Rattle.words.specs.Fine.{AllFine, FineBurst}
 use Rattle.stream.specs.declared.window.Window.{Window}
 use Rattle.stream.specs.Window.{handedOf, freshOf, barredOf}
 use Rattle.stream.specs.Table.{Table, freedTable, cellCount}
@@ -38,7 +39,7 @@ use Rattle.station.specs.Entries.{Outcome, refused, done, unless, admitted, rec
 use Rattle.station.specs.SignOff.{signOff, signOffRefusal, signOffOf}
 use Rattle.station.specs.Worst.{worstOf, refusalIn}
 use Rattle.dues.specs.Dues.{duesRefusal}
-use Rattle.promise.specs.Promise.{Lent, lentTo, Net, net, ofBurst, InBook, Call, admission, reception, decision, sending, closing, reading, freeing, charging, signing, result, inBook, outcome, isRefused, step, started, Stays, Sent, sentNow, Message, Ledger, Book, emptyBook, same, alsoHanded, Entered, unchanged, bookFrames, framesBy, Event2, eventsIn, enter, enterAll, answersOf, bookEnds, bookDone, bookCall, FramesOk, CallOk, CallsOk, Once, Paired, ReadsAs, AtCall, Holds, Stayed, stayed, handedIn, alsoStayed, OnceInStay, Messages, handed, another, asking, LentOk}
+use Rattle.promise.specs.Promise.{Lent, lentTo, Net, net, ofBurst, InBook, Call, admission, reception, decision, sending, closing, reading, freeing, charging, signing, result, inBook, outcome, isRefused, step, started, Stays, Sent, sentNow, Message, Ledger, Book, emptyBook, same, alsoHanded, Entered, unchanged, bookFrames, framesBy, Event2, eventsIn, enter, enterAll, named, answersOf, bookEnds, bookDone, bookCall, FramesOk, CallOk, CallsOk, Once, Paired, ReadsAs, AtCall, Holds, Stayed, stayed, handedIn, alsoStayed, OnceInStay, Messages, handed, another, asking, LentOk}
 use Rattle.promise.proofs.Outcomes.{refusedBy, receive-cases, lent-is}
 use Rattle.promise.proofs.Ledgers.{none-below, same-true}
 use Rattle.promise.proofs.Modest.{fresh-free}
@@ -82,12 +83,12 @@ start-tied M g store room =
       tie = record {
         tidy = start-tidy count store some-cell (cells-most (length store / 6400)) in-store;
         sound = λ s. subst Sound (sym (fresh s)) sound-fresh;
-        free = λ s k. ap (λ (w : Window). barredOf w k) (fresh s) ∙ fresh-free k;
-        numbers = λ s k. sym (ap (λ (w : Window). handedOf w k) (fresh s) ∙ fresh-none k);
-        says = λ s k. none-below (length (M s k));
+        free = λ s k on. ap (λ (w : Window). barredOf w k) (fresh s) ∙ fresh-free k;
+        numbers = λ s k on. sym (ap (λ (w : Window). handedOf w k) (fresh s) ∙ fresh-none k);
+        says = λ s k. none-below (length (M .text s k));
         cells = λ c a. subst (λ (u : Use). FineAt M (emptyBook .ledger) u (heldAt (viewOf (newStation g count) store) c)) (sym (free c)) tt;
-        bare = λ s k h z i. refl;
-        entries = λ c. sym (ap entryOf (free c));
+        bare = λ s k on h z i. refl;
+        entries = λ c. sym (ap (entryOf M) (free c));
       };
       long = length-replicate 62 (newMember blankCall 63 nought);
     }
@@ -232,14 +233,19 @@ module _ (M : Sent) (n : Net) (b : Book) (tied : Tied M n b) (cell : ℕ) where
       (ap (λ (t : Bool). t || leb 64 cell) (lt-leb (n .station .count) cell a) ∙ lt-leb 64 cell (omega arith))
 
   reads-by : cell < n .station .count → (x y : Bool) → busy-bit ≡ x → landed-bit ≡ y → FineAt M (b .ledger) (useOf x y owner) (heldAt (viewOf (n .station) (n .store)) cell)
-      → ReadsAs M (entryOf (useOf x y owner)) n cell
+      → ReadsAs M (entryOf M (useOf x y owner)) n cell
   unfolding readingOf
   reads-by a false false p q f = read-check a ∙ cond-false landed-bit 0 22 q
   reads-by a true false p q f = read-check a ∙ cond-false landed-bit 0 22 q
   reads-by a false true p q f = absurd (never-both busy-bit (tied .tie .tidy .taken cell q) p)
   reads-by a true true p q f =
-      let z = read-check a ∙ cond-true landed-bit 0 22 q in
-      (z, cond-true (eqb (readRefusal (length (n .store)) (n .station .count) (n .station .landed) cell) 0) _ _ (eq-eqb _ 0 z) ∙ f)
+      let z = read-check a ∙ cond-true landed-bit 0 22 q in (
+        z,
+        λ on.
+            cond-true (eqb (readRefusal (length (n .store)) (n .station .count) (n .station .landed) cell) 0) _ _ (eq-eqb _ 0 z)
+            ∙ f on
+            ∙ ap (λ (t : Bool). M .text (owner / 4294967296) (cond t (owner % 4294967296) (owner % 4294967296 % 256))) (sym on),
+      )
 
   pub reads : cell < n .station .count → ReadsAs M (b .entry cell) n cell
   reads a =
@@ -297,13 +303,13 @@ module _ (M : Sent) (n : Net) (b : Book) (tied : Tied M n b) (cell : ℕ) (is : 
             ⊎-elim (λ q. subst (λ (u : Use). FineAt M (b .ledger) u (heldAt (viewOf (n .station) (n .store)) d)) (sym (use-here d q)) tt)
             (λ z. subst (λ (u : Use). FineAt M (b .ledger) u (heldAt (viewOf (n .station) (n .store)) d)) (sym (use-there d z)) (tied .tie .cells d a))
             (eq-or-not d cell);
-        bare = λ s k h nowhere.
-            tied .tie .bare s k h
+        bare = λ s k on h nowhere.
+            tied .tie .bare s k on h
             (λ d q.
             ⊎-elim (λ i. comes-open (hasBit (t₀ .busy) cell) (hasBit (t₀ .landed) cell) (getD (t₀ .owners) cell 0) s k (sym (ap (useAt t₀) i) ∙ q) is) (λ i. nowhere d (use-there d i ∙ q)) (eq-or-not d cell));
         entries = λ d.
-            ⊎-elim (λ i. ap (λ (t : Bool). cond t none (b .entry d)) (eq-eqb cell d (sym i)) ∙ sym (ap entryOf (use-here d i)))
-            (λ i. ap (λ (t : Bool). cond t none (b .entry d)) (ne-eqb cell d (λ j. i (sym j))) ∙ tied .tie .entries d ∙ sym (ap entryOf (use-there d i)))
+            ⊎-elim (λ i. ap (λ (t : Bool). cond t none (b .entry d)) (eq-eqb cell d (sym i)) ∙ sym (ap (entryOf M) (use-here d i)))
+            (λ i. ap (λ (t : Bool). cond t none (b .entry d)) (ne-eqb cell d (λ j. i (sym j))) ∙ tied .tie .entries d ∙ sym (ap (entryOf M) (use-there d i)))
             (eq-or-not d cell);
       }
 
@@ -365,8 +371,8 @@ record RxDone (M : Sent) (count : ℕ) (l : Ledger) (e : ℕ → Option Message)
   pub got : receptions.Received M count (eventsIn (r .words)) (h .out) (viewOf (r .station) (r .store)) (h .left) (l .handed) e
   pub long : length (r .station .members) ≡ 62
 
-module _ (M : Sent) (small : (s k : ℕ) → length (M s k) ≤ 2046) (n : Net) (b : Book) (tied : Tied M n b) (numbers : List ℕ) (snr now : Float) where
-  module _ (u : Burst) (few : length (u .frames) ≤ 64) where
+module _ (M : Sent) (small : (s k : ℕ) → M .watched s ≡ true → length (M .text s k) ≤ 2046) (n : Net) (b : Book) (tied : Tied M n b) (numbers : List ℕ) (snr now : Float) where
+  module _ (u : Burst) (fine : FineBurst u) where
     abbrev frames : List Heard
     frames = framesBy (parsed u)
 
@@ -374,7 +380,10 @@ module _ (M : Sent) (small : (s k : ℕ) → length (M s k) ≤ 2046) (n : Net) 
     booked seen mask = bookFrames M frames 0 numbers seen mask (b .ledger)
 
     few-read : 0 + length frames ≤ 64
-    few-read = cond-keeps (λ (fs : List Heard). 0 + length fs ≤ 64) (eqb (u .head .code) tiny) [] (u .frames) (λ _. omega arith) (λ _. omega arith)
+    few-read = cond-keeps (λ (fs : List Heard). 0 + length fs ≤ 64) (eqb (u .head .code) tiny) [] (u .frames) (λ _. omega arith) (λ _. omega (arith, fine .count))
+
+    fine-read : AllFine frames
+    fine-read = cond-keeps AllFine (eqb (u .head .code) tiny) [] (u .frames) (λ _. AllFine.none) (λ _. fine .frames)
 
     rx-done : FramesOk M frames 0 numbers (ncsRx (n .station) u snr now (n .store) .seen) (ncsRx (n .station) u snr now (n .store) .unkept) (b .ledger)
         → RxDone M (n .station .count) (b .ledger) (b .entry) (ncsRx (n .station) u snr now (n .store)) (booked (ncsRx (n .station) u snr now (n .store) .seen) (ncsRx (n .station) u snr now (n .store) .unkept))
@@ -383,7 +392,7 @@ module _ (M : Sent) (small : (s k : ℕ) → length (M s k) ≤ 2046) (n : Net) 
         let c = rx-end (n .station) u snr now (n .store) in
         let y = lastIn (n .station) u snr now (n .store) in
         let h = booked (y .seen) (y .unkept) in
-        let z = frames-read M small (airOf (n .station) (u .head) snr now) numbers frames (firstIn (n .station) u now (n .store)) 0 (b .ledger) (b .entry)
+        let z = frames-read M small (airOf (n .station) (u .head) snr now) numbers frames fine-read (firstIn (n .station) u now (n .store)) 0 (b .ledger) (b .entry)
         (record { frame = refl; seen = refl; clear = λ j l. has-none j }) few-read (tied .tie) (tied .long)
         (subst (λ (s : List ℕ). FramesOk M frames 0 numbers s (y .unkept) (b .ledger)) (c .seen) (subst (λ (m : ℕ). FramesOk M frames 0 numbers (r .seen) m (b .ledger)) (c .mask) ok)) in
         let w : eventsIn (r .words) ≡ z .events = c .events ∙ append-nil (eventsIn (y .words)) ∙ z .words ∙ ap (λ (x : List Event2). x ++ z .events) events-none in
@@ -396,16 +405,16 @@ module _ (M : Sent) (small : (s k : ℕ) → length (M s k) ≤ 2046) (n : Net) 
         }))
 
   -- the same in the store that was lent, which is the one handed on
-  lent-done : (u : Burst) → length (u .frames) ≤ 64 → (st : List ℕ) → n .store ≡ st
+  lent-done : (u : Burst) → FineBurst u → (st : List ℕ) → n .store ≡ st
       → FramesOk M (framesBy (parsed u)) 0 numbers (ncsRx (n .station) u snr now st .seen) (ncsRx (n .station) u snr now st .unkept) (b .ledger)
       → RxDone M (n .station .count) (b .ledger) (b .entry) (ncsRx (n .station) u snr now st)
       (bookFrames M (framesBy (parsed u)) 0 numbers (ncsRx (n .station) u snr now st .seen) (ncsRx (n .station) u snr now st .unkept) (b .ledger))
-  lent-done u few st q =
+  lent-done u fine st q =
       subst (λ (y : List ℕ).
       FramesOk M (framesBy (parsed u)) 0 numbers (ncsRx (n .station) u snr now y .seen) (ncsRx (n .station) u snr now y .unkept) (b .ledger)
       → RxDone M (n .station .count) (b .ledger) (b .entry) (ncsRx (n .station) u snr now y)
       (bookFrames M (framesBy (parsed u)) 0 numbers (ncsRx (n .station) u snr now y .seen) (ncsRx (n .station) u snr now y .unkept) (b .ledger)))
-      q (rx-done u few)
+      q (rx-done u fine)
 
   -- refused or not
   module _ (st : List ℕ) (words : List ℕ) where
@@ -418,7 +427,7 @@ module _ (M : Sent) (small : (s k : ℕ) → length (M s k) ≤ 2046) (n : Net) 
     abbrev enteredBy : Parsed Burst → Outcome → Entered Book
     enteredBy w o =
         record {
-          left = record { ledger = handedBy w o .left; entry = enterAll (eventsIn (o .words)) (handedBy w o .out) (b .entry); stay = b .stay };
+          left = record { ledger = handedBy w o .left; entry = enterAll (eventsIn (o .words)) (named (M .watched) (eventsIn (o .words)) (handedBy w o .out)) (b .entry); stay = b .stay };
           out = handedBy w o .out;
         }
 
@@ -427,7 +436,7 @@ module _ (M : Sent) (small : (s k : ℕ) → length (M s k) ≤ 2046) (n : Net) 
 
     record RxGood (w : Parsed Burst) (o : Outcome) : Type 0 where
       pub next : Tied M (net (o .station) (cond (refusedBy o) (n .store) (o .store))) (bookBy w o .left)
-      pub paired : Paired (n .station .count) (eventsIn (o .words)) (bookBy w o .out) b
+      pub paired : Paired (M .watched) (n .station .count) (eventsIn (o .words)) (bookBy w o .out) b
       pub after : bookBy w o .left .ledger .handed ≡ allHanded (bookBy w o .out) (b .ledger .handed)
 
     abbrev Rx : Parsed Burst → Outcome → Type 0
@@ -435,8 +444,8 @@ module _ (M : Sent) (small : (s k : ℕ) → length (M s k) ≤ 2046) (n : Net) 
         (refusedBy o ≡ false → n .store ≡ st)
         → (refusedBy o ≡ false → FramesOk M (framesBy w) 0 numbers (seenBy w) (o .mask) (b .ledger)) → RxGood w o
 
-    nothing-paired : Paired (n .station .count) (eventsIn []) [] b
-    nothing-paired = subst (λ (es : List Event2). Paired (n .station .count) es [] b) (sym events-none) (record { pairs = tt; rising = tt; once = tt })
+    nothing-paired : Paired (M .watched) (n .station .count) (eventsIn []) [] b
+    nothing-paired = subst (λ (es : List Event2). Paired (M .watched) (n .station .count) es [] b) (sym events-none) (record { pairs = tt; rising = tt; once = tt })
 
     refused-good : (w : Parsed Burst) (m : ℕ) → eqb m 0 ≡ false → Rx w (refused m (n .station) st)
     refused-good w m q k ok =
@@ -444,13 +453,13 @@ module _ (M : Sent) (small : (s k : ℕ) → length (M s k) ≤ 2046) (n : Net) 
         let d = enteredBy w (refused m (n .station) st) in
         record {
           next = subst (λ (t : Bool). Tied M (net (n .station) (cond t (n .store) st)) (cond t (unchanged b) d .left)) (sym z) tied;
-          paired = subst (λ (t : Bool). Paired (n .station .count) (eventsIn []) (cond t (unchanged b) d .out) b) (sym z) nothing-paired;
+          paired = subst (λ (t : Bool). Paired (M .watched) (n .station .count) (eventsIn []) (cond t (unchanged b) d .out) b) (sym z) nothing-paired;
           after = subst (λ (t : Bool). cond t (unchanged b) d .left .ledger .handed ≡ allHanded (cond t (unchanged b) d .out) (b .ledger .handed)) (sym z) refl;
         }
 
-    done-good : (u : Burst) → length (u .frames) ≤ 64 → Rx (parsed u) (receivedAs (ncsRx (n .station) u snr now st))
-    done-good u few k ok =
-        let z = lent-done u few st (k refl) (ok refl) in
+    done-good : (u : Burst) → FineBurst u → Rx (parsed u) (receivedAs (ncsRx (n .station) u snr now st))
+    done-good u fine k ok =
+        let z = lent-done u fine st (k refl) (ok refl) in
         record {
           next = record { tie = z .got .tie; long = z .long };
           paired = record { pairs = z .got .pairs; rising = z .got .rising; once = z .got .once };
@@ -458,7 +467,7 @@ module _ (M : Sent) (small : (s k : ℕ) → length (M s k) ≤ 2046) (n : Net) 
         }
 
     rx-good : (room : ℕ) → Rx (parse words) (receiveOf (n .station) words snr now st room)
-    rx-good room = receive-cases Rx (n .station) words snr now st room refused-good (λ u f l. done-good u (f .count))
+    rx-good room = receive-cases Rx (n .station) words snr now st room refused-good (λ u f l. done-good u f)
 
   pub reception-good : (words : List ℕ) (lent : Lent) (room : ℕ)
       → CallOk M (inBook (reception words snr now lent room numbers)) (answersOf (reception words snr now lent room numbers) n) b
@@ -490,8 +499,11 @@ module _ (M : Stays) (n : Net) (b : Book) (tied : Tied (sentNow M b) n b) (slot 
   EndGood o = Tied (sentNow M (endedBy (refusedBy o) .left)) (net (o .station) (n .store)) (endedBy (refusedBy o) .left)
 
   -- another slot's stay goes on
-  sent-there : (s k : ℕ) → (s ≡ slot → ⊥) → sentNow M (bookEnds slot b) s k ≡ sentNow M b s k
-  sent-there s k z = ap (λ (t : ℕ). M s t k) (stay-there slot b s z)
+  sent-there : (s k : ℕ) → (s ≡ slot → ⊥) → sentNow M (bookEnds slot b) .text s k ≡ sentNow M b .text s k
+  sent-there s k z = ap (λ (t : ℕ). M .text s t k) (stay-there slot b s z)
+
+  watched-there : (s : ℕ) → (s ≡ slot → ⊥) → sentNow M (bookEnds slot b) .watched s ≡ sentNow M b .watched s
+  watched-there s z = ap (M .watched s) (stay-there slot b s z)
 
   end-good : EndGood (signOffOf (n .station) slot)
   unfolding signOffOf
@@ -499,7 +511,7 @@ module _ (M : Stays) (n : Net) (b : Book) (tied : Tied (sentNow M b) n b) (slot 
       cond-keeps EndGood (eqb (signOffRefusal (n .station .used) slot) 0) _ _
       (λ q.
       let low = member-lt (n .station .used) slot (sign-member (n .station .used) slot (eqb-true _ 0 q)) in
-      record { tie = sign-tie (sentNow M b) (sentNow M (bookEnds slot b)) slot sent-there (n .station) (n .store) b (tied .tie) low (tied .long); long = signed slot (n .station) low (tied .long) .long })
+      record { tie = sign-tie (sentNow M b) (sentNow M (bookEnds slot b)) slot watched-there sent-there (n .station) (n .store) b (tied .tie) low (tied .long); long = signed slot (n .station) low (tied .long) .long })
       (λ q. subst (λ (t : Bool). Tied (sentNow M (endedBy (cond t false true) .left)) (net (n .station) (n .store)) (endedBy (cond t false true) .left)) (sym q) tied)
 
 -- ---- every list of calls
@@ -564,7 +576,7 @@ goes-on : (M : Stays) (c : Call) (n : Net) (b : Book) → CallGood (sentNow M b)
 goes-on M c n b g =
     let e = bookCall (sentNow M b) c n b in
     record {
-      tied = subst (λ (stay : ℕ → ℕ). Tied (λ s k. M s (stay s) k) (step c n) (e .left)) (sym (g .stay)) (g .tied);
+      tied = subst (λ (stay : ℕ → ℕ). Tied (record { watched = λ s. M .watched s (stay s); text = λ s k. M .text s (stay s) k }) (step c n) (e .left)) (sym (g .stay)) (g .tied);
       at = g .at;
       once = g .once;
       matches = λ f m.
@@ -611,8 +623,8 @@ signing-good M slot n b tied =
     matched true f m = m
     matched false f m = ends-match slot b f m
 
-module _ (M : Stays) (small : (s t k : ℕ) → length (M s t k) ≤ 2046) where
-  small-now : (b : Book) (s k : ℕ) → length (sentNow M b s k) ≤ 2046
+module _ (M : Stays) (small : (s t k : ℕ) → M .watched s t ≡ true → length (M .text s t k) ≤ 2046) where
+  small-now : (b : Book) (s k : ℕ) → sentNow M b .watched s ≡ true → length (sentNow M b .text s k) ≤ 2046
   small-now b s k = small s (b .stay s) k
 
   pub call-good : (c : Call) (n : Net) (b : Book) → Tied (sentNow M b) n b → CallOk (sentNow M b) (inBook c) (answersOf c n) b → StayGood M c n b
@@ -657,7 +669,7 @@ module _ (M : Stays) (small : (s t k : ℕ) → length (M s t k) ≤ 2046) where
       (stayed-once (b .stay) (e .out) f (b .ledger .handed) (m .now) (g .once))
       (calls-once cs (step c n) (e .left) (allStayed (stayed (b .stay) (e .out)) f) (g .matches f m) (g .tied) (ok .1))
 
-pub messages-kept : (M : Stays) → ((s t k : ℕ) → length (M s t k) ≤ 2046) → (s : Station) (g : Given) (store : List ℕ) → startRefusal g (length store) ≡ 0
+pub messages-kept : (M : Stays) → ((s t k : ℕ) → M .watched s t ≡ true → length (M .text s t k) ≤ 2046) → (s : Station) (g : Given) (store : List ℕ) → startRefusal g (length store) ≡ 0
     → (cs : List Call) → CallsOk M cs (started s g store) emptyBook → Messages M (started s g store) cs
 messages-kept M small s g store e cs ok =
     let t = started-tied (sentNow M emptyBook) s g store e in

@@ -9,7 +9,7 @@ use mathlib.Core.Bool.{Bool, true, false, cond, _&&_}
 use mathlib.Core.List.{List, [], _∷_, _++_}
 use lib.Dec.{T, eqb, eqb-refl}
 use borrow.Author.Tests.{eqb-true}
-use Rattle.promise.specs.Promise.{TurnEvent, drew, over, poll, ack, struck, has, without, View, emptyView, begins, Spread, pollsTill, acksTill, OneTurn, TurnsHold}
+use Rattle.promise.specs.Promise.{TurnEvent, drew, over, poll, ack, struck, has, without, View, emptyView, begins, Spread, till, OneTurn, TurnsHold}
 use Rattle.promise.specs.Waits.{views}
 
 abbrev pub In : ℕ → List ℕ → Type 0
@@ -53,7 +53,7 @@ eqb-eq x y e = T-eq (eqb x y) (subst (λ (k : ℕ). T (eqb x k)) e (eqb-refl x))
 
 -- ---- the counts
 
-few : (left : List ℕ) (s p a : ℕ) (es : List TurnEvent) → p ≤ 5 → a ≤ 4 → Acc left (turn s p a) es → (p + pollsTill s es ≤ 5) × (a + acksTill s es ≤ 4)
+few : (left : List ℕ) (s p a : ℕ) (es : List TurnEvent) → p ≤ 5 → a ≤ 4 → Acc left (turn s p a) es → (p + till 1 0 s es ≤ 5) × (a + till 0 1 s es ≤ 4)
 few left s p a [] hp ha c = omega arith
 few left s p a (drew l ∷ es) hp ha c = absurd c
 few left s p a (over x ∷ es) hp ha c = rw (eqb-eq x s (c .0)) (omega arith)
@@ -62,7 +62,7 @@ few left s p a (ack x ∷ es) hp ha c = rw (eqb-eq x s (c .0)) (let h = few left
 few left s p a (struck x ∷ es) hp ha c = go (eqb x s) c (λ d. few (without x left) s p a es hp ha d)
   where
     go : (b : Bool) → Acc (without x left) (cond b rest (turn s p a)) es
-        → (Acc (without x left) (turn s p a) es → (p + pollsTill s es ≤ 5) × (a + acksTill s es ≤ 4)) → (p + cond b 0 (pollsTill s es) ≤ 5) × (a + cond b 0 (acksTill s es) ≤ 4)
+        → (Acc (without x left) (turn s p a) es → (p + till 1 0 s es ≤ 5) × (a + till 0 1 s es ≤ 4)) → (p + cond b 0 (till 1 0 s es) ≤ 5) × (a + cond b 0 (till 0 1 s es) ≤ 4)
     go true c ih = omega arith
     go false c ih = ih c
 

@@ -30,7 +30,7 @@ use Rattle.frames.specs.Frames.{readFrame, frameStep, readFrames}
 use Rattle.rx.specs.Ending.{replyEnd}
 use Rattle.rx.specs.Reception.{ncsRx}
 use Rattle.station.specs.Entries.{admitRefusal, admitOf, receiveRefusal, receiveOf, cellRefusal, readRefusal, readingOf, freeOf}
-use Rattle.promise.specs.Promise.{handed, another, Net, InBook, Call, reception, reading, freeing, result, inBook, isRefused, step, after, Stays, Sent, sentNow, Ledger, Book, emptyBook, Entered, unchanged, same, cover, alsoHanded, allBelow, completes, bookPiece, isBoats, bookFrame, bookFrames, framesBy, eventsIn, Answers, answersOf, bookDone, bookCall, Lowest, Pairs, Holds}
+use Rattle.promise.specs.Promise.{handed, another, Net, InBook, Call, reception, reading, freeing, result, inBook, isRefused, step, after, Stays, Sent, sentNow, Ledger, Book, emptyBook, Entered, unchanged, same, cover, alsoHanded, allBelow, completes, bookPiece, isWatched, bookFrame, bookFrames, framesBy, eventsIn, named, Answers, answersOf, bookDone, bookCall, Lowest, Pairs, Holds}
 use Rattle.promise.proofs.Ledgers.{of-all}
 use Rattle.promise.proofs.Pieces.{enterBy}
 use Rattle.promise.proofs.Runs.{nought, one-cell, all-hi, all-empty, joins, hears, whole, apart}
@@ -70,7 +70,7 @@ too-long-is = length-replicate {A = ℕ} 65536 0
 
 -- every message is that long
 abbrev pub all-too-long : Stays
-all-too-long s t k = too-long
+all-too-long = record { watched = λ s t. true; text = λ s t k. too-long }
 
 -- the two length bytes alone: the station lands an empty message; an event, and no message of the book
 abbrev pub overlong : List Call
@@ -100,10 +100,10 @@ broken g =
     record {
       far = λ h. h .1 .0 .pairs;
       misnumbered = λ h. let z : _≡_ {A = ℕ} 0 1 = h .1 .0 .pairs .1 in omega arith;
-      miscut = λ h. let z : _≡_ {A = ℕ} 104 105 = ap (λ (l : List ℕ). getD l 1 0) (h .1 .1 .0 .1 (omega arith) .1) in omega arith;
-      swapped = λ h. let z : _≡_ {A = ℕ} 120 104 = ap (λ (l : List ℕ). getD l 0 0) (h .1 .1 .1 .0 .1 (omega arith) .1) in omega arith;
+      miscut = λ h. let z : _≡_ {A = ℕ} 104 105 = ap (λ (l : List ℕ). getD l 1 0) (h .1 .1 .0 .1 (omega arith) .1 refl) in omega arith;
+      swapped = λ h. let z : _≡_ {A = ℕ} 120 104 = ap (λ (l : List ℕ). getD l 0 0) (h .1 .1 .1 .0 .1 (omega arith) .1 refl) in omega arith;
       overlong = λ h.
-          subst (λ (t : Bool). Pairs 1 (record { slot = 0; cell = 0; number = 0 } ∷ []) (enterBy t 0 0 (emptyBook .ledger) (cover 0 0 0 2 (emptyBook .ledger .covered)) .out ++ []) (λ c. none))
+          subst (λ (t : Bool). Pairs 1 (record { slot = 0; cell = 0; number = 0 } ∷ []) (named (λ s. true) (record { slot = 0; cell = 0; number = 0 } ∷ []) (enterBy t 0 0 (emptyBook .ledger) (cover 0 0 0 2 (emptyBook .ledger .covered)) .out ++ [])) (λ c. none))
           not-all (h .1 .0 .pairs);
     }
 
@@ -125,7 +125,7 @@ frame-handed : (M : Sent) (h : Heard) (k seen : ℕ) (marked : Bool) (l : Ledger
 unfolding bookFrame
 frame-handed M lost k seen marked l a b h = h
 frame-handed M (heard flags field p) k seen marked l a b h =
-    cond-keeps (λ (e : Entered Ledger). e .left .handed a b ≡ true) (isBoats flags seen && not marked) _ (unchanged l)
+    cond-keeps (λ (e : Entered Ledger). e .left .handed a b ≡ true) (isWatched (M .watched) flags seen && not marked) _ (unchanged l)
     (λ _. cond-keeps (λ (e : Entered Ledger). e .left .handed a b ≡ true) (completes M (flags % 64) k l (cover (flags % 64) k (field % 65536) (length p) (l .covered))) _ _
     (λ _. handed-also (flags % 64) k (l .handed) a b h) (λ _. h)) (λ _. h)
 
@@ -160,7 +160,7 @@ later M count (c ∷ cs) ds n b s k q z =
     (r .0, (λ h. r .1 .0 (call-handed (sentNow M b) c n b s k (q .0) h), r .1 .1))
 
 -- 0 is handed over, if it was not before
-hands : (M : Sent) → M 0 0 ≡ [] → (l : Ledger) → bookPiece M 0 0 0 2 l .left .handed 0 0 ≡ true
+hands : (M : Sent) → M .text 0 0 ≡ [] → (l : Ledger) → bookPiece M 0 0 0 2 l .left .handed 0 0 ≡ true
 unfolding allBelow cover alsoHanded
 hands M e l = rw e (go (l .handed 0 0) refl)
   where
@@ -175,7 +175,7 @@ once-more = hears (whole 0 ∷ []) (0 ∷ [])
 last-refuted : (g : Settings) (b : Book) → b .ledger .handed 0 0 ≡ true → Holds all-empty 3 (once-more ∷ []) (having g (windowOf 129 0 0) 128) b → ⊥
 unfolding Holds step after result newStation first lowestFree hasBit withBit withoutBit receiveOf receiveRefusal parse headOk framesOf itemAt frameOf payload unpack payloadOk wordOk pack framesWords ncsRx readFrames frameStep readFrame pieceFrame replyEnd isMember accept widened widenedAt ownCell putOf cells.accept showsOf settle grow seek next slideOf markOf stop eventsIn bookFrames bookFrame cover alsoHanded allBelow having filled cellRefusal freeOf
 last-refuted g b h z =
-    subst (λ (t : Bool). Pairs 3 (record { slot = 0; cell = 0; number = 0 } ∷ []) (enterBy (not t && true) 0 0 (b .ledger) (cover 0 0 0 2 (b .ledger .covered)) .out ++ []) (b .entry)) h
+    subst (λ (t : Bool). Pairs 3 (record { slot = 0; cell = 0; number = 0 } ∷ []) (named (λ s. true) (record { slot = 0; cell = 0; number = 0 } ∷ []) (enterBy (not t && true) 0 0 (b .ledger) (cover 0 0 0 2 (b .ledger .covered)) .out ++ [])) (b .entry)) h
     (z .0 .pairs)
 
 zero-handed : (g : Settings) (b : Book) → bookCall (sentNow all-empty b) once-more (having g (upTo 127) 127) b .left .ledger .handed 0 0 ≡ true
@@ -229,7 +229,7 @@ old-book =
 -- the premises on a piece, with other bounds on its number
 pub record Within (under over : ℕ) (M : Sent) (l : Ledger) (s k field : ℕ) (p : List ℕ) : Type 0 where
   pub eight : field / 65536 % 256 ≡ k % 256
-  pub cut : Cut (framed (M s k)) (field % 65536) p
+  pub cut : Cut (framed (M .text s k)) (field % 65536) p
   pub near : (n : ℕ) → Lowest l s n → (n ≤ k + under) × (k ≤ n + over)
 
 -- as the premises have it: 128 below and 127 above. One more is too much, on either side
@@ -237,7 +237,7 @@ pub record Otherwise : Type 0 where
   pub far : Within 128 128 (sentNow all-hi emptyBook) (emptyBook .ledger) 0 128 (128 * 65536) (framed (104 ∷ 105 ∷ []))
   pub old : Within 129 127 (sentNow all-empty old-book) (old-book .ledger) 0 0 0 (framed [])
   pub misnumbered : Within 128 127 (sentNow all-hi emptyBook) (emptyBook .ledger) 0 1 65536 (framed (104 ∷ 105 ∷ []))
-  pub miscut : Within 128 127 (λ s k. 104 ∷ 104 ∷ []) (emptyBook .ledger) 0 0 0 (framed (104 ∷ 104 ∷ []))
+  pub miscut : Within 128 127 (record { watched = λ s. true; text = λ s k. 104 ∷ 104 ∷ [] }) (emptyBook .ledger) 0 0 0 (framed (104 ∷ 104 ∷ []))
   pub swapped : Within 128 127 (sentNow all-hi emptyBook) (emptyBook .ledger) 0 0 0 (2 ∷ 0 ∷ 104 ∷ []) × Within 128 127 (sentNow all-hi emptyBook) (emptyBook .ledger) 0 0 3 (105 ∷ [])
   pub overlong : Within 128 127 (sentNow all-too-long emptyBook) (emptyBook .ledger) 0 0 0 (0 ∷ 0 ∷ [])
 

@@ -48,7 +48,17 @@ pub record Still (M : Sent) (l : Ledger) (v : View) (l′ : Ledger) (e : ℕ →
   pub tie : Tie M v l′ e
   pub handed : l′ .handed ≡ l .handed
 
+-- another boat's message lands: the book has its cell in use
+pub record Passes (M : Sent) (l : Ledger) (v : View) (l′ : Ledger) (x : Event2) (e : ℕ → Option Message) : Type 0 where
+  pub off : M .watched (x .slot) ≡ false
+  pub tie : Tie M v l′ (enter (x .cell) (some (record { slot = x .slot; number = x .number })) e)
+  pub handed : l′ .handed ≡ l .handed
+  pub number : x .number ≡ x .number % 256
+  pub below : x .cell < v .table .count
+  pub bare : e (x .cell) ≡ none
+
 pub record Lands (M : Sent) (l : Ledger) (v : View) (l′ : Ledger) (x : Event2) (m : Message) (e : ℕ → Option Message) : Type 0 where
+  pub on : M .watched (x .slot) ≡ true
   pub tie : Tie M v l′ (enter (x .cell) (some m) e)
   pub handed : l′ .handed ≡ alsoHanded (m .slot) (m .number) (l .handed)
   pub slot : x .slot ≡ m .slot
@@ -62,7 +72,7 @@ pub record Lands (M : Sent) (l : Ledger) (v : View) (l′ : Ledger) (x : Event2)
 abbrev pub Joint : Sent → Ledger → View → Ledger → Option Event2 → List Message → (ℕ → Option Message) → Type 0
 Joint M l v l′ none [] e = Still M l v l′ e
 Joint M l v l′ none (m ∷ ms) e = ⊥
-Joint M l v l′ (some x) [] e = ⊥
+Joint M l v l′ (some x) [] e = Passes M l v l′ x e
 Joint M l v l′ (some x) (m ∷ []) e = Lands M l v l′ x m e
 Joint M l v l′ (some x) (m ∷ n ∷ ms) e = ⊥
 
@@ -103,8 +113,8 @@ enterBy b s k l f =
     cond b (record { left = record { covered = f; handed = alsoHanded s k (l .handed) }; out = record { slot = s; number = k } ∷ [] })
     (unchanged (record { covered = f; handed = l .handed }))
 
-module _ (M : Sent) (small : (s k : ℕ) → length (M s k) ≤ 2046) (v : View) (l : Ledger) (e : ℕ → Option Message) (tie : Tie M v l e)
-    (s k field : ℕ) (p : List ℕ) (ok : PieceOk M l s k field p) where
+module _ (M : Sent) (v : View) (l : Ledger) (e : ℕ → Option Message) (tie : Tie M v l e)
+    (s k field : ℕ) (p : List ℕ) (on : M .watched s ≡ true) (small : length (M .text s k) ≤ 2046) (ok : PieceOk M l s k field p) where
   abbrev w : Window
   w = v .windows s
 
@@ -112,7 +122,7 @@ module _ (M : Sent) (small : (s k : ℕ) → length (M s k) ≤ 2046) (v : View)
   o = field % 65536
 
   pub lowest-is : Lowest l s (w .next)
-  lowest-is = (tie .numbers s (w .next) ∙ next-not-handed w, λ j a. tie .numbers s j ∙ handed-low w j a)
+  lowest-is = (tie .numbers s (w .next) on ∙ next-not-handed w, λ j a. tie .numbers s j on ∙ handed-low w j a)
 
   -- the number is made whole
   is-number : widened (field / 65536 % 256) (w .next) ≡ Is k
@@ -132,7 +142,7 @@ module _ (M : Sent) (small : (s k : ℕ) → length (M s k) ≤ 2046) (v : View)
       (ap (λ (t : Bool). not (l .handed s k) && t) (sym (tie .says s k)) ∙ not-both (l .handed s k))
 
   handed-covered : l .handed s k ≡ true → (i : ℕ) → o ≤ i → i < o + length p → l .covered s k i ≡ true
-  handed-covered t i a b = let c = ok .cut .fits in of-all (2 + length (M s k)) (l .covered s k) (sym (tie .says s k) ∙ t) i (omega arith)
+  handed-covered t i a b = let c = ok .cut .fits in of-all (2 + length (M .text s k)) (l .covered s k) (sym (tie .says s k) ∙ t) i (omega arith)
 
   still : Still M l v l e
   still = record { tie = tie; handed = refl }
@@ -162,15 +172,15 @@ module _ (M : Sent) (small : (s k : ℕ) → length (M s k) ≤ 2046) (v : View)
   never-over hand q =
       never-both over
       (over-is k o (length p) over (hasRoom (tableRoom (v .table) s k)) (cellFor (tableRoom (v .table) s k) (cellAt (v .table) (cellIn (v .table) s k))) q .claimed)
-      (ap (λ (b : Bool). b || showsOf (heldFor (tableRoom (v .table) s k) (cellAt (v .table) (cellIn (v .table) s k)) (v .store)) o p) (tie .free s k)
-      ∙ shows-none M small v l e tie s k low-k hand o p (ok .cut))
+      (ap (λ (b : Bool). b || showsOf (heldFor (tableRoom (v .table) s k) (cellAt (v .table) (cellIn (v .table) s k)) (v .store)) o p) (tie .free s k on)
+      ∙ shows-none M v l e tie s k on small low-k hand o p (ok .cut))
 
   left-fair : l .handed s k ≡ false → (a : Kept) → answerOf (v .table) w (v .store) s k o p ≡ a → changes a ≡ false → bars a ≡ false
       → Fair (leftAs (v .table) w (v .store) (cellIn (v .table) s k) k a)
   left-fair hand a q c y =
       left-by a c y (λ z.
-      let y = now-inv M small v l e tie s k low-k hand (replicate 6144 0) (omega (arith, length-replicate {A = ℕ} 6144 0)) in
-      quiet-book (needless-covered (framed (M s k)) (l .covered s k)
+      let y = now-inv M v l e tie s k on small low-k hand (replicate 6144 0) (omega (arith, length-replicate {A = ℕ} 6144 0)) in
+      quiet-book (needless-covered (framed (M .text s k)) (l .covered s k)
       (cellFor (tableRoom (v .table) s k) (cellAt (v .table) (cellIn (v .table) s k))) (y .0) (y .1) k o p over (hasRoom (tableRoom (v .table) s k)) (ok .cut) (q ∙ z)))
       (cellIn (v .table) s k)
 
@@ -192,17 +202,17 @@ module _ (M : Sent) (small : (s k : ℕ) → length (M s k) ≤ 2046) (v : View)
     kept = yes-is k o (length p) over (hasRoom (tableRoom (v .table) s k)) x yes
 
     m : Aim M v l s k c x
-    m = aim M small v l e tie s k low-k hand (kept .celled)
+    m = aim M v l e tie s k on small low-k hand (kept .celled)
 
     long : length (h .bytes) ≡ 6400
     long = after-length (v .table) w (v .store) s field p (tie .tidy) (ok .cut .short) k yes
 
-    after-inv : Inv (framed (M s k)) (Cov (covers s k)) h
+    after-inv : Inv (framed (M .text s k)) (Cov (covers s k)) h
     after-inv =
-        let u = accept-inv (framed (M s k)) (Cov (l .covered s k)) (held x (cellOf (v .store) c)) (m .inv .0) (m .inv .1) o p (ok .cut)
+        let u = accept-inv (framed (M .text s k)) (Cov (l .covered s k)) (held x (cellOf (v .store) c)) (m .inv .0) (m .inv .1) o p (ok .cut)
         (kept-room k o over (hasRoom (tableRoom (v .table) s k)) x (cellOf (v .store) c) p (inl yes)) in
-        subst (λ (g : ℕ → Bool). Inv (framed (M s k)) (Cov g) h) (sym (cover-same s k o (length p) (l .covered))) (
-          same-loose (framed (M s k)) (More (Cov (l .covered s k)) o (length p)) (Cov (λ i. cond (inside o (length p) i) true (l .covered s k i))) h (u .0)
+        subst (λ (g : ℕ → Bool). Inv (framed (M .text s k)) (Cov g) h) (sym (cover-same s k o (length p) (l .covered))) (
+          same-loose (framed (M .text s k)) (More (Cov (l .covered s k)) o (length p)) (Cov (λ i. cond (inside o (length p) i) true (l .covered s k i))) h (u .0)
               (λ i d.
               ⊎-elim (λ y. ap (λ (t : Bool). cond (inside o (length p) i) true t) y ∙ or-same (inside o (length p) i))
               (λ y. ap (λ (t : Bool). cond t true (l .covered s k i)) (inside-of o (length p) i (y .0) (y .1))) d)
@@ -215,8 +225,8 @@ module _ (M : Sent) (small : (s k : ℕ) → length (M s k) ≤ 2046) (v : View)
 
     lands-iff : completes M s k l covers ≡ landed h
     lands-iff =
-        ap (λ (t : Bool). not t && allBelow (2 + length (M s k)) (covers s k)) hand
-        ∙ sym (landed-is (M s k) (covers s k) h after-inv)
+        ap (λ (t : Bool). not t && allBelow (2 + length (M .text s k)) (covers s k)) hand
+        ∙ sym (landed-is (M .text s k) (covers s k) h after-inv)
 
     cov-other : (a b : ℕ) → same s k a b ≡ false → covers a b ≡ l .covered a b
     cov-other a b t = cover-other s k o (length p) (l .covered) a b t
@@ -282,25 +292,25 @@ module _ (M : Sent) (small : (s k : ℕ) → length (M s k) ≤ 2046) (v : View)
         (held-here false is (v .windows)) (use-there false is) (held-there false is (v .windows))
         (record { covered = covers; handed = l .handed }) (record { cov = cov-other; hand = λ a b q. refl }) e
         (tie .sound) (tie .free) (tie .numbers) says
-        (record { not-yet = hand; inv = after-inv })
+        (λ i. record { not-yet = hand; inv = after-inv })
         (λ q. refl) (tie .entries c ∙ m .unlanded) (λ d z. refl)
       where
-        says : (a b : ℕ) → l .handed a b ≡ allBelow (2 + length (M a b)) (covers a b)
+        says : (a b : ℕ) → l .handed a b ≡ allBelow (2 + length (M .text a b)) (covers a b)
         says a b = at (same s k a b) refl
           where
-            at : (u : Bool) → same s k a b ≡ u → l .handed a b ≡ allBelow (2 + length (M a b)) (covers a b)
+            at : (u : Bool) → same s k a b ≡ u → l .handed a b ≡ allBelow (2 + length (M .text a b)) (covers a b)
             at true q =
                 let r = same-true s k a b q in
-                let here : l .handed s k ≡ allBelow (2 + length (M s k)) (covers s k) =
-                hand ∙ sym is ∙ landed-is (M s k) (covers s k) h after-inv in
-                subst (λ (y : ℕ). l .handed a y ≡ allBelow (2 + length (M a y)) (covers a y)) (r .1)
-                (subst (λ (y : ℕ). l .handed y k ≡ allBelow (2 + length (M y k)) (covers y k)) (r .0) here)
-            at false q = tie .says a b ∙ ap (allBelow (2 + length (M a b))) (sym (cov-other a b q))
+                let here : l .handed s k ≡ allBelow (2 + length (M .text s k)) (covers s k) =
+                hand ∙ sym is ∙ landed-is (M .text s k) (covers s k) h after-inv in
+                subst (λ (y : ℕ). l .handed a y ≡ allBelow (2 + length (M .text a y)) (covers a y)) (r .1)
+                (subst (λ (y : ℕ). l .handed y k ≡ allBelow (2 + length (M .text y k)) (covers y k)) (r .0) here)
+            at false q = tie .says a b ∙ ap (allBelow (2 + length (M .text a b))) (sym (cov-other a b q))
 
     -- has landed
     next-le : w .next ≤ k
     next-le =
-        ⊎-elim (λ a. a) (λ a. absurd (never-both (l .handed s k) (tie .numbers s k ∙ handed-low w k a) hand)) (le-or-lt (w .next) k)
+        ⊎-elim (λ a. a) (λ a. absurd (never-both (l .handed s k) (tie .numbers s k on ∙ handed-low w k a) hand)) (le-or-lt (w .next) k)
 
     next-near : k ≤ w .next + 127
     next-near = ok .near (w .next) lowest-is .1
@@ -317,29 +327,29 @@ module _ (M : Sent) (small : (s k : ℕ) → length (M s k) ≤ 2046) (v : View)
 
     sound′ : (a : ℕ) → Sound (win′ a)
     sound′ a =
-        ⊎-elim (λ q. subst Sound (sym (win-here a q)) (sound-land w (tie .sound s) k (tie .free s k) (kept .low) next-le (omega (arith, next-near))))
+        ⊎-elim (λ q. subst Sound (sym (win-here a q)) (sound-land w (tie .sound s) k (tie .free s k on) (kept .low) next-le (omega (arith, next-near))))
         (λ z. subst Sound (sym (win-there a z)) (tie .sound a)) (eq-or-not a s)
 
-    free′ : (a b : ℕ) → barredOf (win′ a) b ≡ false
-    free′ a b =
-        ⊎-elim (λ q. ap (λ (y : Window). barredOf y b) (win-here a q) ∙ land-bars w (tie .sound s) k (tie .free s k) next-le b ∙ tie .free s b)
-        (λ z. ap (λ (y : Window). barredOf y b) (win-there a z) ∙ tie .free a b) (eq-or-not a s)
+    free′ : (a b : ℕ) → M .watched a ≡ true → barredOf (win′ a) b ≡ false
+    free′ a b i =
+        ⊎-elim (λ q. ap (λ (y : Window). barredOf y b) (win-here a q) ∙ land-bars w (tie .sound s) k (tie .free s k on) next-le b ∙ tie .free s b on)
+        (λ z. ap (λ (y : Window). barredOf y b) (win-there a z) ∙ tie .free a b i) (eq-or-not a s)
 
-    numbers′ : (a b : ℕ) → alsoHanded s k (l .handed) a b ≡ handedOf (win′ a) b
+    numbers′ : (a b : ℕ) → M .watched a ≡ true → alsoHanded s k (l .handed) a b ≡ handedOf (win′ a) b
     unfolding alsoHanded
-    numbers′ a b =
+    numbers′ a b i =
         ⊎-elim (λ q.
         let n = sound-next w (tie .sound s) in
         let z = next-near in
         ap (λ (u : Bool). cond (u && eqb k b) true (l .handed a b)) (eq-eqb s a (sym q))
         ∙ ap (λ (y : ℕ). cond (eqb k b) true (l .handed y b)) q
-        ∙ ap (λ (u : Bool). cond (eqb k b) true u) (tie .numbers s b)
+        ∙ ap (λ (u : Bool). cond (eqb k b) true u) (tie .numbers s b on)
         ∙ swap b
         ∙ sym (land-at w k (tie .sound s .low) (tie .sound s .high) (omega arith) next-le (omega arith) b)
         ∙ ap (λ (y : Window). handedOf y b) (sym (win-here a q)))
         (λ z.
         ap (λ (u : Bool). cond (u && eqb k b) true (l .handed a b)) (ne-eqb s a (λ q. z (sym q)))
-        ∙ tie .numbers a b
+        ∙ tie .numbers a b i
         ∙ ap (λ (y : Window). handedOf y b) (sym (win-there a z)))
         (eq-or-not a s)
       where
@@ -367,23 +377,23 @@ module _ (M : Sent) (small : (s k : ℕ) → length (M s k) ≤ 2046) (v : View)
         (record { cov = cov-other; hand = λ a b q. handed-other s k (l .handed) a b q })
         (enter c (some (record { slot = s; number = k })) e)
         sound′ free′ numbers′ says
-        (landed-bytes (M s k) (covers s k) h after-inv is)
+        (λ i. landed-bytes (M .text s k) (covers s k) h after-inv is)
         (λ q. absurd (never-both (alsoHanded s k (l .handed) s k) (handed-self s k (l .handed)) q))
-        (rw (eq-eqb c c refl))
+        (rw (eq-eqb c c refl, on))
         (λ d z. rw (ne-eqb c d (λ q. z (sym q))))
       where
-        says : (a b : ℕ) → alsoHanded s k (l .handed) a b ≡ allBelow (2 + length (M a b)) (covers a b)
+        says : (a b : ℕ) → alsoHanded s k (l .handed) a b ≡ allBelow (2 + length (M .text a b)) (covers a b)
         says a b = at (same s k a b) refl
           where
-            at : (u : Bool) → same s k a b ≡ u → alsoHanded s k (l .handed) a b ≡ allBelow (2 + length (M a b)) (covers a b)
+            at : (u : Bool) → same s k a b ≡ u → alsoHanded s k (l .handed) a b ≡ allBelow (2 + length (M .text a b)) (covers a b)
             at true q =
                 let r = same-true s k a b q in
-                let here : alsoHanded s k (l .handed) s k ≡ allBelow (2 + length (M s k)) (covers s k) =
-                handed-self s k (l .handed) ∙ sym is ∙ landed-is (M s k) (covers s k) h after-inv in
-                subst (λ (y : ℕ). alsoHanded s k (l .handed) a y ≡ allBelow (2 + length (M a y)) (covers a y)) (r .1)
-                (subst (λ (y : ℕ). alsoHanded s k (l .handed) y k ≡ allBelow (2 + length (M y k)) (covers y k)) (r .0) here)
+                let here : alsoHanded s k (l .handed) s k ≡ allBelow (2 + length (M .text s k)) (covers s k) =
+                handed-self s k (l .handed) ∙ sym is ∙ landed-is (M .text s k) (covers s k) h after-inv in
+                subst (λ (y : ℕ). alsoHanded s k (l .handed) a y ≡ allBelow (2 + length (M .text a y)) (covers a y)) (r .1)
+                (subst (λ (y : ℕ). alsoHanded s k (l .handed) y k ≡ allBelow (2 + length (M .text y k)) (covers y k)) (r .0) here)
             at false q =
-                handed-other s k (l .handed) a b q ∙ tie .says a b ∙ ap (allBelow (2 + length (M a b))) (sym (cov-other a b q))
+                handed-other s k (l .handed) a b q ∙ tie .says a b ∙ ap (allBelow (2 + length (M .text a b))) (sym (cov-other a b q))
 
     near-all : (y : ℕ) → l .handed s y ≡ false → k ≤ y + 127
     near-all y q =
@@ -400,6 +410,7 @@ module _ (M : Sent) (small : (s k : ℕ) → length (M s k) ≤ 2046) (v : View)
             (enterBy b s k l covers)
         at true q =
             record {
+              on = on;
               tie = land-tie q;
               handed = refl;
               slot = refl;
@@ -417,13 +428,13 @@ module _ (M : Sent) (small : (s k : ℕ) → length (M s k) ≤ 2046) (v : View)
       accept-cases (v .table) w (v .store) s field p Fair
       (λ q. absurd (not-before (sym q ∙ is-number)))
       (λ j q h. subst (λ (y : ℕ). handedOf w y ≡ true → Fair (passed (v .table) w (v .store) y)) (is-same k j (sym is-number ∙ q))
-      (λ t. quiet (quiet-book (handed-covered (tie .numbers s k ∙ t)))) h)
+      (λ t. quiet (quiet-book (handed-covered (tie .numbers s k on ∙ t)))) h)
       (λ j q a. subst (λ (y : ℕ). handedOf w y ≡ false → answerOf (v .table) w (v .store) s y o p ≡ a → changes a ≡ false → bars a ≡ false → Fair (leftAs (v .table) w (v .store) (cellIn (v .table) s y) y a))
-      (is-same k j (sym is-number ∙ q .is)) (λ t. left-fair (tie .numbers s k ∙ t) a) (q .fresh))
+      (is-same k j (sym is-number ∙ q .is)) (λ t. left-fair (tie .numbers s k on ∙ t) a) (q .fresh))
       (λ j q. subst (λ (y : ℕ). handedOf w y ≡ false → answerOf (v .table) w (v .store) s y o p ≡ Overlong → Fair (barredAs (v .table) w (v .store) s y))
-      (is-same k j (sym is-number ∙ q .is)) (λ t a. absurd (never-over (tie .numbers s k ∙ t) a)) (q .fresh))
+      (is-same k j (sym is-number ∙ q .is)) (λ t a. absurd (never-over (tie .numbers s k on ∙ t) a)) (q .fresh))
       (λ j q. subst (λ (y : ℕ). handedOf w y ≡ false → answerOf (v .table) w (v .store) s y o p ≡ Yes → Fair (putAs (v .table) w (v .store) s y o p))
-      (is-same k j (sym is-number ∙ q .is)) (λ t. put-fair (tie .numbers s k ∙ t)) (q .fresh))
+      (is-same k j (sym is-number ∙ q .is)) (λ t. put-fair (tie .numbers s k on ∙ t)) (q .fresh))
     where
       not-before : Before ≡ Is k → ⊥
       not-before q = let z : _≡_ {A = ℕ} 0 1 = cc in omega arith
@@ -432,5 +443,5 @@ module _ (M : Sent) (small : (s k : ℕ) → length (M s k) ≤ 2046) (v : View)
   piece-unbarred =
       accept-cases (v .table) w (v .store) s field p (λ x. x .bars ≡ false) (λ q. refl) (λ j q h. refl) (λ j q a r c z. refl)
       (λ j q. subst (λ (y : ℕ). handedOf w y ≡ false → answerOf (v .table) w (v .store) s y o p ≡ Overlong → true ≡ false)
-      (is-same k j (sym is-number ∙ q .is)) (λ t a. absurd (never-over (tie .numbers s k ∙ t) a)) (q .fresh))
+      (is-same k j (sym is-number ∙ q .is)) (λ t a. absurd (never-over (tie .numbers s k on ∙ t) a)) (q .fresh))
       (λ j q a. refl)

@@ -1,23 +1,26 @@
 -- The frames of a reception, one after the other: its events 2 and the messages handed over pair off. Assumes nothing.
 use mathlib.Core.Path.{_≡_, refl, sym, ap, _∙_, subst}
-use mathlib.Core.Bool.{Bool, true, false, not, cond}
+use mathlib.Core.Bool.{Bool, true, false, not, cond, _&&_}
 use mathlib.Core.Option.{Option, none, some}
 use mathlib.Core.List.{List, [], _∷_, _++_, append-assoc}
 use mathlib.Core.Logic.{⊎-elim}
 use Prim.Native.Nat.{ℕ, zero, suc, _+_, _%_, _≤_, _<_}
 use native.Mathlib.Omega.{arith}
 use lib.ListN.{length, getD, length-append}
-use Rattle.bits.specs.Mask.{hasBit}
+use Rattle.bits.specs.Mask.{hasBit, withBit}
 use Rattle.bits.proofs.Laws.{with-same}
-use Rattle.bits.proofs.Lists.{le-or-lt, never-both}
+use Rattle.bits.proofs.Lists.{cond-true, cond-false, le-or-lt, never-both}
 use Rattle.words.specs.Words.{Heard, lost, heard}
+use Rattle.words.specs.Fine.{Fine, AllFine}
+use Rattle.stream.specs.Table.{Accepted}
 use Rattle.frames.specs.declared.Air.{Air}
 use Rattle.frames.specs.Reading.{Reading}
 use Rattle.frames.specs.Frames.{frameStep, readFrames}
-use Rattle.promise.specs.Promise.{Sent, Message, Ledger, Entered, unchanged, same, alsoHanded, bookPiece, isBoats, bookFrame, bookFrames, Event2, eventsIn, enter, enterAll, FrameOk, FramesOk, Pairs, Later, Rising, Once}
+use Rattle.promise.specs.Promise.{Sent, Message, Ledger, Entered, unchanged, same, alsoHanded, bookPiece, isBoats, isWatched, bookFrame, bookFrames, Event2, eventsIn, enter, enterAll, named, FrameOk, FramesOk, Pairs, Later, Rising, Once}
 use Rattle.promise.proofs.Ledgers.{same-true, same-self, handed-self, handed-other}
 use Rattle.promise.proofs.Ties.{View, Tie}
-use Rattle.promise.proofs.Pieces.{alsoOne, Joint, eventFor, Good, piece-good, piece-unbarred}
+use Rattle.promise.proofs.Pieces.{alsoOne, Joint, viewAfter, eventFor, Good, piece-good, piece-unbarred}
+use Rattle.promise.proofs.Others.{aside-good, aside-barred}
 use Rattle.promise.proofs.Quiet.{viewOf}
 use Rattle.promise.proofs.QuietRx.{untouched}
 use Rattle.promise.proofs.Readings.{frame-runs, chain-count}
@@ -37,11 +40,21 @@ once-append [] xs f o p = p
 once-append (m ∷ ms) xs f o p = (o .0, once-append ms xs (alsoHanded (m .slot) (m .number) f) (o .1) p)
 
 pub record Received (M : Sent) (count : ℕ) (es : List Event2) (ms : List Message) (v : View) (l : Ledger) (f : ℕ → ℕ → Bool) (e : ℕ → Option Message) : Type 0 where
-  pub tie : Tie M v l (enterAll es ms e)
-  pub pairs : Pairs count es ms e
+  pub tie : Tie M v l (enterAll es (named (M .watched) es ms) e)
+  pub pairs : Pairs count es (named (M .watched) es ms) e
   pub rising : Rising ms
   pub once : Once ms f
   pub after : l .handed ≡ allHanded ms f
+
+-- what an event names
+named-own : (watched : ℕ → Bool) (x : Event2) (m : Message) (es : List Event2) (ms : List Message) → watched (x .slot) ≡ true
+    → m ∷ named watched es ms ≡ named watched (x ∷ es) (m ∷ ms)
+named-own watched x m es ms q = sym (cond-true (watched (x .slot)) _ _ q)
+
+named-other : (watched : ℕ → Bool) (x : Event2) (es : List Event2) (ms : List Message) → watched (x .slot) ≡ false
+    → record { slot = x .slot; number = x .number } ∷ named watched es ms ≡ named watched (x ∷ es) ms
+named-other watched x es [] q = sym (cond-false (watched (x .slot)) _ _ q)
+named-other watched x es (m ∷ ms) q = sym (cond-false (watched (x .slot)) _ _ q)
 
 -- not handed over with m is not handed over before, and is not m
 before : (s k : ℕ) (f : ℕ → ℕ → Bool) (a b : ℕ) → alsoHanded s k f a b ≡ false → (f a b ≡ false) × (same s k a b ≡ false)
@@ -65,14 +78,14 @@ later-of m (x ∷ xs) f o h = (
 -- the book's entries after a frame
 abbrev entryAfter : Option Event2 → List Message → (ℕ → Option Message) → ℕ → Option Message
 entryAfter none ms e = e
-entryAfter (some x) [] e = e
+entryAfter (some x) [] e = enter (x .cell) (some (record { slot = x .slot; number = x .number })) e
 entryAfter (some x) (m ∷ ms) e = enter (x .cell) (some m) e
 
 joint-tie : (M : Sent) (l : Ledger) (e : ℕ → Option Message) (x : Option Event2) (n : List Message) (v : View) (l′ : Ledger)
     → Joint M l v l′ x n e → Tie M v l′ (entryAfter x n e)
 joint-tie M l e none [] v l′ j = j .tie
 joint-tie M l e none (m ∷ ms) v l′ j = absurd j
-joint-tie M l e (some x) [] v l′ j = absurd j
+joint-tie M l e (some x) [] v l′ j = j .tie
 joint-tie M l e (some x) (m ∷ []) v l′ j = j .tie
 joint-tie M l e (some x) (m ∷ n ∷ ms) v l′ j = absurd j
 
@@ -83,13 +96,22 @@ combine : (M : Sent) (l : Ledger) (e : ℕ → Option Message) (x : Option Event
 combine M l e none [] v₁ l₁ j es ms v₂ l₂ r =
     subst (λ (f : ℕ → ℕ → Bool). Received M (v₁ .table .count) es ms v₂ l₂ f e) (j .handed) r
 combine M l e none (m ∷ n) v₁ l₁ j es ms v₂ l₂ r = absurd j
-combine M l e (some v) [] v₁ l₁ j es ms v₂ l₂ r = absurd j
+combine M l e (some v) [] v₁ l₁ j es ms v₂ l₂ x =
+    record {
+      tie = subst (λ (ns : List Message). Tie M v₂ l₂ (enterAll (v ∷ es) ns e)) (named-other (M .watched) v es ms (j .off)) (x .tie);
+      pairs = subst (λ (ns : List Message). Pairs (v₁ .table .count) (v ∷ es) ns e) (named-other (M .watched) v es ms (j .off))
+          (refl, j .number, omega (arith, j .below), j .bare, x .pairs);
+      rising = x .rising;
+      once = subst (Once ms) (j .handed) (x .once);
+      after = x .after ∙ ap (allHanded ms) (j .handed);
+    }
 combine M l e (some v) (m ∷ n ∷ ns) v₁ l₁ j es ms v₂ l₂ r = absurd j
 combine M l e (some v) (m ∷ []) v₁ l₁ j es ms v₂ l₂ x =
     let o : Once ms (alsoHanded (m .slot) (m .number) (l .handed)) = subst (Once ms) (j .handed) (x .once) in
     record {
-      tie = x .tie;
-      pairs = (j .slot, j .number, omega (arith, j .below), j .bare, x .pairs);
+      tie = subst (λ (ns : List Message). Tie M v₂ l₂ (enterAll (v ∷ es) ns e)) (named-own (M .watched) v m es ms (j .on)) (x .tie);
+      pairs = subst (λ (ns : List Message). Pairs (v₁ .table .count) (v ∷ es) ns e) (named-own (M .watched) v m es ms (j .on))
+          (j .slot, j .number, omega (arith, j .below), j .bare, x .pairs);
       rising = (later-of m ms (alsoHanded (m .slot) (m .number) (l .handed)) o lower, x .rising);
       once = (j .new, o);
       after = x .after ∙ ap (allHanded ms) (j .handed);
@@ -119,42 +141,83 @@ pub record Read (M : Sent) (l : Ledger) (e : ℕ → Option Message) (x y : Read
 book-other : (M : Sent) (h : Heard) (k used : ℕ) (marked : Bool) (l : Ledger) → isPiece h used ≡ false → bookFrame M h k used marked l ≡ unchanged l
 unfolding bookFrame
 book-other M lost k used marked l q = refl
-book-other M (heard flags field p) k used marked l q = rw q refl
+book-other M (heard flags field p) k used marked l q = rw q (at (M .watched (flags % 64)))
+  where
+    at : (t : Bool) → cond (t && false && not marked) (bookPiece M (flags % 64) k (field % 65536) (length p) l) (unchanged l) ≡ unchanged l
+    at true = refl
+    at false = refl
 
-book-by : (M : Sent) (flags field : ℕ) (p : List ℕ) (k used : ℕ) (marked : Bool) (l : Ledger) → isBoats flags used ≡ true
-    → bookFrame M (heard flags field p) k used marked l ≡ cond (not marked) (bookPiece M (flags % 64) k (field % 65536) (length p) l) (unchanged l)
+-- a piece that is marked covers nothing
+book-marked : (M : Sent) (flags field : ℕ) (p : List ℕ) (k used : ℕ) (marked : Bool) (l : Ledger) → marked ≡ true → bookFrame M (heard flags field p) k used marked l ≡ unchanged l
 unfolding bookFrame
-book-by M flags field p k used marked l q = rw q refl
+book-marked M flags field p k used marked l q = rw q (at (isWatched (M .watched) flags used))
+  where
+    at : (t : Bool) → cond (t && false) (bookPiece M (flags % 64) k (field % 65536) (length p) l) (unchanged l) ≡ unchanged l
+    at true = refl
+    at false = refl
 
-module _ (M : Sent) (small : (s k : ℕ) → length (M s k) ≤ 2046) (x y : Reading) (l : Ledger) (e : ℕ → Option Message) (tie : Tie M (viewIn x) l e)
+-- a boat's piece that is not marked
+book-by : (M : Sent) (flags field : ℕ) (p : List ℕ) (k used : ℕ) (marked : Bool) (l : Ledger) → isBoats flags used ≡ true → marked ≡ false
+    → bookFrame M (heard flags field p) k used marked l ≡ cond (M .watched (flags % 64)) (bookPiece M (flags % 64) k (field % 65536) (length p) l) (unchanged l)
+unfolding bookFrame
+book-by M flags field p k used marked l q r = rw (q, r) (at (M .watched (flags % 64)))
+  where
+    at : (t : Bool) → cond (t && true && true) (bookPiece M (flags % 64) k (field % 65536) (length p) l) (unchanged l) ≡ cond t (bookPiece M (flags % 64) k (field % 65536) (length p) l) (unchanged l)
+    at true = refl
+    at false = refl
+
+module _ (M : Sent) (small : (s k : ℕ) → M .watched s ≡ true → length (M .text s k) ≤ 2046) (x y : Reading) (l : Ledger) (e : ℕ → Option Message) (tie : Tie M (viewIn x) l e)
     (k : ℕ) (few : x .frame < 64) (clear : hasBit (x .unkept) (x .frame) ≡ false) where
+  abbrev m : Bool
+  m = hasBit (y .unkept) (x .frame)
+
   still-read : (m : ℕ) → Seen x y (viewIn x) [] m → Read M l e x y (unchanged l)
   still-read m s = record { event = none; joint = record { tie = subst (λ (v : View). Tie M v l e) (sym (s .view)) tie; handed = refl }; events = s .events; long = s .long }
 
-  book-read : (h : Heard) → FrameOk M l h k (x .station .used) → FrameRead x y h → Read M l e x y (bookFrame M h k (x .station .used) (hasBit (y .unkept) (x .frame)) l)
-  book-read h ok (other q s) = subst (Read M l e x y) (sym (book-other M h k (x .station .used) (hasBit (y .unkept) (x .frame)) l q)) (still-read (x .unkept) s)
-  book-read h ok (unkept flags field p b q z s) =
-      let marked : hasBit (y .unkept) (x .frame) ≡ true = ap (λ (m : ℕ). hasBit m (x .frame)) (s .mask) ∙ with-same (x .unkept) (x .frame) few in
-      subst (Read M l e x y)
-      (sym
-      (book-by M flags field p k (x .station .used) (hasBit (y .unkept) (x .frame)) l b
-      ∙ ap (λ (t : Bool). cond (not t) (bookPiece M (flags % 64) k (field % 65536) (length p) l) (unchanged l)) marked)) (still-read _ s)
-  book-read h ok (barred flags field p b q s) =
-      absurd (never-both (offeredIn x flags field p .bars) q (piece-unbarred M small (viewIn x) l e tie (flags % 64) k field p (ok b)))
-  book-read h ok (piece flags field p b q s) =
-      let bare : hasBit (y .unkept) (x .frame) ≡ false = ap (λ (m : ℕ). hasBit m (x .frame)) (s .mask) ∙ clear in
-      let n = bookPiece M (flags % 64) k (field % 65536) (length p) l in
-      let r = offeredIn x flags field p in
-      let g : Good M l e (viewIn x) (flags % 64) r n =
-      subst (λ (t : Bool). Good M l e (viewIn x) (flags % 64) r (cond t (unchanged l) n)) q (piece-good M small (viewIn x) l e tie (flags % 64) k field p (ok b)) in
-      subst (Read M l e x y)
-      (sym (book-by M flags field p k (x .station .used) (hasBit (y .unkept) (x .frame)) l b ∙ ap (λ (t : Bool). cond (not t) n (unchanged l)) bare))
-      (record {
-        event = eventFor (flags % 64) r;
-        joint = subst (λ (v : View). Joint M l v (n .left) (eventFor (flags % 64) r) (n .out) e) (sym (s .view)) g;
-        events = s .events;
-        long = s .long;
-      })
+  marked : withBit (x .unkept) (x .frame) ≡ y .unkept → m ≡ true
+  marked q = ap (λ (m : ℕ). hasBit m (x .frame)) (sym q) ∙ with-same (x .unkept) (x .frame) few
+
+  book-read : (h : Heard) → Fine h → FrameOk M l h k (x .station .used) → FrameRead x y h → Read M l e x y (bookFrame M h k (x .station .used) m l)
+  book-read h fine ok (other q s) = subst (Read M l e x y) (sym (book-other M h k (x .station .used) m l q)) (still-read (x .unkept) s)
+  book-read h fine ok (unkept flags field p b q z s) =
+      subst (Read M l e x y) (sym (book-marked M flags field p k (x .station .used) m l (marked (sym (s .mask))))) (still-read _ s)
+  book-read h fine ok (barred flags field p b q s) =
+      subst (Read M l e x y) (sym (book-marked M flags field p k (x .station .used) m l (marked (sym (s .mask))))) (at (M .watched (flags % 64)) refl)
+    where
+      at : (t : Bool) → M .watched (flags % 64) ≡ t → Read M l e x y (unchanged l)
+      at true on =
+          absurd (never-both (offeredIn x flags field p .bars) q
+          (piece-unbarred M (viewIn x) l e tie (flags % 64) k field p on (small (flags % 64) k on) (ok (ap (λ (t : Bool). t && isBoats flags (x .station .used)) on ∙ b))))
+      at false off =
+          record {
+            event = none;
+            joint = record { tie = subst (λ (v : View). Tie M v l e) (sym (s .view)) (aside-barred M (viewIn x) l e tie (flags % 64) field p off (omega (arith, fine .2)) q); handed = refl };
+            events = s .events;
+            long = s .long;
+          }
+  book-read h fine ok (piece flags field p b q s) =
+      subst (Read M l e x y) (sym (book-by M flags field p k (x .station .used) m l b (ap (λ (m : ℕ). hasBit m (x .frame)) (s .mask) ∙ clear))) (at (M .watched (flags % 64)) refl)
+    where
+      n : Entered Ledger
+      n = bookPiece M (flags % 64) k (field % 65536) (length p) l
+
+      r : Accepted
+      r = offeredIn x flags field p
+
+      read-as : (n : Entered Ledger) → Joint M l (viewAfter (viewIn x) (flags % 64) r) (n .left) (eventFor (flags % 64) r) (n .out) e → Read M l e x y n
+      read-as n g =
+          record {
+            event = eventFor (flags % 64) r;
+            joint = subst (λ (v : View). Joint M l v (n .left) (eventFor (flags % 64) r) (n .out) e) (sym (s .view)) g;
+            events = s .events;
+            long = s .long;
+          }
+
+      at : (t : Bool) → M .watched (flags % 64) ≡ t → Read M l e x y (cond t n (unchanged l))
+      at true on =
+          read-as n (subst (λ (t : Bool). Good M l e (viewIn x) (flags % 64) r (cond t (unchanged l) n)) q
+          (piece-good M (viewIn x) l e tie (flags % 64) k field p on (small (flags % 64) k on) (ok (ap (λ (t : Bool). t && isBoats flags (x .station .used)) on ∙ b))))
+      at false off = read-as (unchanged l) (aside-good M (viewIn x) l e tie (flags % 64) field p off (omega (arith, fine .2)) q)
 
 -- ---- the running values
 
@@ -239,26 +302,26 @@ words-join first x es mid last p q =
     ∙ append-assoc first (alsoOne x []) es
     ∙ ap (λ (w : List Event2). first ++ w) (join-one x es)
 
-module _ (M : Sent) (small : (s k : ℕ) → length (M s k) ≤ 2046) (a : Air) (numbers : List ℕ) where
+module _ (M : Sent) (small : (s k : ℕ) → M .watched s ≡ true → length (M .text s k) ≤ 2046) (a : Air) (numbers : List ℕ) where
   -- one frame, with the book's answers for it
-  step-read : (f : Heard) (x : Reading) (i : ℕ) (l : Ledger) (e : ℕ → Option Message) → Ready x i → i < 64 → Tie M (viewOf (x .station) (x .store)) l e
+  step-read : (f : Heard) → Fine f → (x : Reading) (i : ℕ) (l : Ledger) (e : ℕ → Option Message) → Ready x i → i < 64 → Tie M (viewOf (x .station) (x .store)) l e
       → length (x .station .members) ≡ 62 → (u : ℕ) (b : Bool) → x .station .used ≡ u → hasBit (frameStep a f x .unkept) i ≡ b → FrameOk M l f (getD numbers i 0) u
       → Read M l e x (frameStep a f x) (bookFrame M f (getD numbers i 0) u b l)
-  step-read f x i l e r few tie long u b p q ok =
+  step-read f fine x i l e r few tie long u b p q ok =
       let g = book-read M small x (frameStep a f x) l e tie (getD numbers i 0) (subst (λ (y : ℕ). y < 64) (sym (r .frame)) few)
-      (r .clear (x .frame) (subst (λ (y : ℕ). i ≤ y) (sym (r .frame)) (omega arith))) f (subst (FrameOk M l f (getD numbers i 0)) (sym p) ok) (step-reads a x (tie .tidy) long f) in
+      (r .clear (x .frame) (subst (λ (y : ℕ). i ≤ y) (sym (r .frame)) (omega arith))) f fine (subst (FrameOk M l f (getD numbers i 0)) (sym p) ok) (step-reads a x (tie .tidy) long f) in
       let t : hasBit (frameStep a f x .unkept) (x .frame) ≡ b = ap (hasBit (frameStep a f x .unkept)) (r .frame) ∙ q in
       subst (λ (y : ℕ). Read M l e x (frameStep a f x) (bookFrame M f (getD numbers i 0) y b l)) p
       (subst (λ (y : Bool). Read M l e x (frameStep a f x) (bookFrame M f (getD numbers i 0) (x .station .used) y l)) t g)
 
-  pub frames-read : (fs : List Heard) (x : Reading) (i : ℕ) (l : Ledger) (e : ℕ → Option Message) → Ready x i → i + length fs ≤ 64
+  pub frames-read : (fs : List Heard) → AllFine fs → (x : Reading) (i : ℕ) (l : Ledger) (e : ℕ → Option Message) → Ready x i → i + length fs ≤ 64
       → Tie M (viewOf (x .station) (x .store)) l e → length (x .station .members) ≡ 62
       → FramesOk M fs i numbers (readFrames a fs x .seen) (readFrames a fs x .unkept) l
       → Reads M l e x (readFrames a fs x) (bookFrames M fs i numbers (readFrames a fs x .seen) (readFrames a fs x .unkept) l)
   unfolding readFrames bookFrames
-  frames-read [] x i l e r few tie long ok =
+  frames-read [] fine x i l e r few tie long ok =
       record { events = []; words = untouched x .events; got = record { tie = tie; pairs = tt; rising = tt; once = tt; after = refl }; long = long }
-  frames-read (f ∷ fs) x i l e r few tie long ok =
+  frames-read (f ∷ fs) (AllFine.more h₀ fine) x i l e r few tie long ok =
       let y = readFrames a fs (frameStep a f x) in
       let x′ = frameStep a f x in
       let r′ = step-ready a f x i r in
@@ -271,9 +334,9 @@ module _ (M : Sent) (small : (s k : ℕ) → length (M s k) ≤ 2046) (a : Air) 
       ∙ get-last (x .seen) (x .station .used)) in
       let q : hasBit (x′ .unkept) i ≡ hasBit (y .unkept) i = sym (mask-stays a fs x′ i (omega arith)) in
       let n = bookFrame M f (getD numbers i 0) (getD (y .seen) i 0) (hasBit (y .unkept) i) l in
-      let g : Read M l e x x′ n = step-read f x i l e r (omega arith) tie long (getD (y .seen) i 0) (hasBit (y .unkept) i) p q (ok .0) in
+      let g : Read M l e x x′ n = step-read f h₀ x i l e r (omega arith) tie long (getD (y .seen) i 0) (hasBit (y .unkept) i) p q (ok .0) in
       let h = bookFrames M fs (i + 1) numbers (y .seen) (y .unkept) (n .left) in
-      let z = frames-read fs x′ (i + 1) (n .left) (entryAfter (g .event) (n .out) e) r′ (omega arith)
+      let z = frames-read fs fine x′ (i + 1) (n .left) (entryAfter (g .event) (n .out) e) r′ (omega arith)
       (joint-tie M l e (g .event) (n .out) (viewOf (x′ .station) (x′ .store)) (n .left) (g .joint)) (g .long) (ok .1) in
       record {
         events = alsoOne (g .event) (z .events);

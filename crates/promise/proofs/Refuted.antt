@@ -6,6 +6,7 @@ use mathlib.Core.List.{List, [], _∷_, _++_}
 use mathlib.Core.Option.{Option, none, some}
 use Prim.Native.Nat.{ℕ, _+_, _%_, _≤_, _<_}
 use native.Mathlib.Omega.{arith}
+use lib.Dec.{eqb}
 use lib.ListN.{length, getD}
 use Rattle.bits.specs.Loop.{first}
 use Rattle.bits.specs.Mask.{hasBit, withBit, lowestFree, withoutBit}
@@ -31,7 +32,7 @@ use Rattle.frames.specs.Frames.{readFrame, frameStep, readFrames}
 use Rattle.rx.specs.Ending.{replyEnd}
 use Rattle.rx.specs.Reception.{ncsRx}
 use Rattle.station.specs.Entries.{admitRefusal, admitOf, receiveRefusal, receiveOf, cellRefusal, readRefusal, readingOf}
-use Rattle.promise.specs.Promise.{handed, Net, InBook, result, step, after, leads, LinksHold, drew, over, poll, ack, struck, emptyView, TurnsHold, Sent, Message, Ledger, Entered, unchanged, Event2, Stayed, cover, alsoHanded, allBelow, completes, bookPiece, isBoats, bookFrame, bookFrames, alsoStayed, emptyBook, Pairs, Rising, Once, OnceInStay, ReadsAs, AtCall}
+use Rattle.promise.specs.Promise.{handed, Net, InBook, result, step, after, leads, LinksHold, drew, over, poll, ack, struck, emptyView, TurnsHold, Sent, Message, Ledger, Entered, unchanged, Event2, Stayed, cover, alsoHanded, allBelow, completes, bookPiece, isWatched, bookFrame, bookFrames, alsoStayed, emptyBook, named, Pairs, Rising, Once, OnceInStay, ReadsAs, AtCall}
 use Rattle.promise.proofs.Pieces.{enterBy}
 use Rattle.promise.proofs.Receptions.{allHanded, once-append}
 use Rattle.promise.proofs.Runs.{nought, one-cell, joins, hi, apart}
@@ -146,13 +147,40 @@ cell-in-use h = taken-none (message 7 3) (h .3)
 pub one-cell-twice : Pairs 2 (event 5 0 0 ∷ event 5 0 1 ∷ []) (message 5 0 ∷ message 5 1 ∷ []) vacant → ⊥
 one-cell-twice h = taken-none (message 5 0) (h .4 .3)
 
+-- ---- the same where slot 5 alone is watched, and slot 4 is not
+
+abbrev five : ℕ → Bool
+five s = eqb s 5
+
+-- a watched boat's message has no event, another boat's stands in its place; an event of the watched boat has no message, beside one of another
+pub event-of-another : Pairs 2 (event 4 0 0 ∷ []) (named five (event 4 0 0 ∷ []) (message 5 0 ∷ [])) vacant → ⊥
+event-of-another h = h .4
+
+pub watched-for-none : Pairs 2 (event 4 0 0 ∷ event 5 1 0 ∷ []) (named five (event 4 0 0 ∷ event 5 1 0 ∷ []) []) vacant → ⊥
+watched-for-none h = h .4
+
+-- another boat's message in a cell that holds a watched boat's, and the other way round; in a cell past the count
+pub on-the-watched : Pairs 2 (event 5 0 0 ∷ event 4 0 0 ∷ []) (named five (event 5 0 0 ∷ event 4 0 0 ∷ []) (message 5 0 ∷ [])) vacant → ⊥
+on-the-watched h = taken-none (message 5 0) (h .4 .3)
+
+pub on-another : Pairs 2 (event 4 0 0 ∷ event 5 0 0 ∷ []) (named five (event 4 0 0 ∷ event 5 0 0 ∷ []) (message 5 0 ∷ [])) vacant → ⊥
+on-another h = taken-none (message 4 0) (h .4 .3)
+
+pub another-past-count : Pairs 2 (event 4 2 0 ∷ []) (named five (event 4 2 0 ∷ []) []) vacant → ⊥
+another-past-count h = let z : 2 < 2 = h .2 in omega arith
+
+-- and pairings that are right: another boat's message before the watched one's, and after it
+pub both-ways : Pairs 2 (event 4 0 7 ∷ event 5 1 0 ∷ []) (named five (event 4 0 7 ∷ event 5 1 0 ∷ []) (message 5 256 ∷ [])) vacant
+    × Pairs 2 (event 5 1 0 ∷ event 4 0 7 ∷ []) (named five (event 5 1 0 ∷ event 4 0 7 ∷ []) (message 5 256 ∷ [])) vacant
+both-ways = ((refl, refl, omega arith, refl, (refl, refl, omega arith, refl, tt)), (refl, refl, omega arith, refl, (refl, refl, omega arith, refl, tt)))
+
 -- of two alike the higher number first
 pub wrong-order : Rising (message 5 256 ∷ message 5 0 ∷ []) → ⊥
 wrong-order h = let z : 256 < 0 = h .0 .0 refl refl in omega arith
 
 -- an event 2 of a call that is no reception: a decision, a reading, a freeing, a sign-off
 abbrev QuietAt : Net → InBook → Type 0
-QuietAt n c = AtCall (λ s k. []) 1 c (event 5 0 0 ∷ []) [] n emptyBook
+QuietAt n c = AtCall (record { watched = λ s. true; text = λ s k. [] }) 1 c (event 5 0 0 ∷ []) [] n emptyBook
 
 pub event-elsewhere : (n : Net) → (QuietAt n InBook.changesNothing → ⊥) × (QuietAt n (InBook.reads 0 handed) → ⊥) × (QuietAt n (InBook.frees 0) → ⊥) × (QuietAt n (InBook.ends 5) → ⊥)
 event-elsewhere n = (λ h. some-none _ _ h, λ h. some-none _ _ (h .0), λ h. some-none _ _ h, λ h. some-none _ _ h)
@@ -176,12 +204,14 @@ with-hi g = after (joins ∷ hi ∷ []) (one-cell g)
 
 pub record Readings (g : Settings) : Type 0 where
   -- it should be 22, and is read
-  pub stale : ReadsAs (λ s k. 104 ∷ 105 ∷ []) none (with-hi g) 0 → ⊥
+  pub stale : ReadsAs (record { watched = λ s. true; text = λ s k. 104 ∷ 105 ∷ [] }) none (with-hi g) 0 → ⊥
   -- it should not be 22, and is
-  pub gone : ReadsAs (λ s k. 104 ∷ 105 ∷ []) (some (message 0 0)) (one-cell g) 0 → ⊥
+  pub gone : ReadsAs (record { watched = λ s. true; text = λ s k. 104 ∷ 105 ∷ [] }) (some (message 0 0)) (one-cell g) 0 → ⊥
+  -- the same of a boat that is not watched
+  pub gone-too : ReadsAs (record { watched = five; text = λ s k. [] }) (some (message 0 0)) (one-cell g) 0 → ⊥
   -- other bytes; a byte too few
-  pub other : ReadsAs (λ s k. 104 ∷ 111 ∷ []) (some (message 0 0)) (with-hi g) 0 → ⊥
-  pub short : ReadsAs (λ s k. 104 ∷ 105 ∷ 33 ∷ []) (some (message 0 0)) (with-hi g) 0 → ⊥
+  pub other : ReadsAs (record { watched = λ s. true; text = λ s k. 104 ∷ 111 ∷ [] }) (some (message 0 0)) (with-hi g) 0 → ⊥
+  pub short : ReadsAs (record { watched = λ s. true; text = λ s k. 104 ∷ 105 ∷ 33 ∷ [] }) (some (message 0 0)) (with-hi g) 0 → ⊥
 
 pub readings : (g : Settings) → Readings g
 unfolding step after result admitOf admitRefusal newStation seatOf findCall first lowestFree hasBit withBit withoutBit leadsTo unpacked digit char trimStart trimEnd receiveOf receiveRefusal parse headOk framesOf itemAt frameOf payload unpack payloadOk wordOk pack framesWords ncsRx readFrames frameStep readFrame pieceFrame replyEnd isMember accept widened widenedAt ownCell putOf cells.accept showsOf settle grow seek next slideOf stop readRefusal cellRefusal readingOf
@@ -189,8 +219,9 @@ readings g =
     record {
       stale = λ h. let z : _≡_ {A = ℕ} 0 22 = h in omega arith;
       gone = λ h. let z : _≡_ {A = ℕ} 22 0 = h .0 in omega arith;
-      other = λ h. let z : _≡_ {A = ℕ} 105 111 = ap (λ (l : List ℕ). getD l 1 0) (h .1) in omega arith;
-      short = λ h. let z : _≡_ {A = ℕ} 0 33 = ap (λ (l : List ℕ). getD l 2 0) (h .1) in omega arith;
+      gone-too = λ h. let z : _≡_ {A = ℕ} 22 0 = h .0 in omega arith;
+      other = λ h. let z : _≡_ {A = ℕ} 105 111 = ap (λ (l : List ℕ). getD l 1 0) (h .1 refl) in omega arith;
+      short = λ h. let z : _≡_ {A = ℕ} 0 33 = ap (λ (l : List ℕ). getD l 2 0) (h .1 refl) in omega arith;
     }
 
 -- ---- rosters of two boats, by their relays
@@ -228,7 +259,7 @@ first-time false u q = refl
 piece-once : (M : Sent) (s k o n : ℕ) (l : Ledger) → NotTwice l (bookPiece M s k o n l)
 piece-once M s k o n l =
     cond-keeps (NotTwice l) (completes M s k l f) (enterBy true s k l f) (enterBy false s k l f)
-    (λ q. ((first-time (l .handed s k) (allBelow (2 + length (M s k)) (f s k)) q, tt), refl)) (λ _. (tt, refl))
+    (λ q. ((first-time (l .handed s k) (allBelow (2 + length (M .text s k)) (f s k)) q, tt), refl)) (λ _. (tt, refl))
   where
     f : ℕ → ℕ → ℕ → Bool
     f = cover s k o n (l .covered)
@@ -237,7 +268,7 @@ frame-once : (M : Sent) (h : Heard) (k seen : ℕ) (marked : Bool) (l : Ledger) 
 unfolding bookFrame
 frame-once M lost k seen marked l = (tt, refl)
 frame-once M (heard flags field p) k seen marked l =
-    cond-keeps (NotTwice l) (isBoats flags seen && not marked) (bookPiece M (flags % 64) k (field % 65536) (length p) l) (unchanged l)
+    cond-keeps (NotTwice l) (isWatched (M .watched) flags seen && not marked) (bookPiece M (flags % 64) k (field % 65536) (length p) l) (unchanged l)
     (λ _. piece-once M (flags % 64) k (field % 65536) (length p) l) (λ _. (tt, refl))
 
 pub book-once : (M : Sent) (fs : List Heard) (i : ℕ) (numbers seen : List ℕ) (mask : ℕ) (l : Ledger) → NotTwice l (bookFrames M fs i numbers seen mask l)

@@ -73,7 +73,7 @@ starts s g store e =
 
 -- every message is "hi"
 abbrev pub all-hi : Stays
-all-hi s t k = 104 ∷ 105 ∷ []
+all-hi = record { watched = λ s t. true; text = λ s t k. 104 ∷ 105 ∷ [] }
 
 -- boat A is admitted
 abbrev pub joins : Call
@@ -140,7 +140,7 @@ hi-ok g = (
 -- and so does what item 3 promises, from any start that is not refused
 pub hi-promised : (s : Station) (g : Given) → startRefusal g 6400 ≡ 0 → Messages all-hi (started s g bytes) hi-calls
 hi-promised s g e =
-    item-3 s g bytes e hi-calls .messages all-hi (λ s t k. omega arith) (subst (λ (n : Net). CallsOk all-hi hi-calls n emptyBook) (starts s g bytes e) (hi-ok (settingsOf g)))
+    item-3 s g bytes e hi-calls .messages all-hi (λ s t k on. omega arith) (subst (λ (n : Net). CallsOk all-hi hi-calls n emptyBook) (starts s g bytes e) (hi-ok (settingsOf g)))
 
 -- ---- the same in pieces
 
@@ -221,13 +221,13 @@ piece-ok g = (
 
 pub piece-promised : (s : Station) (g : Given) → startRefusal g 6400 ≡ 0 → Messages all-hi (started s g bytes) piece-calls
 piece-promised s g e =
-    item-3 s g bytes e piece-calls .messages all-hi (λ s t k. omega arith) (subst (λ (n : Net). CallsOk all-hi piece-calls n emptyBook) (starts s g bytes e) (piece-ok (settingsOf g)))
+    item-3 s g bytes e piece-calls .messages all-hi (λ s t k on. omega arith) (subst (λ (n : Net). CallsOk all-hi piece-calls n emptyBook) (starts s g bytes e) (piece-ok (settingsOf g)))
 
 -- ---- short messages, for longer runs
 
 -- every message is empty
 abbrev pub all-empty : Stays
-all-empty s t k = []
+all-empty = record { watched = λ s t. true; text = λ s t k. [] }
 
 -- number k of slot 0, whole, in one frame
 abbrev pub whole : ℕ → Heard

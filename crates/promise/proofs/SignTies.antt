@@ -129,7 +129,8 @@ module _ (slot : ℕ) (st : Station) (low : slot < 62) (long : length (st .membe
 
 -- ---- the tie
 
-module _ (N N′ : Sent) (slot : ℕ) (others : (s k : ℕ) → (s ≡ slot → ⊥) → N′ s k ≡ N s k) (st : Station) (store : List ℕ) (b : Book)
+module _ (N N′ : Sent) (slot : ℕ) (watch : (s : ℕ) → (s ≡ slot → ⊥) → N′ .watched s ≡ N .watched s)
+    (others : (s k : ℕ) → (s ≡ slot → ⊥) → N′ .text s k ≡ N .text s k) (st : Station) (store : List ℕ) (b : Book)
     (tie : Tie N (viewOf st store) (b .ledger) (b .entry)) (low : slot < 62) (long : length (st .members) ≡ 62) where
   abbrev r : Station
   r = signOff st slot
@@ -171,30 +172,36 @@ module _ (N N′ : Sent) (slot : ℕ) (others : (s k : ℕ) → (s ≡ slot → 
     where
       at : (e : Bool) → eqb (o / 4294967296) slot ≡ e → (y : Bool) → FineAt N (b .ledger) (useOf true y o) h → FineAt N′ l₁ (cond e Vacant (useOf true y o)) h
       at true q y f = tt
-      at false q true f = f ∙ sym (others (o / 4294967296) (o % 4294967296) (λ w. never-both (eqb (o / 4294967296) slot) (eq-eqb (o / 4294967296) slot w) q))
+      at false q true f =
+          let z : o / 4294967296 ≡ slot → ⊥ = λ w. never-both (eqb (o / 4294967296) slot) (eq-eqb (o / 4294967296) slot w) q in
+          λ on. f (sym (watch (o / 4294967296) z) ∙ on) ∙ sym (others (o / 4294967296) (o % 4294967296) z)
       at false q false f =
           let z : o / 4294967296 ≡ slot → ⊥ = λ w. never-both (eqb (o / 4294967296) slot) (eq-eqb (o / 4294967296) slot w) q in
-          record {
-            not-yet = ends-there slot b (o / 4294967296) (o % 4294967296) z ∙ f .not-yet;
+          λ on. record {
+            not-yet = ends-there slot b (o / 4294967296) (o % 4294967296) z ∙ f (sym (watch (o / 4294967296) z) ∙ on) .not-yet;
             inv = subst (λ (body : List ℕ). Inv (framed body) (Cov (l₁ .covered (o / 4294967296) (o % 4294967296))) h) (sym (others (o / 4294967296) (o % 4294967296) z))
-                (subst (λ (g : ℕ → Bool). Inv (framed (N (o / 4294967296) (o % 4294967296))) (Cov g) h) (sym (covered-there slot b (o / 4294967296) (o % 4294967296) z)) (f .inv));
+                (subst (λ (g : ℕ → Bool). Inv (framed (N .text (o / 4294967296) (o % 4294967296))) (Cov g) h) (sym (covered-there slot b (o / 4294967296) (o % 4294967296) z)) (f (sym (watch (o / 4294967296) z) ∙ on) .inv));
           }
 
-  entry-by : (x y : Bool) (o : ℕ) → strikeEntry slot (entryOf (useOf x y o)) ≡ entryOf (cond (x && eqb (o / 4294967296) slot) Vacant (useOf x y o))
+  entry-by : (x y : Bool) (o : ℕ) → strikeEntry slot (entryOf N (useOf x y o)) ≡ entryOf N′ (cond (x && eqb (o / 4294967296) slot) Vacant (useOf x y o))
   entry-by false y o = refl
   entry-by true false o = at (eqb (o / 4294967296) slot)
     where
-      at : (e : Bool) → none ≡ entryOf (cond e Vacant (Comes (o / 4294967296) (o % 4294967296)))
+      at : (e : Bool) → none ≡ entryOf N′ (cond e Vacant (Comes (o / 4294967296) (o % 4294967296)))
       at true = refl
       at false = refl
-  entry-by true true o = ap (λ (e : Bool). cond e none (some (record { slot = o / 4294967296; number = o % 4294967296 }))) turned ∙ at (eqb (o / 4294967296) slot)
+  entry-by true true o = ap (λ (e : Bool). cond e none (landedIn (N .watched (o / 4294967296)))) turned ∙ at (eqb (o / 4294967296) slot) refl
     where
       turned : eqb slot (o / 4294967296) ≡ eqb (o / 4294967296) slot
       turned = ⊎-elim (λ e. eq-eqb slot (o / 4294967296) e ∙ sym (eq-eqb (o / 4294967296) slot (sym e))) (λ z. ne-eqb slot (o / 4294967296) z ∙ sym (ne-eqb (o / 4294967296) slot (λ e. z (sym e)))) (eq-or-not slot (o / 4294967296))
 
-      at : (e : Bool) → _≡_ {A = Option Message} (cond e none (some (record { slot = o / 4294967296; number = o % 4294967296 }))) (entryOf (cond e Vacant (Whole (o / 4294967296) (o % 4294967296))))
-      at true = refl
-      at false = refl
+      landedIn : Bool → Option Message
+      landedIn t = some (record { slot = o / 4294967296; number = cond t (o % 4294967296) (o % 4294967296 % 256) })
+
+      at : (e : Bool) → eqb (o / 4294967296) slot ≡ e
+          → cond e none (landedIn (N .watched (o / 4294967296))) ≡ entryOf N′ (cond e Vacant (Whole (o / 4294967296) (o % 4294967296)))
+      at true q = refl
+      at false q = ap landedIn (sym (watch (o / 4294967296) (λ w. never-both (eqb (o / 4294967296) slot) (eq-eqb (o / 4294967296) slot w) q)))
 
   abbrev busyAt : ℕ → Bool
   busyAt c = hasBit (t₀ .busy) c
@@ -211,29 +218,29 @@ module _ (N N′ : Sent) (slot : ℕ) (others : (s k : ℕ) → (s ≡ slot → 
       ⊎-elim (λ e. subst (λ (y : ℕ). Sound (windowAt r y)) (sym e) (subst Sound (sym here-fresh) sound-fresh))
       (λ z. subst Sound (sym (there-same s z)) (tie .sound s)) (eq-or-not s slot)
 
-  numbers-is : (s k : ℕ) → l₁ .handed s k ≡ handedOf (windowAt r s) k
-  numbers-is s k =
+  numbers-is : (s k : ℕ) → N′ .watched s ≡ true → l₁ .handed s k ≡ handedOf (windowAt r s) k
+  numbers-is s k on =
       ⊎-elim (λ e. subst (λ (y : ℕ). l₁ .handed y k ≡ handedOf (windowAt r y) k) (sym e) (ends-here slot b k ∙ sym (fresh-none k) ∙ ap (λ (w : Window). handedOf w k) (sym here-fresh)))
-      (λ z. ends-there slot b s k z ∙ tie .numbers s k ∙ ap (λ (w : Window). handedOf w k) (sym (there-same s z))) (eq-or-not s slot)
+      (λ z. ends-there slot b s k z ∙ tie .numbers s k (sym (watch s z) ∙ on) ∙ ap (λ (w : Window). handedOf w k) (sym (there-same s z))) (eq-or-not s slot)
 
-  says-is : (s k : ℕ) → l₁ .handed s k ≡ allBelow (2 + length (N′ s k)) (l₁ .covered s k)
+  says-is : (s k : ℕ) → l₁ .handed s k ≡ allBelow (2 + length (N′ .text s k)) (l₁ .covered s k)
   says-is s k =
-      ⊎-elim (λ e. subst (λ (y : ℕ). l₁ .handed y k ≡ allBelow (2 + length (N′ y k)) (l₁ .covered y k)) (sym e)
-      (ends-here slot b k ∙ none-below (length (N′ slot k)) ∙ ap (allBelow (2 + length (N′ slot k))) (sym (covered-here slot b k))))
-      (λ z. ends-there slot b s k z ∙ tie .says s k ∙ ap (λ (body : List ℕ). allBelow (2 + length body) (b .ledger .covered s k)) (sym (others s k z)) ∙ ap (allBelow (2 + length (N′ s k))) (sym (covered-there slot b s k z)))
+      ⊎-elim (λ e. subst (λ (y : ℕ). l₁ .handed y k ≡ allBelow (2 + length (N′ .text y k)) (l₁ .covered y k)) (sym e)
+      (ends-here slot b k ∙ none-below (length (N′ .text slot k)) ∙ ap (allBelow (2 + length (N′ .text slot k))) (sym (covered-here slot b k))))
+      (λ z. ends-there slot b s k z ∙ tie .says s k ∙ ap (λ (body : List ℕ). allBelow (2 + length body) (b .ledger .covered s k)) (sym (others s k z)) ∙ ap (allBelow (2 + length (N′ .text s k))) (sym (covered-there slot b s k z)))
       (eq-or-not s slot)
 
-  bare-is : (s k : ℕ) → l₁ .handed s k ≡ false → ((c : ℕ) → useAt (tableOf r) c ≡ Comes s k → ⊥) → (i : ℕ) → l₁ .covered s k i ≡ false
-  bare-is s k h nowhere i =
+  bare-is : (s k : ℕ) → N′ .watched s ≡ true → l₁ .handed s k ≡ false → ((c : ℕ) → useAt (tableOf r) c ≡ Comes s k → ⊥) → (i : ℕ) → l₁ .covered s k i ≡ false
+  bare-is s k on h nowhere i =
       ⊎-elim (λ e. subst (λ (y : ℕ). l₁ .covered y k i ≡ false) (sym e) (ap (λ (g : ℕ → Bool). g i) (covered-here slot b k)))
       (λ z. ap (λ (g : ℕ → Bool). g i) (covered-there slot b s k z)
-      ∙ tie .bare s k (sym (ends-there slot b s k z) ∙ h) (λ c q. nowhere c (use-is c ∙ ap (λ (e : Bool). cond e Vacant (useAt t₀ c)) (not-its slot t₀ c s k q z) ∙ q)) i)
+      ∙ tie .bare s k (sym (watch s z) ∙ on) (sym (ends-there slot b s k z) ∙ h) (λ c q. nowhere c (use-is c ∙ ap (λ (e : Bool). cond e Vacant (useAt t₀ c)) (not-its slot t₀ c s k q z) ∙ q)) i)
       (eq-or-not s slot)
 
-  free-is : (s k : ℕ) → barredOf (windowAt r s) k ≡ false
-  free-is s k =
+  free-is : (s k : ℕ) → N′ .watched s ≡ true → barredOf (windowAt r s) k ≡ false
+  free-is s k on =
       ⊎-elim (λ e. ap (λ (y : ℕ). barredOf (windowAt r y) k) e ∙ ap (λ (w : Window). barredOf w k) here-fresh ∙ fresh-free k)
-      (λ z. ap (λ (w : Window). barredOf w k) (there-same s z) ∙ tie .free s k) (eq-or-not s slot)
+      (λ z. ap (λ (w : Window). barredOf w k) (there-same s z) ∙ tie .free s k (sym (watch s z) ∙ on)) (eq-or-not s slot)
 
   pub sign-tie : Tie N′ (viewOf r store) l₁ (bookEnds slot b .entry)
   sign-tie =
@@ -248,5 +255,5 @@ module _ (N N′ : Sent) (slot : ℕ) (others : (s k : ℕ) → (s ≡ slot → 
             (subst (FineAt N′ l₁ (cond (isCellOf t₀ slot c) Vacant (useAt t₀ c))) (sym (held-is c))
             (fine-is (heldAt (viewOf st store) c) (busyAt c) (landedAt c) (ownerAt c) (tie .cells c (let n = count-is in omega arith))));
         bare = bare-is;
-        entries = λ c. entry-is slot b c ∙ ap (strikeEntry slot) (tie .entries c) ∙ entry-by (busyAt c) (landedAt c) (ownerAt c) ∙ sym (ap entryOf (use-is c));
+        entries = λ c. entry-is slot b c ∙ ap (strikeEntry slot) (tie .entries c) ∙ entry-by (busyAt c) (landedAt c) (ownerAt c) ∙ sym (ap (entryOf N′) (use-is c));
       }

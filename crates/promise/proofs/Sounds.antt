@@ -1,6 +1,6 @@
 -- With no premise on pieces: from a start that is not refused, every call leaves cells, store and windows what they are known to be. Assumes nothing.
 use mathlib.Core.Path.{_≡_, refl, sym, ap, _∙_, subst}
-use mathlib.Core.Bool.{Bool, true, false, cond, _&&_}
+use mathlib.Core.Bool.{false, cond}
 use mathlib.Core.List.{List, [], _∷_}
 use mathlib.Core.Logic.{⊎-elim}
 use Prim.Native.Nat.{ℕ, _*_, _/_, _%_, _≤_, _<_}
@@ -9,17 +9,14 @@ use lib.ListN.{length}
 use lib.Dec.{eqb}
 use lib.Ieee.{Float}
 use borrow.Author.Tests.{eqb-true}
-use Rattle.bits.proofs.Lists.{cond-keeps, eq-or-not, never-both}
+use Rattle.bits.proofs.Lists.{cond-keeps, eq-or-not}
 use Rattle.level.specs.Spans.{within}
 use Rattle.wire.specs.Kinds.{tiny}
 use Rattle.words.specs.Words.{Heard, Burst, parsed}
 use Rattle.words.specs.Fine.{Fine, AllFine}
-use Rattle.stream.specs.declared.window.Window.{Window}
-use Rattle.stream.specs.Window.{landOf, barOf}
-use Rattle.stream.specs.Table.{Table, Accepted, accept, hasLanded}
+use Rattle.stream.specs.Table.{Table}
 use Rattle.stream.proofs.Tables.{Tidy, freed-tidy}
 use Rattle.stream.proofs.Windows.{Sound, sound-fresh}
-use Rattle.stream.proofs.Accepts.{accept-cases, accept-tidy, accept-window}
 use Rattle.net.specs.declared.Station.{Station}
 use Rattle.net.specs.State.{tableOf}
 use Rattle.frames.specs.declared.Air.{Air}
@@ -33,88 +30,15 @@ use Rattle.station.specs.SignOff.{signOff, signOffRefusal, signOffOf}
 use Rattle.net.proofs.Laws.{member-lt}
 use Rattle.promise.proofs.Signs.{sign-member, signed, cleared-tidy}
 use Rattle.promise.proofs.SignTies.{window-gone, window-still}
-use Rattle.promise.proofs.Ties.{View}
-use Rattle.promise.proofs.Pieces.{windowsAfter, viewAfter, windowsBarred, viewBarred}
+use Rattle.promise.proofs.Fits.{FitView, piece-fit, barred-fit}
 use Rattle.promise.proofs.Quiet.{windowAt, Keeps, viewOf, kept-view}
 use Rattle.promise.proofs.WalkFrames.{viewIn, FrameRead, other, unkept, barred, piece, step-reads, firstIn, rx-end}
 use Rattle.promise.proofs.Messages.{started-tied, admission-kept, decision-kept, sending-kept, closing-kept, reading-kept, charging-kept, asking-kept, same-cond}
 use Rattle.promise.proofs.Outcomes.{refusedBy, receive-cases}
 
--- one to 64 cells, all in the store, and no message in two of them; every slot's window in its bounds
-pub record FitView (v : View) : Type 0 where
-  pub tidy : Tidy (v .table) (v .store)
-  pub sound : (i : ℕ) → Sound (v .windows i)
-
 pub record Fit (n : Net) : Type 0 where
   pub view : FitView (viewOf (n .station) (n .store))
   pub long : length (n .station .members) ≡ 62
-
--- ---- a piece
-
-pub accept-land : (t : Table) (w : Window) (store : List ℕ) (slot field : ℕ) (p : List ℕ)
-    → let x = accept t w store slot field p in x .window ≡ cond (hasLanded (x .landed)) (landOf w (x .number)) (cond (x .bars) (barOf w (x .number)) w)
-accept-land t w store slot field p =
-    accept-cases t w store slot field p (λ x. x .window ≡ cond (hasLanded (x .landed)) (landOf w (x .number)) (cond (x .bars) (barOf w (x .number)) w))
-    (λ e. refl) (λ k e h. refl) (λ k o a q c z. refl) (λ k o q. refl) (λ k o q. refl)
-
--- a piece that is heard bars nothing
-pub accept-heard : (t : Table) (w : Window) (store : List ℕ) (slot field : ℕ) (p : List ℕ) → accept t w store slot field p .lost ≡ false
-    → accept t w store slot field p .bars ≡ false
-accept-heard t w store slot field p =
-    accept-cases t w store slot field p (λ x. x .lost ≡ false → x .bars ≡ false)
-    (λ e l. refl) (λ k e h l. refl) (λ k o a q c z l. refl) (λ k o q l. absurd (never-both true refl l)) (λ k o q l. refl)
-
-pub accept-bar : (t : Table) (w : Window) (store : List ℕ) (slot field : ℕ) (p : List ℕ) → accept t w store slot field p .bars ≡ true
-    → (accept t w store slot field p .window ≡ barOf w (accept t w store slot field p .number)) × (accept t w store slot field p .store ≡ store)
-accept-bar t w store slot field p =
-    accept-cases t w store slot field p (λ x. x .bars ≡ true → (x .window ≡ barOf w (x .number)) × (x .store ≡ store))
-    (λ e b. absurd (never-both false b refl)) (λ k e h b. absurd (never-both false b refl)) (λ k o a q c z b. absurd (never-both false b refl))
-    (λ k o q b. (refl, refl)) (λ k o q b. absurd (never-both false b refl))
-
--- what it leaves
-module _ (v : View) (slot field : ℕ) (p : List ℕ) (f : FitView v) (short : length p ≤ 255) where
-  abbrev r : Accepted
-  r = accept (v .table) (v .windows slot) (v .store) slot field p
-
-  moved-sound : Sound (r .window)
-  moved-sound = accept-window (v .table) (v .windows slot) (v .store) slot field p (f .tidy) short (f .sound slot) .0
-
-  -- a message that lands is marked in the boat's window
-  module _ (kept : r .lost ≡ false) where
-    land-sound : Sound (cond (hasLanded (r .landed)) (landOf (v .windows slot) (r .number)) (v .windows slot))
-    land-sound =
-        let w = v .windows slot in
-        subst Sound
-        (accept-land (v .table) w (v .store) slot field p
-        ∙ ap (λ (b : Bool). cond (hasLanded (r .landed)) (landOf w (r .number)) (cond b (barOf w (r .number)) w)) (accept-heard (v .table) w (v .store) slot field p kept))
-        moved-sound
-
-    after-sound : (i : ℕ) → Sound (windowsAfter (v .windows) slot (hasLanded (r .landed)) (r .number) i)
-    after-sound i = at (hasLanded (r .landed)) land-sound (eqb slot i) refl
-      where
-        at : (b : Bool) → Sound (cond b (landOf (v .windows slot) (r .number)) (v .windows slot)) → (t : Bool) → eqb slot i ≡ t → Sound (cond (b && t) (landOf (v .windows i) (r .number)) (v .windows i))
-        at true s true e = subst (λ (y : ℕ). Sound (landOf (v .windows y) (r .number))) (eqb-true slot i e) s
-        at true s false e = f .sound i
-        at false s t e = f .sound i
-
-    piece-fit : FitView (viewAfter v slot r)
-    piece-fit = record { tidy = accept-tidy (v .table) (v .windows slot) (v .store) slot field p (f .tidy) short; sound = after-sound }
-
-  -- one that claims too much is barred there
-  module _ (bars : r .bars ≡ true) where
-    bar-is : (r .window ≡ barOf (v .windows slot) (r .number)) × (r .store ≡ v .store)
-    bar-is = accept-bar (v .table) (v .windows slot) (v .store) slot field p bars
-
-    barred-sound : (i : ℕ) → Sound (windowsBarred (v .windows) slot (r .number) i)
-    barred-sound i = at (eqb slot i) refl
-      where
-        at : (t : Bool) → eqb slot i ≡ t → Sound (cond t (barOf (v .windows i) (r .number)) (v .windows i))
-        at true e = subst (λ (y : ℕ). Sound (barOf (v .windows y) (r .number))) (eqb-true slot i e) (subst Sound (bar-is .0) moved-sound)
-        at false e = f .sound i
-
-    barred-fit : FitView (viewBarred v slot r)
-    barred-fit =
-        record { tidy = subst (Tidy (r .table)) (bar-is .1) (accept-tidy (v .table) (v .windows slot) (v .store) slot field p (f .tidy) short); sound = barred-sound }
 
 -- ---- a reception
 
@@ -259,5 +183,5 @@ after-fit (c ∷ cs) n f = after-fit cs (step c n) (step-fit c n f)
 -- every list of calls from a start that is not refused
 pub runs-fit : (s : Station) (g : Given) (store : List ℕ) → startRefusal g (length store) ≡ 0 → (cs : List Call) → Fit (after cs (started s g store))
 runs-fit s g store e cs =
-    let t = started-tied (λ x k. []) s g store e in
+    let t = started-tied (record { watched = λ x. false; text = λ x k. [] }) s g store e in
     after-fit cs (started s g store) (record { view = record { tidy = t .tie .tidy; sound = t .tie .sound }; long = t .long })

@@ -1,7 +1,7 @@
 -- The definitions run over a sign-off: a boat hands over number 0, signs off, and the next holder of its slot hands over its own number 0. And a piece of a former
 -- stay is not to arrive: `former` breaks that premise alone, and the promise is refuted. By computation; assumes nothing.
 use mathlib.Core.Path.{_≡_, refl, ap, subst}
-use mathlib.Core.Bool.{cond}
+use mathlib.Core.Bool.{cond, true}
 use mathlib.Core.List.{List, [], _∷_, _++_}
 use Prim.Native.Nat.{ℕ, _≤_}
 use native.Mathlib.Omega.{arith}
@@ -44,10 +44,10 @@ use Rattle.promise.proofs.Runs.{nought, plain, one-cell, starts, joins,
 
 -- every message of a first stay is "hi", and of a later one "ho"
 abbrev pub hi-then-ho : Stays
-hi-then-ho s t k = cond (eqb t 0) (104 ∷ 105 ∷ []) (104 ∷ 111 ∷ [])
+hi-then-ho = record { watched = λ s t. true; text = λ s t k. cond (eqb t 0) (104 ∷ 105 ∷ []) (104 ∷ 111 ∷ []) }
 
 -- boat B is admitted
-abbrev joins-too : Call
+abbrev pub joins-too : Call
 joins-too = admission (packCall (66 ∷ 32 ∷ 32 ∷ 32 ∷ 32 ∷ 32 ∷ 32 ∷ [])) 63 nought 8192
 
 -- number 0 of slot 0 once more, "ho"
@@ -111,8 +111,8 @@ stay-ok g = (
   ),
 )
 
-short : (s t k : ℕ) → length (hi-then-ho s t k) ≤ 2046
-short s t k = cond-keeps (λ (l : List ℕ). length l ≤ 2046) (eqb t 0) (104 ∷ 105 ∷ []) (104 ∷ 111 ∷ []) (λ _. omega arith) (λ _. omega arith)
+short : (s t k : ℕ) → true ≡ true → length (hi-then-ho .text s t k) ≤ 2046
+short s t k on = cond-keeps (λ (l : List ℕ). length l ≤ 2046) (eqb t 0) (104 ∷ 105 ∷ []) (104 ∷ 111 ∷ []) (λ _. omega arith) (λ _. omega arith)
 
 -- and so does what item 3 promises, from any start that is not refused
 pub stay-promised : (s : Station) (g : Given) → startRefusal g 6400 ≡ 0 → Messages hi-then-ho (started s g (replicate 6400 7)) stay-calls
@@ -128,7 +128,7 @@ former = joins ∷ signing 0 ∷ joins-too ∷ hi ∷ reading 0 handed ∷ []
 
 pub former-broken : (g : Settings) → Holds hi-then-ho 1 former (one-cell g) emptyBook → ⊥
 unfolding Holds step after result admitOf admitRefusal newStation seatOf findCall first fold lowestFree hasBit withBit withoutBit leadsTo unpacked digit char trimStart trimEnd receiveOf receiveRefusal parse headOk framesOf itemAt frameOf payload unpack payloadOk wordOk pack framesWords ncsRx readFrames frameStep readFrame pieceFrame replyEnd isMember accept widened widenedAt ownCell putOf cells.accept showsOf settle grow seek next slideOf stop eventsIn handedIn bookFrames bookFrame cover alsoHanded allBelow readRefusal cellRefusal readingOf signOffOf signOffRefusal signOff bereaveAll bereaveAt clearAll clearAt unhearAll unhearAt bookEnds tally
-former-broken g h = let z : _≡_ {A = ℕ} 105 111 = ap (λ (l : List ℕ). getD l 1 0) (h .1 .1 .1 .1 .0 .1 (omega arith) .1) in omega arith
+former-broken g h = let z : _≡_ {A = ℕ} 105 111 = ap (λ (l : List ℕ). getD l 1 0) (h .1 .1 .1 .1 .0 .1 (omega arith) .1 refl) in omega arith
 
 -- ---- its cells, and the boats that are left
 

@@ -1,6 +1,6 @@
 -- The invariant that ties the station's cells, store and windows to the book, and what a cell that is written anew leaves of it. Assumes nothing.
 use mathlib.Core.Path.{_≡_, refl, sym, ap, _∙_, subst}
-use mathlib.Core.Bool.{Bool, true, false}
+use mathlib.Core.Bool.{Bool, true, false, cond}
 use mathlib.Core.Option.{Option, none, some}
 use mathlib.Core.List.{List}
 use mathlib.Core.Logic.{_⊎_, ⊎-elim}
@@ -56,30 +56,32 @@ pub record Coming (body : List ℕ) (f : ℕ → Bool) (handed : Bool) (h : Held
   pub not-yet : handed ≡ false
   pub inv : Inv (framed body) (Cov f) h
 
+-- nothing is known of a cell of a boat that is not watched
 abbrev pub FineAt : Sent → Ledger → Use → Held → Type 0
 FineAt M l Vacant h = Unit {0}
-FineAt M l (Comes s k) h = Coming (M s k) (l .covered s k) (l .handed s k) h
-FineAt M l (Whole s k) h = bodyOf (h .bytes) ≡ M s k
+FineAt M l (Comes s k) h = M .watched s ≡ true → Coming (M .text s k) (l .covered s k) (l .handed s k) h
+FineAt M l (Whole s k) h = M .watched s ≡ true → bodyOf (h .bytes) ≡ M .text s k
 
-abbrev pub entryOf : Use → Option Message
-entryOf Vacant = none
-entryOf (Comes s k) = none
-entryOf (Whole s k) = some (record { slot = s; number = k })
+-- but that it is in use: it was entered with the eight bits of the number that its event has
+abbrev pub entryOf : Sent → Use → Option Message
+entryOf M Vacant = none
+entryOf M (Comes s k) = none
+entryOf M (Whole s k) = some (record { slot = s; number = cond (M .watched s) k (k % 256) })
 
 pub record Tie (M : Sent) (v : View) (l : Ledger) (e : ℕ → Option Message) : Type 0 where
   pub tidy : Tidy (v .table) (v .store)
   pub sound : (s : ℕ) → Sound (v .windows s)
-  -- no message claims too much, so no number is barred
-  pub free : (s k : ℕ) → barredOf (v .windows s) k ≡ false
+  -- no message of a watched boat claims too much, so no number is barred
+  pub free : (s k : ℕ) → M .watched s ≡ true → barredOf (v .windows s) k ≡ false
   -- handed over in the book is handed over in the window
-  pub numbers : (s k : ℕ) → l .handed s k ≡ handedOf (v .windows s) k
+  pub numbers : (s k : ℕ) → M .watched s ≡ true → l .handed s k ≡ handedOf (v .windows s) k
   -- the book alone: handed over is covered whole
-  pub says : (s k : ℕ) → l .handed s k ≡ allBelow (2 + length (M s k)) (l .covered s k)
+  pub says : (s k : ℕ) → l .handed s k ≡ allBelow (2 + length (M .text s k)) (l .covered s k)
   pub cells : (c : ℕ) → c < v .table .count → FineAt M l (useAt (v .table) c) (heldAt v c)
   -- a message that has no cell and is not handed over has no byte covered
-  pub bare : (s k : ℕ) → l .handed s k ≡ false → ((c : ℕ) → useAt (v .table) c ≡ Comes s k → ⊥) → (i : ℕ) → l .covered s k i ≡ false
+  pub bare : (s k : ℕ) → M .watched s ≡ true → l .handed s k ≡ false → ((c : ℕ) → useAt (v .table) c ≡ Comes s k → ⊥) → (i : ℕ) → l .covered s k i ≡ false
   -- the book's entries are the landed cells
-  pub entries : (c : ℕ) → e c ≡ entryOf (useAt (v .table) c)
+  pub entries : (c : ℕ) → e c ≡ entryOf M (useAt (v .table) c)
 
 -- ---- uses
 
@@ -136,24 +138,24 @@ filling-comes t c s k f z = use-comes _ _ _ s k (f .taken) (f .open-yet) (f .hol
 
 pub record Aim (M : Sent) (v : View) (l : Ledger) (s k c : ℕ) (x : Cell) : Type 0 where
   pub below : c < v .table .count
-  pub inv : Inv (framed (M s k)) (Cov (l .covered s k)) (held x (cellOf (v .store) c))
+  pub inv : Inv (framed (M .text s k)) (Cov (l .covered s k)) (held x (cellOf (v .store) c))
   pub others : (d : ℕ) → (d ≡ c → ⊥) → useAt (v .table) d ≡ Comes s k → ⊥
   pub here : (a b : ℕ) → useAt (v .table) c ≡ Comes a b → (s ≡ a) × (k ≡ b)
-  pub unlanded : entryOf (useAt (v .table) c) ≡ none
+  pub unlanded : entryOf M (useAt (v .table) c) ≡ none
 
-module _ (M : Sent) (small : (s k : ℕ) → length (M s k) ≤ 2046) (v : View) (l : Ledger) (e : ℕ → Option Message) (tie : Tie M v l e)
-    (s k : ℕ) (low : k < 2 ^ 32) (hand : l .handed s k ≡ false) where
+module _ (M : Sent) (v : View) (l : Ledger) (e : ℕ → Option Message) (tie : Tie M v l e)
+    (s k : ℕ) (on : M .watched s ≡ true) (small : length (M .text s k) ≤ 2046) (low : k < 2 ^ 32) (hand : l .handed s k ≡ false) where
   aim-has : (c : ℕ) → c < v .table .count → filling (v .table) c (ownerOf s k) → Aim M v l s k c (cellAt (v .table) c)
   aim-has c a f =
       let q = filling-comes (v .table) c s k f low in
-      let g : Coming (M s k) (l .covered s k) (l .handed s k) (heldAt v c) =
-      subst (λ (u : Use). FineAt M l u (heldAt v c)) q (tie .cells c a) in
+      let g : Coming (M .text s k) (l .covered s k) (l .handed s k) (heldAt v c) =
+      subst (λ (u : Use). FineAt M l u (heldAt v c)) q (tie .cells c a) on in
       record {
         below = a;
         inv = g .inv;
         others = λ d z r. z (tie .tidy .one d c (ownerOf s k) (comes-filling (v .table) d s k r) f);
         here = λ a b r. comes-is s k a b (sym q ∙ r);
-        unlanded = ap entryOf q;
+        unlanded = ap (entryOf M) q;
       }
 
   aim-new : (c : ℕ) → c < v .table .count → hasBit (v .table .busy) c ≡ false → ((d : ℕ) → useAt (v .table) d ≡ Comes s k → ⊥) → Aim M v l s k c emptyCell
@@ -163,10 +165,10 @@ module _ (M : Sent) (small : (s k : ℕ) → length (M s k) ≤ 2046) (v : View)
       let w = use-vacant (hasBit (v .table .busy) c) (hasBit (v .table .landed) c) (getD (v .table .owners) c 0) q in
       record {
         below = a;
-        inv = empty-inv (framed (M s k)) (cellOf (v .store) c) (l .covered s k) (omega (arith, small s k)) (omega arith) (tie .bare s k hand nowhere);
+        inv = empty-inv (framed (M .text s k)) (cellOf (v .store) c) (l .covered s k) (omega (arith, small)) (omega arith) (tie .bare s k on hand nowhere);
         others = λ d z r. nowhere d r;
         here = λ a b r. not-vacant a b (sym w ∙ r);
-        unlanded = ap entryOf w;
+        unlanded = ap (entryOf M) w;
       }
 
   abbrev RoomHere : Room → Type 0
@@ -194,19 +196,19 @@ module _ (M : Sent) (small : (s k : ℕ) → length (M s k) ≤ 2046) (v : View)
 
   -- also where there is no room: the numbers stand with some bytes
   pub now-inv : (zs : List ℕ) → 6144 ≤ length zs
-      → (bs : List ℕ) × Inv (framed (M s k)) (Cov (l .covered s k)) (held (cellFor (tableRoom (v .table) s k) (cellAt (v .table) (placeOf (tableRoom (v .table) s k)))) bs)
+      → (bs : List ℕ) × Inv (framed (M .text s k)) (Cov (l .covered s k)) (held (cellFor (tableRoom (v .table) s k) (cellAt (v .table) (placeOf (tableRoom (v .table) s k)))) bs)
   now-inv zs z = go (tableRoom (v .table) s k) (table-room (v .table) (v .store) (tie .tidy) s k)
     where
-      go : (r : Room) → RoomHere r → (bs : List ℕ) × Inv (framed (M s k)) (Cov (l .covered s k)) (held (cellFor r (cellAt (v .table) (placeOf r))) bs)
+      go : (r : Room) → RoomHere r → (bs : List ℕ) × Inv (framed (M .text s k)) (Cov (l .covered s k)) (held (cellFor r (cellAt (v .table) (placeOf r))) bs)
       go (Own c) w =
           let n = cells-are (v .table .count) (tie .tidy .most) in
           let b = w .below in
           (cellOf (v .store) c, aim-has c (omega arith) (w .filling) .inv)
-      go (Free c) w = (zs, empty-inv (framed (M s k)) zs (l .covered s k) (omega (arith, small s k)) z (tie .bare s k hand (no-cell (w .none))))
-      go Full w = (zs, empty-inv (framed (M s k)) zs (l .covered s k) (omega (arith, small s k)) z (tie .bare s k hand (no-cell (w .none))))
+      go (Free c) w = (zs, empty-inv (framed (M .text s k)) zs (l .covered s k) (omega (arith, small)) z (tie .bare s k on hand (no-cell (w .none))))
+      go Full w = (zs, empty-inv (framed (M .text s k)) zs (l .covered s k) (omega (arith, small)) z (tie .bare s k on hand (no-cell (w .none))))
 
   -- a piece of the message shows no length above 2,046
-  pub shows-none : (o : ℕ) (p : List ℕ) → Cut (framed (M s k)) o p
+  pub shows-none : (o : ℕ) (p : List ℕ) → Cut (framed (M .text s k)) o p
       → showsOf (heldFor (tableRoom (v .table) s k) (cellAt (v .table) (placeOf (tableRoom (v .table) s k))) (v .store)) o p ≡ false
   shows-none o p cut = go (tableRoom (v .table) s k) (table-room (v .table) (v .store) (tie .tidy) s k)
     where
@@ -214,9 +216,9 @@ module _ (M : Sent) (small : (s k : ℕ) → length (M s k) ≤ 2046) (v : View)
       go (Own c) w =
           let n = cells-are (v .table .count) (tie .tidy .most) in
           let b = w .below in
-          shows-modest (M s k) (small s k) (Cov (l .covered s k)) (heldAt v c) (aim-has c (omega arith) (w .filling) .inv) o p cut
-      go (Free c) w = empty-modest (M s k) (small s k) o p cut
-      go Full w = empty-modest (M s k) (small s k) o p cut
+          shows-modest (M .text s k) small (Cov (l .covered s k)) (heldAt v c) (aim-has c (omega arith) (w .filling) .inv) o p cut
+      go (Free c) w = empty-modest (M .text s k) small o p cut
+      go Full w = empty-modest (M .text s k) small o p cut
 
 -- ---- a cell written anew
 
@@ -229,12 +231,12 @@ fine-moves : (M : Sent) (s k : ℕ) (l l′ : Ledger) (w : Apart s k l l′) (u 
 fine-moves M s k l l′ w Vacant h z f = tt
 fine-moves M s k l l′ w (Comes a b) h z f = at (same s k a b) refl
   where
-    at : (t : Bool) → same s k a b ≡ t → Coming (M a b) (l′ .covered a b) (l′ .handed a b) h
-    at true e = let q = same-true s k a b e in absurd (z (ap (λ (x : ℕ). Comes x b) (sym (q .0)) ∙ ap (Comes s) (sym (q .1))))
-    at false e =
+    at : (t : Bool) → same s k a b ≡ t → M .watched a ≡ true → Coming (M .text a b) (l′ .covered a b) (l′ .handed a b) h
+    at true e on = let q = same-true s k a b e in absurd (z (ap (λ (x : ℕ). Comes x b) (sym (q .0)) ∙ ap (Comes s) (sym (q .1))))
+    at false e on =
         record {
-          not-yet = w .hand a b e ∙ f .not-yet;
-          inv = subst (λ (g : ℕ → Bool). Inv (framed (M a b)) (Cov g) h) (sym (w .cov a b e)) (f .inv);
+          not-yet = w .hand a b e ∙ f on .not-yet;
+          inv = subst (λ (g : ℕ → Bool). Inv (framed (M .text a b)) (Cov g) h) (sym (w .cov a b e)) (f on .inv);
         }
 fine-moves M s k l l′ w (Whole a b) h z f = f
 
@@ -246,12 +248,12 @@ module _ (M : Sent) (v : View) (l : Ledger) (e : ℕ → Option Message) (tie : 
     (held-there : (d : ℕ) → (d ≡ c → ⊥) → d < v .table .count → heldAt v′ d ≡ heldAt v d)
     (l′ : Ledger) (w : Apart s k l l′) (e′ : ℕ → Option Message)
     (sound : (a : ℕ) → Sound (v′ .windows a))
-    (free : (a b : ℕ) → barredOf (v′ .windows a) b ≡ false)
-    (numbers : (a b : ℕ) → l′ .handed a b ≡ handedOf (v′ .windows a) b)
-    (says : (a b : ℕ) → l′ .handed a b ≡ allBelow (2 + length (M a b)) (l′ .covered a b))
+    (free : (a b : ℕ) → M .watched a ≡ true → barredOf (v′ .windows a) b ≡ false)
+    (numbers : (a b : ℕ) → M .watched a ≡ true → l′ .handed a b ≡ handedOf (v′ .windows a) b)
+    (says : (a b : ℕ) → l′ .handed a b ≡ allBelow (2 + length (M .text a b)) (l′ .covered a b))
     (fine : FineAt M l′ u h)
     (stays : l′ .handed s k ≡ false → u ≡ Comes s k)
-    (entry-here : e′ c ≡ entryOf u)
+    (entry-here : e′ c ≡ entryOf M u)
     (entry-there : (d : ℕ) → (d ≡ c → ⊥) → e′ d ≡ e d)
   where
     fine-at : (d : ℕ) → d < v′ .table .count → FineAt M l′ (useAt (v′ .table) d) (heldAt v′ d)
@@ -266,8 +268,8 @@ module _ (M : Sent) (v : View) (l : Ledger) (e : ℕ → Option Message) (tie : 
         (fine-moves M s k l l′ w (useAt (v .table) d) (heldAt v d) (m .others d z) (tie .cells d (omega arith)))))
         (eq-or-not d c)
 
-    bare-at : (a b : ℕ) → l′ .handed a b ≡ false → ((d : ℕ) → useAt (v′ .table) d ≡ Comes a b → ⊥) → (i : ℕ) → l′ .covered a b i ≡ false
-    bare-at a b hd nowhere i = at (same s k a b) refl
+    bare-at : (a b : ℕ) → M .watched a ≡ true → l′ .handed a b ≡ false → ((d : ℕ) → useAt (v′ .table) d ≡ Comes a b → ⊥) → (i : ℕ) → l′ .covered a b i ≡ false
+    bare-at a b on hd nowhere i = at (same s k a b) refl
       where
         at : (t : Bool) → same s k a b ≡ t → l′ .covered a b i ≡ false
         at true q =
@@ -276,7 +278,7 @@ module _ (M : Sent) (v : View) (l : Ledger) (e : ℕ → Option Message) (tie : 
             absurd (nowhere c (use-here ∙ stays hs ∙ ap (λ (y : ℕ). Comes y k) (r .0) ∙ ap (Comes a) (r .1)))
         at false q =
             ap (λ (g : ℕ → Bool). g i) (w .cov a b q)
-            ∙ tie .bare a b (sym (w .hand a b q) ∙ hd)
+            ∙ tie .bare a b on (sym (w .hand a b q) ∙ hd)
             (λ d o.
             ⊎-elim (λ j.
             let r = m .here a b (sym (ap (useAt (v .table)) j) ∙ o) in
@@ -295,7 +297,7 @@ module _ (M : Sent) (v : View) (l : Ledger) (e : ℕ → Option Message) (tie : 
           cells = fine-at;
           bare = bare-at;
           entries = λ d.
-              ⊎-elim (λ q. ap e′ q ∙ entry-here ∙ sym (ap entryOf (ap (useAt (v′ .table)) q ∙ use-here)))
-              (λ z. entry-there d z ∙ tie .entries d ∙ sym (ap entryOf (use-there d z)))
+              ⊎-elim (λ q. ap e′ q ∙ entry-here ∙ sym (ap (entryOf M) (ap (useAt (v′ .table)) q ∙ use-here)))
+              (λ z. entry-there d z ∙ tie .entries d ∙ sym (ap (entryOf M) (use-there d z)))
               (eq-or-not d c);
         }

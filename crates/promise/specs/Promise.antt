@@ -244,29 +244,20 @@ Spread l had v (poll s ∷ es) =
 Spread l had v (ack s ∷ es) = Spread l had v es
 Spread l had v (struck s ∷ es) = Spread (without s l) (without s had) (view v (struck s)) es
 
--- the polls of s until the waiting for its reply ends, or s signs off, or to the last call
-abbrev pub pollsTill : ℕ → List TurnEvent → ℕ
-pollsTill s [] = 0
-pollsTill s (drew l ∷ es) = pollsTill s es
-pollsTill s (over x ∷ es) = cond (eqb x s) 0 (pollsTill s es)
-pollsTill s (poll x ∷ es) = cond (eqb x s) (suc (pollsTill s es)) (pollsTill s es)
-pollsTill s (ack x ∷ es) = pollsTill s es
-pollsTill s (struck x ∷ es) = cond (eqb x s) 0 (pollsTill s es)
-
--- and its acknowledgements
-abbrev pub acksTill : ℕ → List TurnEvent → ℕ
-acksTill s [] = 0
-acksTill s (drew l ∷ es) = acksTill s es
-acksTill s (over x ∷ es) = cond (eqb x s) 0 (acksTill s es)
-acksTill s (poll x ∷ es) = acksTill s es
-acksTill s (ack x ∷ es) = cond (eqb x s) (suc (acksTill s es)) (acksTill s es)
-acksTill s (struck x ∷ es) = cond (eqb x s) 0 (acksTill s es)
+-- until the waiting for the reply of s ends, or s signs off, or to the last call: p for each poll of s, and a for each acknowledgement to it
+abbrev pub till : (p a s : ℕ) → List TurnEvent → ℕ
+till p a s [] = 0
+till p a s (drew l ∷ es) = till p a s es
+till p a s (over x ∷ es) = cond (eqb x s) 0 (till p a s es)
+till p a s (poll x ∷ es) = cond (eqb x s) p 0 + till p a s es
+till p a s (ack x ∷ es) = cond (eqb x s) a 0 + till p a s es
+till p a s (struck x ∷ es) = cond (eqb x s) 0 (till p a s es)
 
 -- where a turn begins no other runs, and with the poll that begins it 'at most five and four in each turn, a running one too'
 pub record OneTurn (v : View) (s : ℕ) (es : List TurnEvent) : Type 0 where
   pub alone : v .run ≡ []
-  pub polls : suc (pollsTill s es) ≤ 5
-  pub acks : acksTill s es ≤ 4
+  pub polls : suc (till 1 0 s es) ≤ 5
+  pub acks : till 0 1 s es ≤ 4
 
 -- at an event, where v is the view before it and es is what follows it: what a list drawn up promises, what the poll that begins a turn promises, and that
 -- no poll is of a slot not listed, and no acknowledgement or end of a waiting falls outside the turns
@@ -284,14 +275,17 @@ TurnsHold v (e ∷ es) = AtEvent v e es × TurnsHold (view v e) es
 
 -- ---- the book
 
--- the messages that the boats send: of a slot, its stay and a number, the n bytes after the two of the length. A stay is the time from an admission to the
--- sign-off; a slot's stays are counted from 0 on ('A slot's next holder begins at number 0', U3)
-abbrev pub Stays : Type 0
-Stays = ℕ → ℕ → ℕ → List ℕ
+-- the boats that are watched, by slot and stay, and the messages that they send: of a slot, its stay and a number, the n bytes after the two of the length. The
+-- premises are asked of the watched boats alone, and the messages promised are theirs; any other boat may send what it likes. A stay is the time from an
+-- admission to the sign-off; a slot's stays are counted from 0 on ('A slot's next holder begins at number 0', U3)
+pub record Stays : Type 0 where
+  pub watched : ℕ → ℕ → Bool
+  pub text : ℕ → ℕ → ℕ → List ℕ
 
--- in the stays that run: of a slot and a number
-abbrev pub Sent : Type 0
-Sent = ℕ → ℕ → List ℕ
+-- the same in the stays that run: by slot, and of a slot and a number
+pub record Sent : Type 0 where
+  pub watched : ℕ → Bool
+  pub text : ℕ → ℕ → List ℕ
 
 -- one of these
 pub record Message : Type 0 where
@@ -309,14 +303,13 @@ pub record Book : Type 0 where
   pub entry : ℕ → Option Message
   pub stay : ℕ → ℕ
 
--- what is sent in them
+-- as the book has the stays
 abbrev pub sentNow : Stays → Book → Sent
-sentNow M b s k = M s (b .stay s) k
+sentNow M b = record { watched = λ s. M .watched s (b .stay s); text = λ s k. M .text s (b .stay s) k }
 
 -- 'All is empty at the start.'
 abbrev pub emptyBook : Book
-emptyBook =
-    record { ledger = record { covered = λ s k i. false; handed = λ s k. false }; entry = λ c. none; stay = λ s. 0 }
+emptyBook = record { ledger = record { covered = λ s k i. false; handed = λ s k. false }; entry = λ c. none; stay = λ s. 0 }
 
 -- what a piece or a call comes to: the ledger or the book that is left, and the messages handed over with it, in order
 pub record Entered (A : Type 0) : Type 0 where
@@ -350,7 +343,7 @@ allBelow (suc n) p = p n && allBelow n p
 
 -- 'When the last of the 2 + n is first covered, the message is handed over': of message k of slot s
 abbrev pub completes : Sent → ℕ → ℕ → Ledger → (ℕ → ℕ → ℕ → Bool) → Bool
-completes M s k l f = not (l .handed s k) && allBelow (2 + length (M s k)) (f s k)
+completes M s k l f = not (l .handed s k) && allBelow (2 + length (M .text s k)) (f s k)
 
 -- a piece of n bytes from o on: with it the message may be handed over
 abbrev pub bookPiece : Sent → ℕ → ℕ → ℕ → ℕ → Ledger → Entered Ledger
@@ -364,11 +357,15 @@ bookPiece M s k o n l =
 abbrev pub isBoats : ℕ → ℕ → Bool
 isBoats flags seen = eqb (flags / 64) tUp && isMember seen (flags % 64)
 
+-- and a watched boat's: only these are in the book
+abbrev pub isWatched : (ℕ → Bool) → ℕ → ℕ → Bool
+isWatched watched flags seen = watched (flags % 64) && isBoats flags seen
+
 -- 'One that the mask leaves unmarked covers its bytes in the message of its number.'
 unfoldable pub bookFrame : Sent → Heard → ℕ → ℕ → Bool → Ledger → Entered Ledger
 bookFrame M lost k seen marked l = unchanged l
 bookFrame M (heard flags field p) k seen marked l =
-    cond (isBoats flags seen && not marked) (bookPiece M (flags % 64) k (field % 65536) (length p) l) (unchanged l)
+    cond (isWatched (M .watched) flags seen && not marked) (bookPiece M (flags % 64) k (field % 65536) (length p) l) (unchanged l)
 
 -- 'in the order the source reads them', from frame i on, with their numbers, the members as each is read and the mask
 unfoldable pub bookFrames : Sent → List Heard → ℕ → List ℕ → List ℕ → ℕ → Ledger → Entered Ledger
@@ -408,6 +405,14 @@ enterAll [] (m ∷ ms) f = f
 enterAll (e ∷ es) [] f = f
 enterAll (e ∷ es) (m ∷ ms) f = enterAll es ms (enter (e .cell) (some m) f)
 
+-- the messages that events 2 name, in order: an event of a watched boat the next one that is handed over, and any other what it says itself, so that the book has
+-- its cell in use
+abbrev pub named : (ℕ → Bool) → List Event2 → List Message → List Message
+named watched [] ms = ms
+named watched (e ∷ es) [] = cond (watched (e .slot)) [] (record { slot = e .slot; number = e .number } ∷ named watched es [])
+named watched (e ∷ es) (m ∷ ms) =
+    cond (watched (e .slot)) (m ∷ named watched es ms) (record { slot = e .slot; number = e .number } ∷ named watched es (m ∷ ms))
+
 -- the 'four answers of the definitions run over the same calls: the members as each piece is read, the calls refused, the masks, the cells in events 2'
 pub record Answers : Type 0 where
   pub refused : Bool
@@ -437,7 +442,7 @@ bookEnds slot b =
 abbrev pub bookDone : Sent → InBook → Answers → Book → Entered Book
 bookDone M (brings words numbers lent) a b =
     let r = bookFrames M (framesBy (parse words)) 0 numbers (a .seen) (a .mask) (b .ledger) in
-    record { left = record { ledger = r .left; entry = enterAll (a .events) (r .out) (b .entry); stay = b .stay }; out = r .out }
+    record { left = record { ledger = r .left; entry = enterAll (a .events) (named (M .watched) (a .events) (r .out)) (b .entry); stay = b .stay }; out = r .out }
 bookDone M (reads cell lent) a b = unchanged b
 bookDone M (frees cell) a b = unchanged (record { ledger = b .ledger; entry = enter cell none (b .entry); stay = b .stay })
 bookDone M (ends slot) a b = unchanged (bookEnds slot b)
@@ -457,13 +462,13 @@ Lowest l s n = (l .handed s n ≡ false) × ((j : ℕ) → j < n → l .handed s
 -- not handed over as the piece is read
 pub record PieceOk (M : Sent) (l : Ledger) (s k field : ℕ) (p : List ℕ) : Type 0 where
   pub eight : field / 65536 % 256 ≡ k % 256
-  pub cut : Cut (framed (M s k)) (field % 65536) p
+  pub cut : Cut (framed (M .text s k)) (field % 65536) p
   pub near : (n : ℕ) → Lowest l s n → (n ≤ k + 128) × (k ≤ n + 127)
 
--- of a frame, if it is a boat's piece
+-- of a frame, if it is a watched boat's piece
 abbrev pub FrameOk : Sent → Ledger → Heard → ℕ → ℕ → Type 0
 FrameOk M l lost k seen = Unit {0}
-FrameOk M l (heard flags field p) k seen = isBoats flags seen ≡ true → PieceOk M l (flags % 64) k field p
+FrameOk M l (heard flags field p) k seen = isWatched (M .watched) flags seen ≡ true → PieceOk M l (flags % 64) k field p
 
 -- of frames in order, each with the ledger as it is read
 abbrev pub FramesOk : Sent → List Heard → ℕ → List ℕ → List ℕ → ℕ → Ledger → Type 0
@@ -500,11 +505,7 @@ Pairs count [] [] f = Unit {0}
 Pairs count [] (m ∷ ms) f = ⊥
 Pairs count (e ∷ es) [] f = ⊥
 Pairs count (e ∷ es) (m ∷ ms) f =
-    (e .slot ≡ m .slot)
-    × (e .number ≡ m .number % 256)
-    × (e .cell < count)
-    × (f (e .cell) ≡ none)
-    × Pairs count es ms (enter (e .cell) (some m) f)
+    (e .slot ≡ m .slot) × (e .number ≡ m .number % 256) × (e .cell < count) × (f (e .cell) ≡ none) × Pairs count es ms (enter (e .cell) (some m) f)
 
 -- 'of two alike the lower number with the earlier event': of one slot and equal mod 256, it comes first
 abbrev pub Later : Message → List Message → Type 0
@@ -522,23 +523,24 @@ abbrev pub Once : List Message → (ℕ → ℕ → Bool) → Type 0
 Once [] f = Unit {0}
 Once (m ∷ ms) f = (f (m .slot) (m .number) ≡ false) × Once ms (alsoHanded (m .slot) (m .number) f)
 
--- a reception's events 2 and the messages that the book hands over in it: they pair off, of two alike the lower number first
-pub record Paired (count : ℕ) (es : List Event2) (ms : List Message) (b : Book) : Type 0 where
-  pub pairs : Pairs count es ms (b .entry)
+-- a reception's events 2 and the messages that the book hands over in it: those of the watched boats pair off, of two alike the lower number first, and all events
+-- name cells that were empty
+pub record Paired (watched : ℕ → Bool) (count : ℕ) (es : List Event2) (ms : List Message) (b : Book) : Type 0 where
+  pub pairs : Pairs count es (named watched es ms) (b .entry)
   pub rising : Rising ms
   pub once : Once ms (b .ledger .handed)
 
--- 'A reading of the store handed on .. gives exactly the n bytes of the message entered there, or 22 if none is.'
+-- 'A reading of the store handed on .. gives exactly the n bytes of the message entered there, or 22 if none is.' Of a boat that is not watched it gives some bytes
 abbrev pub ReadsAs : Sent → Option Message → Net → ℕ → Type 0
 ReadsAs M none n cell = readRefusal (length (n .store)) (n .station .count) (n .station .landed) cell ≡ 22
 ReadsAs M (some m) n cell =
     (readRefusal (length (n .store)) (n .station .count) (n .station .landed) cell ≡ 0)
-    × (readingOf (n .station) (n .store) cell ≡ M (m .slot) (m .number))
+    × (M .watched (m .slot) ≡ true → readingOf (n .station) (n .store) cell ≡ M .text (m .slot) (m .number))
 
 -- at a call, of a station with `count` cells: what is promised of a reception, refused or not, and of a reading that no earlier check refuses, its cell below
 -- the count; and no call but a reception returns an event 2
 abbrev pub AtCall : Sent → ℕ → InBook → List Event2 → List Message → Net → Book → Type 0
-AtCall M count (brings words numbers lent) es out n b = Paired count es out b
+AtCall M count (brings words numbers lent) es out n b = Paired (M .watched) count es out b
 AtCall M count (reads cell lent) es out n b = (es ≡ []) × (cell < count → ReadsAs M (b .entry cell) n cell)
 AtCall M count (frees cell) es out n b = es ≡ []
 AtCall M count (ends slot) es out n b = es ≡ []
@@ -583,14 +585,13 @@ pub record Messages (M : Stays) (n : Net) (cs : List Call) : Type 0 where
 
 -- ---- the promise
 
--- of the calls cs from n on: relay links end, in the roster last returned; turns are fair and bounded; and where messages are at most 2,046 bytes long, after
--- the two of the length, and the calls meet the premises, each is handed over exactly as sent, once, when its kept pieces cover it
+-- of the calls cs from n on: relay links end, in the roster last returned; turns are fair and bounded; and whichever boats are watched, where their messages are at
+-- most 2,046 bytes long, after the two of the length, and their pieces meet the premises, each is handed over exactly as sent, once, when its kept pieces cover it
 pub record Promise (n : Net) (cs : List Call) : Type 0 where
   pub links : LinksHold (after cs n .station)
   pub turns : TurnsHold emptyView (trace cs n)
-  pub messages : (M : Stays) → ((s t k : ℕ) → length (M s t k) ≤ 2046) → CallsOk M cs n emptyBook → Messages M n cs
+  pub messages : (M : Stays) → ((s t k : ℕ) → M .watched s t ≡ true → length (M .text s t k) ≤ 2046) → CallsOk M cs n emptyBook → Messages M n cs
 
 -- item 3: from a start that is not refused, of any calls
 abbrev pub Item3 : Type 0
-Item3 =
-    (s : Station) (g : Given) (store : List ℕ) → startRefusal g (length store) ≡ 0 → (cs : List Call) → Promise (started s g store) cs
+Item3 = (s : Station) (g : Given) (store : List ℕ) → startRefusal g (length store) ≡ 0 → (cs : List Call) → Promise (started s g store) cs

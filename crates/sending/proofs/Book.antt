@@ -10,7 +10,7 @@ use lib.ListN.{length, getD}
 use Rattle.bits.specs.Mask.{hasBit}
 use Rattle.bits.proofs.Lists.{cond-keeps}
 use Rattle.words.specs.Words.{Heard, lost, heard}
-use Rattle.promise.specs.Promise.{Sent, Message, Ledger, Entered, same, inside, cover, alsoHanded, completes, bookPiece, isBoats, bookFrame, bookFrames}
+use Rattle.promise.specs.Promise.{Sent, Message, Ledger, Entered, same, inside, cover, alsoHanded, completes, bookPiece, isWatched, bookFrame, bookFrames}
 use Rattle.promise.proofs.Ledgers.{same-true, same-self, inside-of}
 use Rattle.sending.specs.Sending.{Among}
 
@@ -35,7 +35,7 @@ frame-more : (M : Sent) (f : Heard) (k seen : ℕ) (marked : Bool) (l : Ledger) 
 unfolding bookFrame
 frame-more M lost k seen marked l a b i h = h
 frame-more M (heard flags field p) k seen marked l a b i h =
-    cond-keeps (λ (e : Entered Ledger). Covers a b i (e .left)) (isBoats flags seen && not marked) _ _
+    cond-keeps (λ (e : Entered Ledger). Covers a b i (e .left)) (isWatched (M .watched) flags seen && not marked) _ _
     (λ _. piece-covers M (flags % 64) k (field % 65536) (length p) l a b i (cover-more (flags % 64) k (field % 65536) (length p) (l .covered) a b i h)) (λ _. h)
 
 pub frames-more : (M : Sent) (fs : List Heard) (i : ℕ) (numbers seen : List ℕ) (mask : ℕ) (l : Ledger) (a b x : ℕ)
@@ -45,8 +45,8 @@ frames-more M [] i numbers seen mask l a b x h = h
 frames-more M (f ∷ fs) i numbers seen mask l a b x h =
     frames-more M fs (i + 1) numbers seen mask _ a b x (frame-more M f (getD numbers i 0) (getD seen i 0) (hasBit mask i) l a b x h)
 
--- frame k of them is a boat's piece, and not marked
-frame-covers : (M : Sent) (flags field : ℕ) (p : List ℕ) (k seen : ℕ) (marked : Bool) (l : Ledger) → isBoats flags seen ≡ true → marked ≡ false
+-- frame k of them is a watched boat's piece, and not marked
+frame-covers : (M : Sent) (flags field : ℕ) (p : List ℕ) (k seen : ℕ) (marked : Bool) (l : Ledger) → isWatched (M .watched) flags seen ≡ true → marked ≡ false
     → (x : ℕ) → field % 65536 ≤ x → x < field % 65536 + length p → Covers (flags % 64) k x (bookFrame M (heard flags field p) k seen marked l .left)
 unfolding bookFrame
 frame-covers M flags field p k seen marked l here off x u v =
@@ -54,7 +54,7 @@ frame-covers M flags field p k seen marked l here off x u v =
     (piece-covers M (flags % 64) k (field % 65536) (length p) l (flags % 64) k x (cover-own (flags % 64) k (field % 65536) (length p) (l .covered) x u v))
 
 pub frames-cover : (M : Sent) (fs : List Heard) (i k : ℕ) (numbers seen : List ℕ) (mask : ℕ) (l : Ledger) (flags field : ℕ) (p : List ℕ)
-    → getD fs k lost ≡ heard flags field p → isBoats flags (getD seen (i + k) 0) ≡ true → hasBit mask (i + k) ≡ false
+    → getD fs k lost ≡ heard flags field p → isWatched (M .watched) flags (getD seen (i + k) 0) ≡ true → hasBit mask (i + k) ≡ false
     → (x : ℕ) → field % 65536 ≤ x → x < field % 65536 + length p → Covers (flags % 64) (getD numbers (i + k) 0) x (bookFrames M fs i numbers seen mask l .left)
 unfolding bookFrames
 frames-cover M [] i k numbers seen mask l flags field p e here off x u v = absurd (let z : _≡_ {A = ℕ} 0 1 = cc in omega arith)
@@ -68,7 +68,7 @@ frames-cover M (f ∷ fs) i (suc k) numbers seen mask l flags field p e here off
     let z : i + 1 + k ≡ i + suc k = omega arith in
     subst (λ (j : ℕ). Covers (flags % 64) (getD numbers j 0) x (bookFrames M fs (i + 1) numbers seen mask (bookFrame M f (getD numbers i 0) (getD seen i 0) (hasBit mask i) l .left) .left)) z
     (frames-cover M fs (i + 1) k numbers seen mask _ flags field p e
-    (subst (λ (j : ℕ). isBoats flags (getD seen j 0) ≡ true) (sym z) here) (subst (λ (j : ℕ). hasBit mask j ≡ false) (sym z) off) x u v)
+    (subst (λ (j : ℕ). isWatched (M .watched) flags (getD seen j 0) ≡ true) (sym z) here) (subst (λ (j : ℕ). hasBit mask j ≡ false) (sym z) off) x u v)
 
 -- ---- what is handed over
 
@@ -95,7 +95,7 @@ frame-new : (M : Sent) (f : Heard) (k seen : ℕ) (marked : Bool) (l : Ledger) (
 unfolding bookFrame
 frame-new M lost k seen marked l a b = λ h. inl h
 frame-new M (heard flags field p) k seen marked l a b =
-    cond-keeps (New a b l) (isBoats flags seen && not marked) _ _ (λ _. piece-new M (flags % 64) k (field % 65536) (length p) l a b) (λ _ h. inl h)
+    cond-keeps (New a b l) (isWatched (M .watched) flags seen && not marked) _ _ (λ _. piece-new M (flags % 64) k (field % 65536) (length p) l a b) (λ _ h. inl h)
 
 pub among-front : {A : Type 0} (x : A) (l r : List A) → Among x l → Among x (l ++ r)
 among-front x [] r h = absurd h

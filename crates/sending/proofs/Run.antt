@@ -108,12 +108,8 @@ steps =
     ∷ answer (headWord tiny kAck (ackExtra 0 1 1)) 1 (some 0 ∷ []) 1 16384 16384
     ∷ [])
 
--- the other boats send nothing
-abbrev nobody : Stays
-nobody s t k = []
-
 abbrev M : Stays
-M = sentBy 0 ((104 ∷ 105 ∷ []) ∷ []) nobody
+M = sentBy 0 ((104 ∷ 105 ∷ []) ∷ [])
 
 abbrev begin : Ends
 begin = ends.fresh (net (newStation (settingsOf plain) 1) bytes)
@@ -207,7 +203,7 @@ hi-ok = (
             (
               tt,
               (
-                (tt, λ r. (tt, ((λ m. (λ e. record { b = 0; j = 1; sent = (omega arith, omega arith); same = record { number-is = refl; field-is = refl; bytes-are = refl }; near = λ n w. near 0 n (omega arith) (λ b. apart (w .1 1 b)) }, λ z. absurd (z refl))), tt))),
+                (tt, λ r. (tt, ((λ m e. record { b = 0; j = 1; sent = (omega arith, omega arith); same = record { number-is = refl; field-is = refl; bytes-are = refl }; near = λ n w. near 0 n (omega arith) (λ b. apart (w .1 1 b)) }), tt))),
                 (
                   record { came = inl refl; returned = inl refl; ack = refl; carried = two-cases _ ((omega arith, omega arith), tt) ((omega arith, omega arith), (refl, record { number-is = refl; field-is = refl; bytes-are = refl })) },
                   (
@@ -215,7 +211,7 @@ hi-ok = (
                     (
                       tt,
                       (
-                        (tt, λ r. ((λ m. (λ e. record { b = 1; j = 0; sent = (omega arith, omega arith); same = record { number-is = refl; field-is = refl; bytes-are = refl }; near = λ n w. near 0 n (omega arith) (λ b. apart (w .1 1 b)) }, λ z. absurd (z refl))), tt)),
+                        (tt, λ r. ((λ m e. record { b = 1; j = 0; sent = (omega arith, omega arith); same = record { number-is = refl; field-is = refl; bytes-are = refl }; near = λ n w. near 0 n (omega arith) (λ b. apart (w .1 1 b)) }), tt)),
                         (record { came = inr (inl refl); returned = inr (inl refl); ack = refl; carried = one-case _ ((omega arith, omega arith), (refl, record { number-is = refl; field-is = refl; bytes-are = refl })) }, tt),
                       ),
                     ),
@@ -231,8 +227,98 @@ hi-ok = (
 )
 
 -- and so does what is promised
-pub hi-promised : (s : Station) → Holds 0 (posted steps start) (sentBy 0 (posted steps start) nobody) steps (ends.fresh (started s plain bytes))
+pub hi-promised : (s : Station) → Holds 0 (posted steps start) (sentBy 0 (posted steps start)) steps (ends.fresh (started s plain bytes))
 hi-promised s =
-    sending-end s plain bytes plain-starts 0 (omega arith) nobody (λ s t k. omega arith) steps
-    (subst (λ (b : List (List ℕ)). StepsOk 0 (sentBy 0 b nobody) steps (ends.fresh (started s plain bytes))) (sym (hi-run .posts))
+    sending-end s plain bytes plain-starts 0 (omega arith) steps
+    (subst (λ (b : List (List ℕ)). StepsOk 0 (sentBy 0 b) steps (ends.fresh (started s plain bytes))) (sym (hi-run .posts))
     (subst (λ (n : Net). StepsOk 0 M steps (ends.fresh n)) (starts s plain bytes plain-starts) hi-ok))
+
+-- ---- another boat breaks what item 3 asks of its own messages
+
+-- boat B is admitted too, and sends byte 2 of its number 0 as 104 and as 111, beside this boat's pieces
+abbrev noisy : List Step
+noisy =
+    shore (admission (packCall (65 ∷ 32 ∷ 32 ∷ 32 ∷ 32 ∷ 32 ∷ 32 ∷ [])) 63 nil 8192)
+    ∷ post (104 ∷ 105 ∷ []) 16384
+    ∷ shore next-call
+    ∷ shore sent-call
+    ∷ shore next-call
+    ∷ shore sent-call
+    ∷ shore (admission (packCall (66 ∷ 32 ∷ 32 ∷ 32 ∷ 32 ∷ 32 ∷ 32 ∷ [])) 63 nil 8192)
+    ∷ take 2 64 8192 16384 16384
+    ∷ shore (hears 4 (lost ∷ heard 0 2 (104 ∷ 105 ∷ []) ∷ heard 1 0 (2 ∷ 0 ∷ 104 ∷ []) ∷ heard 1 2 (111 ∷ 105 ∷ []) ∷ []) (0 ∷ 0 ∷ 0 ∷ 0 ∷ []))
+    ∷ answer (headWord tiny kPollack (ackExtra 0 0 14)) 0 (some 0 ∷ some 1 ∷ []) 0 16384 16384
+    ∷ shore sent-call
+    ∷ take 255 64 8192 16384 16384
+    ∷ shore (hears 1 (heard 0 0 (2 ∷ 0 ∷ []) ∷ []) (0 ∷ []))
+    ∷ answer (headWord tiny kAck (ackExtra 0 1 1)) 1 (some 0 ∷ []) 1 16384 16384
+    ∷ []
+
+abbrev room : Ends
+room = ends.fresh (net (newStation (settingsOf plain) 2) (replicate 12800 7))
+
+-- B's lands too, in the other cell, as it happened to come; this boat's is as it was posted
+pub record NoisyRun : Type 0 where
+  pub posts : posted noisy start ≡ (104 ∷ 105 ∷ []) ∷ []
+  pub holds : after noisy room .run .box .msgs ≡ []
+  pub lands : after noisy room .landings
+      ≡ record { message = record { slot = 1; number = 0 }; event = record { slot = 1; cell = 1; number = 0 }; bytes = 104 ∷ 105 ∷ [] }
+      ∷ record { message = record { slot = 0; number = 0 }; event = record { slot = 0; cell = 0; number = 0 }; bytes = 104 ∷ 105 ∷ [] }
+      ∷ []
+
+pub noisy-run : NoisyRun
+unfolding after size units round sum add mul lt le ofInt ofBits first fold every any hasBit withBit withoutBit bothOf eitherOf minusOf lowestBit lowestFree slotsOf stop levelBelow totalLt digit char trimStart trimEnd unpacked shifted widened widenedAt wordOk payloadOk unpack payload frameOf itemAt framesOf headOk parse pack framesWords chunksOf seek next grow settle store await cells.accept showsOf slideOf markOf ownCell putOf accept heardAt relaySrcFor turnOver isMember newStation onTxDone seatOf findCall leadsTo pollBurst acksBurst beaconRows beaconPayload beyond beaconOf tellAll listSent rxListBurst triedOf sourceFor promoteAt promoteAll moveAt moveAll rerouteOf maskWhere rowsOn leastReach leastDirect pollStage listFor drawStage rerouteStage roundEnd actOf windowStage againStage dueOf ncsNext pieceFrame readFrame frameStep readFrames replyEnd ncsRx admitRefusal admitOf receiveRefusal receiveOf nextRefusal nextOf sentOf readRefusal cellRefusal readingOf cut-up recut picked swept sweep sweep-out fresh fresh-out lens take-out retain remove acked result item3.step cover alsoHanded allBelow bookFrame bookFrames eventsIn acksFrom doneBy runAfter bodiesIn posted stepped runs.step
+noisy-run = record { posts = refl; holds = refl; lands = refl }
+
+-- and the premises hold, which ask nothing of B's pieces
+pub noisy-ok : StepsOk 0 M noisy room
+unfolding StepsOk size units round sum add mul lt le ofInt ofBits first fold every any hasBit withBit withoutBit bothOf eitherOf minusOf lowestBit lowestFree slotsOf stop levelBelow totalLt digit char trimStart trimEnd unpacked shifted widened widenedAt wordOk payloadOk unpack payload frameOf itemAt framesOf headOk parse pack framesWords chunksOf seek next grow settle store await cells.accept showsOf slideOf markOf ownCell putOf accept heardAt relaySrcFor turnOver isMember newStation onTxDone seatOf findCall leadsTo pollBurst acksBurst beaconRows beaconPayload beyond beaconOf tellAll listSent rxListBurst triedOf sourceFor promoteAt promoteAll moveAt moveAll rerouteOf maskWhere rowsOn leastReach leastDirect pollStage listFor drawStage rerouteStage roundEnd actOf windowStage againStage dueOf ncsNext pieceFrame readFrame frameStep readFrames replyEnd ncsRx admitRefusal admitOf receiveRefusal receiveOf nextRefusal nextOf sentOf readRefusal cellRefusal readingOf cut-up recut picked swept sweep sweep-out fresh fresh-out lens take-out retain remove acked result item3.step cover alsoHanded allBelow bookFrame bookFrames eventsIn acksFrom doneBy runAfter bodiesIn posted stepped runs.step
+noisy-ok = (
+  tt,
+  (
+    (λ q. omega arith),
+    (
+      tt,
+      (
+        tt,
+        (
+          tt,
+          (
+            tt,
+            (
+              tt,
+              (
+                tt,
+                (
+                  (
+                    tt,
+                    λ r. (
+                      tt,
+                      (
+                        (λ m e. record { b = 0; j = 1; sent = (omega arith, omega arith); same = record { number-is = refl; field-is = refl; bytes-are = refl }; near = λ n w. near 0 n (omega arith) (λ b. apart (w .1 1 b)) }),
+                        ((λ m e. absurd (omega arith)), ((λ m e. absurd (omega arith)), tt)),
+                      ),
+                    ),
+                  ),
+                  (
+                    record { came = inl refl; returned = inr (inr (inl refl)); ack = refl; carried = two-cases _ ((omega arith, omega arith), tt) ((omega arith, omega arith), (refl, record { number-is = refl; field-is = refl; bytes-are = refl })) },
+                    (
+                      tt,
+                      (
+                        tt,
+                        (
+                          (tt, λ r. ((λ m e. record { b = 1; j = 0; sent = (omega arith, omega arith); same = record { number-is = refl; field-is = refl; bytes-are = refl }; near = λ n w. near 0 n (omega arith) (λ b. apart (w .1 1 b)) }), tt)),
+                          (record { came = inr (inl refl); returned = inr (inl refl); ack = refl; carried = one-case _ ((omega arith, omega arith), (refl, record { number-is = refl; field-is = refl; bytes-are = refl })) }, tt),
+                        ),
+                      ),
+                    ),
+                  ),
+                ),
+              ),
+            ),
+          ),
+        ),
+      ),
+    ),
+  ),
+)

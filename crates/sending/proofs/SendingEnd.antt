@@ -11,7 +11,7 @@ use lib.Dec.{eqb, ltb, leb}
 use lib.ListN.{length, getD}
 use borrow.Author.Tests.{eqb-true, ltb-false, eq-eqb, ne-eqb}
 use Rattle.bits.specs.Mask.{hasBit}
-use Rattle.bits.proofs.Lists.{cond-keeps, eq-or-not, never-both}
+use Rattle.bits.proofs.Lists.{and-true, cond-keeps, eq-or-not, never-both}
 use Rattle.words.specs.Words.{Heard, lost, heard, parse}
 use Rattle.inbox.specs.Messages.{framed, Cut}
 use Rattle.net.specs.declared.Station.{Station}
@@ -24,7 +24,7 @@ use Rattle.outbox.specs.Bursts.{msg-field}
 use Rattle.outbox.specs.Senders.{postRefusal, takeRefusal, memoryRefusal, bothRefusal}
 use Rattle.outbox.proofs.Bursting.{take-open}
 use Rattle.promise.specs.Promise as item3
-use Rattle.promise.specs.Promise.{Call, admission, reception, decision, sending, closing, reading, freeing, charging, signing, asking, handed, lentTo, Net, result, InBook, brings, reads, frees, ends, changesNothing, inBook, outcome, isRefused, Answers, answersOf, Stays, sentNow, Ledger, Book, Entered, unchanged, emptyBook, Message, Event2, enter, enterAll, bookFrames, bookEnds, bookDone, bookCall, framesBy, isBoats, allBelow, PieceOk, FrameOk, FramesOk, CallOk, Pairs, ReadsAs, AtCall, started}
+use Rattle.promise.specs.Promise.{Call, admission, reception, decision, sending, closing, reading, freeing, charging, signing, asking, handed, lentTo, Net, result, InBook, brings, reads, frees, ends, changesNothing, inBook, outcome, isRefused, Answers, answersOf, Stays, sentNow, Ledger, Book, Entered, unchanged, emptyBook, Message, Event2, enter, enterAll, bookFrames, bookEnds, bookDone, bookCall, framesBy, isBoats, isWatched, named, PieceOk, FrameOk, FramesOk, CallOk, Pairs, ReadsAs, AtCall, started}
 use Rattle.promise.proofs.Ledgers.{all-of}
 use Rattle.promise.proofs.Messages.{Tied, started-tied, StayGood, call-good}
 use Rattle.promise.proofs.Readings.{chain-count}
@@ -91,8 +91,8 @@ step-count c n = chain-count (step-walk all tt tt c n (λ words snr now lent roo
 reception-pairs : (N : item3.Sent) (n : Net) (b : Book) (a : Answers) (k : InBook) (t : Bool) (m : Message)
     → AtCall N (n .station .count) k (a .events) (cond t (unchanged b) (bookDone N k a b) .out) n b
     → Among m (cond t (unchanged b) (bookDone N k a b) .out)
-    → Pairs (n .station .count) (a .events) (cond t (unchanged b) (bookDone N k a b) .out) (b .entry)
-    × (cond t (unchanged b) (bookDone N k a b) .left .entry ≡ enterAll (a .events) (cond t (unchanged b) (bookDone N k a b) .out) (b .entry))
+    → Pairs (n .station .count) (a .events) (named (N .watched) (a .events) (cond t (unchanged b) (bookDone N k a b) .out)) (b .entry)
+    × (cond t (unchanged b) (bookDone N k a b) .left .entry ≡ enterAll (a .events) (named (N .watched) (a .events) (cond t (unchanged b) (bookDone N k a b) .out)) (b .entry))
 reception-pairs N n b a k true m p h = absurd h
 reception-pairs N n b a (brings words numbers lent) false m p h = (p .pairs, refl)
 reception-pairs N n b a (reads cell lent) false m p h = absurd h
@@ -100,39 +100,53 @@ reception-pairs N n b a (frees cell) false m p h = absurd h
 reception-pairs N n b a (ends slot) false m p h = absurd h
 reception-pairs N n b a changesNothing false m p h = absurd h
 
-module _ (slot : ℕ) (low : slot < 62) (bodies : List (List ℕ)) (M : Stays) (small : (s t k : ℕ) → length (M s t k) ≤ 2046)
-    (mine : (k : ℕ) → M slot 0 k ≡ getD bodies k []) where
-  -- this boat's messages in the stay that runs
-  own-now : (b : Book) → b .stay slot ≡ 0 → (k : ℕ) → sentNow M b slot k ≡ own slot bodies k
-  own-now b e k = ap (λ (t : ℕ). M slot t k) e ∙ mine k
+-- where they pair off, each message that is handed over is named
+named-among : (watched : ℕ → Bool) (es : List Event2) (ms : List Message) (m : Message) → Among m ms → Among m (named watched es ms)
+named-among watched [] ms m h = h
+named-among watched (e ∷ es) [] m h = absurd h
+named-among watched (e ∷ es) (x ∷ ms) m (inl q) =
+    cond-keeps (Among m) (watched (e .slot)) _ _ (λ _. inl q) (λ _. inr (named-among watched es (x ∷ ms) m (inl q)))
+named-among watched (e ∷ es) (x ∷ ms) m (inr h) =
+    cond-keeps (Among m) (watched (e .slot)) _ _ (λ _. inr (named-among watched es ms m h)) (λ _. inr (named-among watched es (x ∷ ms) m (inr h)))
+
+module _ (slot : ℕ) (low : slot < 62) (bodies : List (List ℕ)) (small : (k : ℕ) → length (getD bodies k []) ≤ 2046) where
+  abbrev M : Stays
+  M = sentBy slot bodies
+
+  on : eqb slot slot ≡ true
+  on = eq-eqb slot slot refl
+
+  small-all : (s t k : ℕ) → eqb s slot ≡ true → length (getD bodies k []) ≤ 2046
+  small-all s t k q = small k
 
   -- ---- the premises of item 3
 
   field-parts : (seq off : ℕ) → off < 65536 → (msg-field seq off / 65536 % 256 ≡ seq % 256) × (msg-field seq off % 65536 ≡ off)
   field-parts seq off h = (omega arith, omega arith)
 
-  module _ (b : Book) (stay : b .stay slot ≡ 0) (bursts : List (List Sent)) (cuts : (x j : ℕ) → Is bursts x j → CutOf slot bodies (piece bursts x j)) where
+  module _ (b : Book) (bursts : List (List Sent)) (cuts : (x j : ℕ) → Is bursts x j → CutOf slot bodies (piece bursts x j)) where
     ours-ok : (l : Ledger) (number field : ℕ) (p : List ℕ) → Ours slot bursts l number field p → PieceOk (sentNow M b) l slot number field p
     ours-ok l number field p o =
         let x = piece bursts (o .b) (o .j) in
         let c = cuts (o .b) (o .j) (o .sent) in
-        let e = own-now b stay number ∙ ap (own slot bodies) (o .same .number-is) in
-        let n : length (own slot bodies (x .seq)) ≤ 2046 = subst (λ (y : List ℕ). length y ≤ 2046) (own-now b stay (x .seq)) (small slot (b .stay slot) (x .seq)) in
+        let n = small (x .seq) in
         let f = c .fits in
         let q = field-parts (x .seq) (x .off) (omega arith) in
         record {
           eight = ap (λ (y : ℕ). y / 65536 % 256) (o .same .field-is) ∙ q .0 ∙ ap (λ (y : ℕ). y % 256) (sym (o .same .number-is));
           cut =
-              subst (λ (y : List ℕ). Cut (framed y) (field % 65536) p) (sym e)
+              subst (λ (y : ℕ). Cut (framed (own slot bodies y)) (field % 65536) p) (sym (o .same .number-is))
               (subst (λ (y : ℕ). Cut (framed (own slot bodies (x .seq))) y p) (sym (ap (λ (y : ℕ). y % 65536) (o .same .field-is) ∙ q .1))
               (subst (λ (y : List ℕ). Cut (framed (own slot bodies (x .seq))) (x .off) y) (sym (o .same .bytes-are)) c));
           near = o .near;
         }
 
-    frame-ok : (l : Ledger) (f : Heard) (k seen : ℕ) → FrameFrom slot bursts (sentNow M b) l f k seen → FrameOk (sentNow M b) l f k seen
+    frame-ok : (l : Ledger) (f : Heard) (k seen : ℕ) → FrameFrom slot bursts l f k seen → FrameOk (sentNow M b) l f k seen
     frame-ok l lost k seen h = tt
     frame-ok l (heard flags field p) k seen h = λ here.
-        ⊎-elim (λ e. subst (λ (s : ℕ). PieceOk (sentNow M b) l s k field p) (sym e) (ours-ok l k field p (h here .0 e))) (λ e. h here .1 e) (eq-or-not (flags % 64) slot)
+        let q = and-true (eqb (flags % 64) slot) (isBoats flags seen) here in
+        let e = eqb-true (flags % 64) slot (q .0) in
+        subst (λ (s : ℕ). PieceOk (sentNow M b) l s k field p) (sym e) (ours-ok l k field p (h (q .1) e))
 
     frames-ok : (fs : List Heard) (i : ℕ) (numbers seen : List ℕ) (mask : ℕ) (l : Ledger)
         → FramesFrom slot bursts (sentNow M b) fs i numbers seen mask l → FramesOk (sentNow M b) fs i numbers seen mask l
@@ -150,38 +164,34 @@ module _ (slot : ℕ) (low : slot < 62) (bodies : List (List ℕ)) (M : Stays) (
   -- ---- what a call leaves of this boat's part of the book
 
   record Onward (b : Book) (e : Entered Book) : Type 0 where
-    stay : e .left .stay slot ≡ b .stay slot
     more : (k i : ℕ) → b .ledger .covered slot k i ≡ true → e .left .ledger .covered slot k i ≡ true
     new : (k : ℕ) → e .left .ledger .handed slot k ≡ true → (b .ledger .handed slot k ≡ true) ⊎ Among (record { slot = slot; number = k }) (e .out)
 
-  same-ledger : (b : Book) (e : Entered Book) → e .left .stay ≡ b .stay → e .left .ledger ≡ b .ledger → Onward b e
-  same-ledger b e p q =
+  same-ledger : (b : Book) (e : Entered Book) → e .left .ledger ≡ b .ledger → Onward b e
+  same-ledger b e q =
       record {
-        stay = ap (λ (f : ℕ → ℕ). f slot) p;
         more = λ k i h. ap (λ (l : Ledger). l .covered slot k i) q ∙ h;
         new = λ k h. inl (ap (λ (l : Ledger). l .handed slot k) (sym q) ∙ h);
       }
 
   onward : (N : item3.Sent) (b : Book) (bursts : List (List Sent)) (a : Answers) (k : InBook) (t : Bool) → a .refused ≡ t → CallFrom slot bursts N k a b
       → Onward b (cond t (unchanged b) (bookDone N k a b))
-  onward N b bursts a k true q h = same-ledger b (unchanged b) refl refl
+  onward N b bursts a k true q h = same-ledger b (unchanged b) refl
   onward N b bursts a (brings words numbers lent) false q h =
       record {
-        stay = refl;
         more = λ k i c. frames-more N (framesBy (parse words)) 0 numbers (a .seen) (a .mask) (b .ledger) slot k i c;
         new = λ k c. frames-new N (framesBy (parse words)) 0 numbers (a .seen) (a .mask) (b .ledger) slot k c;
       }
-  onward N b bursts a (reads cell lent) false q h = same-ledger b _ refl refl
-  onward N b bursts a (frees cell) false q h = same-ledger b _ refl refl
+  onward N b bursts a (reads cell lent) false q h = same-ledger b _ refl
+  onward N b bursts a (frees cell) false q h = same-ledger b _ refl
   onward N b bursts a (ends s) false q h =
       let z = ne-eqb s slot (h q) in
       unfold bookEnds in
       record {
-        stay = ap (λ (t : Bool). cond t (suc (b .stay slot)) (b .stay slot)) z;
         more = λ k i c. ap (λ (t : Bool). cond t false (b .ledger .covered slot k i)) z ∙ c;
         new = λ k c. inl (sym (ap (λ (t : Bool). cond t false (b .ledger .handed slot k)) z) ∙ c);
       }
-  onward N b bursts a changesNothing false q h = same-ledger b _ refl refl
+  onward N b bursts a changesNothing false q h = same-ledger b _ refl
 
   -- ---- an acknowledgement's bit means a piece covered
 
@@ -204,9 +214,9 @@ module _ (slot : ℕ) (low : slot < 62) (bodies : List (List ℕ)) (M : Stays) (
       let r : flags % 64 ≡ slot = omega arith in
       (rw (q, r, h) refl, r)
 
-  kept-covered : (N : item3.Sent) (fs : List Heard) (numbers seen : List ℕ) (mask : ℕ) (l : Ledger) (i : ℕ) → KeptAt slot (getD fs i lost) mask i seen
+  kept-covered : (N : item3.Sent) → N .watched slot ≡ true → (fs : List Heard) (numbers seen : List ℕ) (mask : ℕ) (l : Ledger) (i : ℕ) → KeptAt slot (getD fs i lost) mask i seen
       → CoveredBy (bookFrames N fs 0 numbers seen mask l .left) (getD fs i lost) (getD numbers i 0)
-  kept-covered N fs numbers seen mask l i k = at (getD fs i lost) refl
+  kept-covered N w fs numbers seen mask l i k = at (getD fs i lost) refl
     where
       at : (f : Heard) → getD fs i lost ≡ f → CoveredBy (bookFrames N fs 0 numbers seen mask l .left) f (getD numbers i 0)
       at lost q = never-both (isThere (getD fs i lost)) (k .there) (ap isThere q)
@@ -216,32 +226,33 @@ module _ (slot : ℕ) (low : slot < 62) (bodies : List (List ℕ)) (M : Stays) (
           subst (λ (j : ℕ). bookFrames N fs 0 numbers seen mask l .left .covered slot (getD numbers j 0) x ≡ true) z
           (subst (λ (s : ℕ). bookFrames N fs 0 numbers seen mask l .left .covered s (getD numbers (0 + i) 0) x ≡ true) (r .1)
           (frames-cover N fs 0 i numbers seen mask l flags field p q
-          (subst (λ (j : ℕ). isBoats flags (getD seen j 0) ≡ true) (sym z) (r .0)) (subst (λ (j : ℕ). hasBit mask j ≡ false) (sym z) (k .unmarked)) x u v))
+          (subst (λ (j : ℕ). isWatched (N .watched) flags (getD seen j 0) ≡ true) (sym z)
+          (ap (λ (y : ℕ). N .watched y && isBoats flags (getD seen i 0)) (r .1) ∙ ap (λ (t : Bool). t && isBoats flags (getD seen i 0)) w ∙ r .0)) (subst (λ (j : ℕ). hasBit mask j ≡ false) (sym z) (k .unmarked)) x u v))
 
   -- the reception that a call is, if it is one
   abbrev NewAcked : item3.Sent → Call → Net → Book → Type 0
   NewAcked N c n b = (r : Reception) → Among r (receptionBy (inBook c) (outcome c n .words)) → Acked (bookCall N c n b .left .ledger) r
 
-  new-acked : (N : item3.Sent) (c : Call) (n : Net) (b : Book) → Polled (n .station) → NewAcked N c n b
+  new-acked : (N : item3.Sent) → N .watched slot ≡ true → (c : Call) (n : Net) (b : Book) → Polled (n .station) → NewAcked N c n b
   unfolding result
-  new-acked N (admission packed relay now room) n b p r h = absurd h
-  new-acked N (decision now room) n b p r h = absurd h
-  new-acked N (sending now) n b p r h = absurd h
-  new-acked N (closing count) n b p r h = absurd h
-  new-acked N (reading cell lent) n b p r h = absurd h
-  new-acked N (freeing cell) n b p r h = absurd h
-  new-acked N (charging figures) n b p r h = absurd h
-  new-acked N (asking slot) n b p r h = absurd h
-  new-acked N (signing s) n b p r h = absurd h
-  new-acked N (reception words snr now lent room numbers) n b p r (inr h) = absurd h
-  new-acked N (reception words snr now lent room numbers) n b p r (inl q) =
+  new-acked N o (admission packed relay now room) n b p r h = absurd h
+  new-acked N o (decision now room) n b p r h = absurd h
+  new-acked N o (sending now) n b p r h = absurd h
+  new-acked N o (closing count) n b p r h = absurd h
+  new-acked N o (reading cell lent) n b p r h = absurd h
+  new-acked N o (freeing cell) n b p r h = absurd h
+  new-acked N o (charging figures) n b p r h = absurd h
+  new-acked N o (asking slot) n b p r h = absurd h
+  new-acked N o (signing s) n b p r h = absurd h
+  new-acked N o (reception words snr now lent room numbers) n b p r (inr h) = absurd h
+  new-acked N o (reception words snr now lent room numbers) n b p r (inl q) =
       subst (Acked (bookCall N (reception words snr now lent room numbers) n b .left .ledger)) (sym q)
       (λ w m t i l h.
       let k = ack-kept slot (n .station) p words snr now (lentTo lent (n .store)) room w m t i l h in
       let z : isRefused (reception words snr now lent room numbers) n ≡ false = ap (λ (y : Bool). cond y false true) (eq-eqb (outcome (reception words snr now lent room numbers) n .refusal) 0 (k .0)) in
       subst (λ (y : Bool). CoveredBy (cond y (unchanged b) (bookDone N (inBook (reception words snr now lent room numbers)) (answersOf (reception words snr now lent room numbers) n) b) .left .ledger)
       (getD (framesBy (parse words)) i lost) (getD numbers i 0)) (sym z)
-      (kept-covered N (framesBy (parse words)) numbers _ _ (b .ledger) i (k .1)))
+      (kept-covered N o (framesBy (parse words)) numbers _ _ (b .ledger) i (k .1)))
 
   -- ---- the invariant
 
@@ -256,7 +267,6 @@ module _ (slot : ℕ) (low : slot < 62) (bodies : List (List ℕ)) (M : Stays) (
     run : RunInv slot bodies (x .book .ledger) (x .run) rest
     tied : Tied (sentNow M (x .book)) (x .net) (x .book)
     polled : Polled (x .net .station)
-    stay : x .book .stay slot ≡ 0
     acks : (r : Reception) → Among r (x .receptions) → Acked (x .book .ledger) r
     landed : (k : ℕ) → x .book .ledger .handed slot k ≡ true → There k (x .landings)
 
@@ -272,19 +282,20 @@ module _ (slot : ℕ) (low : slot < 62) (bodies : List (List ℕ)) (M : Stays) (
     e = bookCall (sentNow M (x .book)) c (x .net) (x .book)
 
     good : StayGood M c (x .net) (x .book)
-    good = call-good M small c (x .net) (x .book) (v .tied) (call-ok (x .book) (v .stay) (x .run .bursts) (v .run .pieces) (inBook c) (answersOf c (x .net)) ok)
+    good = call-good M small-all c (x .net) (x .book) (v .tied) (call-ok (x .book) (x .run .bursts) (v .run .pieces) (inBook c) (answersOf c (x .net)) ok)
 
-    on : Onward (x .book) e
-    on = onward (sentNow M (x .book)) (x .book) (x .run .bursts) (answersOf c (x .net)) (inBook c) (isRefused c (x .net)) refl ok
+    went : Onward (x .book) e
+    went = onward (sentNow M (x .book)) (x .book) (x .run .bursts) (answersOf c (x .net)) (inBook c) (isRefused c (x .net)) refl ok
 
-    stay-on : e .left .stay slot ≡ 0
-    stay-on = on .stay ∙ v .stay
+    abbrev names : List Message
+    names = named (λ s. eqb s slot) (answersOf c (x .net) .events) (e .out)
 
-    there-new : (k : ℕ) → Among (record { slot = slot; number = k }) (e .out) → There k (landingsOf (answersOf c (x .net) .events) (e .out) (item3.step c (x .net)))
+    there-new : (k : ℕ) → Among (record { slot = slot; number = k }) (e .out) → There k (landingsOf (answersOf c (x .net) .events) names (item3.step c (x .net)))
     there-new k h =
         let p = reception-pairs (sentNow M (x .book)) (x .net) (x .book) (answersOf c (x .net)) (inBook c) (isRefused c (x .net)) (record { slot = slot; number = k }) (good .at) h in
-        let l = lands (x .net .station .count) (answersOf c (x .net) .events) (e .out) (x .book .entry) (record { slot = slot; number = k }) (item3.step c (x .net)) (p .0) h in
-        let g = call-good M small (reading (l .landing .event .cell) handed) (item3.step c (x .net)) (e .left) (good .tied) tt in
+        let l = lands (x .net .station .count) (answersOf c (x .net) .events) names (x .book .entry) (record { slot = slot; number = k }) (item3.step c (x .net)) (p .0)
+        (named-among (λ s. eqb s slot) (answersOf c (x .net) .events) (e .out) (record { slot = slot; number = k }) h) in
+        let g = call-good M small-all (reading (l .landing .event .cell) handed) (item3.step c (x .net)) (e .left) (good .tied) tt in
         let n = step-count c (x .net) in
         let below = l .below in
         let r = subst (λ (y : Option Message). ReadsAs (sentNow M (e .left)) y (item3.step c (x .net)) (l .landing .event .cell))
@@ -294,38 +305,37 @@ module _ (slot : ℕ) (low : slot < 62) (bodies : List (List ℕ)) (M : Stays) (
           written = l .written;
           message = (ap (λ (m : Message). m .slot) (l .message), ap (λ (m : Message). m .number) (l .message));
           event = (l .slot, l .number);
-          bytes = l .bytes ∙ r .1 ∙ own-now (e .left) stay-on k;
+          bytes = l .bytes ∙ r .1 on;
         }
 
     shore-inv : Inv (shoreAfter M c x) rest
     shore-inv =
         record {
-          run = ledger-inv slot bodies (x .book .ledger) (e .left .ledger) (x .run) rest (on .more) (v .run);
+          run = ledger-inv slot bodies (x .book .ledger) (e .left .ledger) (x .run) rest (went .more) (v .run);
           tied = good .tied;
           polled = step-polled c (x .net) (v .polled);
-          stay = stay-on;
           acks = λ r h.
-              ⊎-elim (λ a w m t i l q. covered-on (x .book .ledger) (e .left .ledger) (on .more) (getD (r .frames) i lost) (getD (r .numbers) i 0) (v .acks r a w m t i l q))
-              (λ a. new-acked (sentNow M (x .book)) c (x .net) (x .book) (v .polled) r a)
+              ⊎-elim (λ a w m t i l q. covered-on (x .book .ledger) (e .left .ledger) (went .more) (getD (r .frames) i lost) (getD (r .numbers) i 0) (v .acks r a w m t i l q))
+              (λ a. new-acked (sentNow M (x .book)) on c (x .net) (x .book) (v .polled) r a)
               (among-split r (x .receptions) (receptionBy (inBook c) (outcome c (x .net) .words)) h);
           landed = λ k h.
-              ⊎-elim (λ a. there-front k (x .landings) (landingsOf (answersOf c (x .net) .events) (e .out) (item3.step c (x .net))) (v .landed k a))
+              ⊎-elim (λ a. there-front k (x .landings) (landingsOf (answersOf c (x .net) .events) names (item3.step c (x .net))) (v .landed k a))
               (λ a.
               let t = there-new k a in
               record {
                 landing = t .landing;
-                written = among-back (t .landing) (x .landings) (landingsOf (answersOf c (x .net) .events) (e .out) (item3.step c (x .net))) (t .written);
+                written = among-back (t .landing) (x .landings) (landingsOf (answersOf c (x .net) .events) names (item3.step c (x .net))) (t .written);
                 message = t .message;
                 event = t .event;
                 bytes = t .bytes;
               })
-              (on .new k h);
+              (went .new k h);
         }
 
   -- ---- this end's calls
 
   own-inv : (x : Ends) (s : Step) (rest : List (List ℕ)) (w : List (List ℕ)) → Inv x w → RunInv slot bodies (x .book .ledger) (sender s (x .run)) rest → Inv (ownAfter s x) rest
-  own-inv x s rest w v r = record { run = r; tied = v .tied; polled = v .polled; stay = v .stay; acks = v .acks; landed = v .landed }
+  own-inv x s rest w v r = record { run = r; tied = v .tied; polled = v .polled; acks = v .acks; landed = v .landed }
 
   -- one event, or none where the call is refused
   abbrev Goes : Ledger → Run → List (List ℕ) → List Event → Type 0
@@ -363,7 +373,7 @@ module _ (slot : ℕ) (low : slot < 62) (bodies : List (List ℕ)) (M : Stays) (
   carried-kept l bs sent j (heard flags field p) number c i h k =
       let x = piece bs sent j in
       let m = h .1 in
-      let n : length (own slot bodies (x .seq)) ≤ 2046 = subst (λ (y : List ℕ). length y ≤ 2046) (mine (x .seq)) (small slot 0 (x .seq)) in
+      let n = small (x .seq) in
       let f = c .fits in
       let o : field % 65536 ≡ x .off = ap (λ (y : ℕ). y % 65536) (m .field-is) ∙ field-parts (x .seq) (x .off) (omega arith) .1 in
       let w : length p ≡ length (x .bytes) = ap length (m .bytes-are) in
@@ -381,10 +391,8 @@ module _ (slot : ℕ) (low : slot < 62) (bodies : List (List ℕ)) (M : Stays) (
 
   whole-landed : (x : Ends) (rest : List (List ℕ)) → Inv x rest → (q : ℕ) → Whole slot bodies (x .book .ledger) q → Landed slot q (own slot bodies q) x
   whole-landed x rest v q h =
-      let e = own-now (x .book) (v .stay) q in
       let z : x .book .ledger .handed slot q ≡ true =
       v .tied .tie .says slot q
-      ∙ ap (λ (y : List ℕ). allBelow (2 + length y) (x .book .ledger .covered slot q)) e
       ∙ all-of (2 + length (own slot bodies q)) (x .book .ledger .covered slot q) h in
       let t = v .landed q z in
       record { handed = z; landing = t .landing; written = t .written; message = t .message; event = t .event; bytes = t .bytes }
@@ -482,7 +490,6 @@ module _ (slot : ℕ) (low : slot < 62) (bodies : List (List ℕ)) (M : Stays) (
         };
         tied = started-tied (sentNow M emptyBook) s g store e;
         polled = start-polled s g store e;
-        stay = refl;
         acks = λ r h. absurd h;
         landed = λ k h. absurd (never-both false h refl);
       }
@@ -532,8 +539,6 @@ posted-short [] r = tt
 posted-short (e ∷ es) r = body-join (bodiesIn (doneBy e r)) (posted es (sender e r)) (step-short e r) (posted-short es (sender e r))
 
 pub sending-end : SendingEnd
-sending-end s g store z slot low others small es ok =
-    steps-hold slot low (posted es start) (sentBy slot (posted es start) others)
-    (λ a t k. cond-keeps (λ (l : List ℕ). length l ≤ 2046) (eqb a slot && eqb t 0) _ _ (λ _. body-at (posted es start) k (posted-short es start)) (λ _. small a t k))
-    (λ k. ap (λ (b : Bool). cond (b && eqb 0 0) (getD (posted es start) k []) (others slot 0 k)) (eq-eqb slot slot refl))
-    es (fresh (started s g store)) (start-inv slot low (posted es start) (sentBy slot (posted es start) others) _ _ s g store z) ok
+sending-end s g store z slot low es ok =
+    steps-hold slot low (posted es start) (λ k. body-at (posted es start) k (posted-short es start))
+    es (fresh (started s g store)) (start-inv slot low (posted es start) (λ k. body-at (posted es start) k (posted-short es start)) s g store z) ok

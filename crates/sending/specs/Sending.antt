@@ -19,7 +19,7 @@ use Rattle.outbox.specs.Outbox.{Sent}
 use Rattle.outbox.specs.Bursts.{msg-field}
 use Rattle.outbox.specs.Senders.{postRefusal, takeRefusal, memoryRefusal, bothRefusal}
 use Rattle.promise.specs.Promise as item3
-use Rattle.promise.specs.Promise.{Call, Net, InBook, brings, reads, frees, ends, changesNothing, inBook, outcome, Answers, answersOf, Stays, sentNow, Ledger, Book, emptyBook, Message, Event2, bookFrame, bookCall, framesBy, isBoats, Lowest, PieceOk, LentOk, started}
+use Rattle.promise.specs.Promise.{Call, Net, InBook, brings, reads, frees, ends, changesNothing, inBook, outcome, Answers, answersOf, Stays, sentNow, Ledger, Book, emptyBook, Message, Event2, bookFrame, bookCall, named, framesBy, isBoats, Lowest, LentOk, started}
 use Rattle.sending.specs.Runs.{Event, Post, Take, Ack, Stale, Held, Run, piece, Is, start, All}
 use Rattle.sending.specs.Runs as runs
 
@@ -94,9 +94,9 @@ unfoldable pub posted : List Step → Run → List (List ℕ)
 posted [] r = []
 posted (e ∷ es) r = bodiesIn (doneBy e r) ++ posted es (sender e r)
 
--- what the boats send: this boat, in its first stay, what was posted; the others as in item 3
-abbrev pub sentBy : ℕ → List (List ℕ) → Stays → Stays
-sentBy slot bodies others s t k = cond (eqb s slot && eqb t 0) (getD bodies k []) (others s t k)
+-- item 3 of this boat alone: it is the one watched, and sends what was posted; nothing is said of what the other boats send
+abbrev pub sentBy : ℕ → List (List ℕ) → Stays
+sentBy slot bodies = record { watched = λ s t. eqb s slot; text = λ s t k. getD bodies k [] }
 
 -- ---- both ends
 
@@ -130,7 +130,7 @@ receptionBy (frees cell) ws = []
 receptionBy (ends slot) ws = []
 receptionBy changesNothing ws = []
 
--- events 2 and the messages handed over pair off in order (item 3)
+-- events 2 and the messages that they name pair off in order (item 3)
 abbrev pub landingsOf : List Event2 → List Message → Net → List Landing
 landingsOf [] ms n = []
 landingsOf (e ∷ es) [] n = []
@@ -147,7 +147,7 @@ shoreAfter M c x =
       net = n;
       book = b .left;
       receptions = x .receptions ++ receptionBy (inBook c) (outcome c (x .net) .words);
-      landings = x .landings ++ landingsOf (answersOf c (x .net) .events) (b .out) n;
+      landings = x .landings ++ landingsOf (answersOf c (x .net) .events) (named (sentNow M (x .book) .watched) (answersOf c (x .net) .events) (b .out)) n;
     }
 
 abbrev pub ownAfter : Step → Ends → Ends
@@ -179,17 +179,15 @@ pub record Ours (slot : ℕ) (bursts : List (List Sent)) (l : Ledger) (number fi
   pub same : IsPiece (piece bursts b j) number field bytes
   pub near : (n : ℕ) → Lowest l slot n → (n ≤ number + 128) × (number ≤ n + 127)
 
--- a boat's piece is this boat's, or another's as item 3 has it
-abbrev pub FrameFrom : ℕ → List (List Sent) → item3.Sent → Ledger → Heard → ℕ → ℕ → Type 0
-FrameFrom slot bursts M l lost k seen = Unit {0}
-FrameFrom slot bursts M l (heard flags field p) k seen =
-    isBoats flags seen ≡ true
-    → (flags % 64 ≡ slot → Ours slot bursts l k field p) × ((flags % 64 ≡ slot → ⊥) → PieceOk M l (flags % 64) k field p)
+-- of a frame, if it is this boat's piece; nothing is asked of another's
+abbrev pub FrameFrom : ℕ → List (List Sent) → Ledger → Heard → ℕ → ℕ → Type 0
+FrameFrom slot bursts l lost k seen = Unit {0}
+FrameFrom slot bursts l (heard flags field p) k seen = isBoats flags seen ≡ true → flags % 64 ≡ slot → Ours slot bursts l k field p
 
 abbrev pub FramesFrom : ℕ → List (List Sent) → item3.Sent → List Heard → ℕ → List ℕ → List ℕ → ℕ → Ledger → Type 0
 FramesFrom slot bursts M [] i numbers seen mask l = Unit {0}
 FramesFrom slot bursts M (f ∷ fs) i numbers seen mask l =
-    FrameFrom slot bursts M l f (getD numbers i 0) (getD seen i 0)
+    FrameFrom slot bursts l f (getD numbers i 0) (getD seen i 0)
     × FramesFrom slot bursts M fs (i + 1) numbers seen mask (bookFrame M f (getD numbers i 0) (getD seen i 0) (hasBit mask i) l .left)
 
 -- 'neither store nor sender's memory is touched by others': only a refused call may be lent another; 'the boat is not signed off'
@@ -274,7 +272,6 @@ abbrev pub SendingEnd : Type 0
 SendingEnd =
     (s : Station) (g : Given) (store : List ℕ) → startRefusal g (length store) ≡ 0
     → (slot : ℕ) → slot < 62
-    → (others : Stays) → ((s t k : ℕ) → length (others s t k) ≤ 2046)
     → (es : List Step)
-    → StepsOk slot (sentBy slot (posted es start) others) es (fresh (started s g store))
-    → Holds slot (posted es start) (sentBy slot (posted es start) others) es (fresh (started s g store))
+    → StepsOk slot (sentBy slot (posted es start)) es (fresh (started s g store))
+    → Holds slot (posted es start) (sentBy slot (posted es start)) es (fresh (started s g store))
