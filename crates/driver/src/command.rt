@@ -1,6 +1,11 @@
 // The commands: what they ask of the station, and what is printed of it.
 ghost use Prim.Native.Nat.{_≤_};
+ghost use Rattle.script.specs.Actions.{closed};
+ghost use mathlib.Core.Path.{_≡_};
+ghost use Rattle.driver.specs.Commands.{keptBy, settledBy};
+ghost use Rattle.driver.specs.Lines.{answerLines, heardBy, Said};
 use super::dump;
+use super::panel;
 use super::print;
 use net::Station;
 use script::action;
@@ -59,6 +64,9 @@ pub fn shown(
 ) -> Control {
     if let Action::Read = a {
         return read(s, c, w, lent, t);
+    }
+    if let Action::Ask = a {
+        return panel::asked(s, c, w, t);
     }
     roster(s, c, t)
 }
@@ -146,11 +154,19 @@ pub fn receive(
 }
 
 // A reception's answer printed, and the command closed.
-pub fn heard(c: Control, a: Answer, mask: u64, t: &mut [u8; 65536], out: &[u32; 8192]) -> Control {
+pub fn heard(c: Control, a: Answer, mask: u64, t: &mut [u8; 65536], out: &[u32; 8192]) -> Control
+    ensures { λ r. ⌜ Said (now (t .entry)) (closed c) (heardBy (c .drive) (now (out .entry)) mask a) (now (t .exit)) r ⌝ }
+{
     match a {
         Answer::Refused(n) => print::word(t, action::closed(c), n as u32),
         Answer::Words(n) => print::heard(t, action::closed(c), out, n, mask),
     }
+}
+
+// The dues of the figures that were kept for them, printed, and the command closed.
+pub fn charged(s: Station, c: Control, words: &[u32], t: &mut [u8; 65536]) -> Control {
+    let m = least(c.words, words.len());
+    panel::billed(s, c, &words[..m], t)
 }
 
 fn admit(s: Station, words: &[u32], now: f64, out: &mut [u32; 8192]) -> Answered {
@@ -189,7 +205,9 @@ pub fn finish(
 }
 
 // A start that was not refused: so many cells are lent from here on.
-fn kept(c: Control, words: &[u32]) -> Control {
+fn kept(c: Control, words: &[u32]) -> Control
+    ensures { λ r. ⌜ r ≡ keptBy c (now (words .entry)) ⌝ }
+{
     let mut k = c;
     if c.command == 8 {
         let p = words::payload(words, 0, 255);
@@ -205,7 +223,9 @@ pub fn settled(
     a: Answer,
     t: &mut [u8; 65536],
     out: &[u32; 8192],
-) -> Control {
+) -> Control
+    ensures { λ r. ⌜ Said (now (t .entry)) (closed (settledBy c (now (words .entry)) a)) (answerLines (now (out .entry)) a) (now (t .exit)) r ⌝ }
+{
     match a {
         Answer::Refused(n) => print::word(t, action::closed(c), n as u32),
         Answer::Words(n) => {

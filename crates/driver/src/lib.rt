@@ -1,4 +1,4 @@
-// What the programs `tape` (document 01, Words) and `drive` share: words in, the station's entry points, lines out.
+// What the programs `tape` (document 01, Words), `drive` and `panel` share: words in, the station's entry points, lines out.
 ghost use Prim.Native.Nat.{_<_};
 use net::Station;
 use script::action;
@@ -6,9 +6,10 @@ use script::action::Action;
 use script::action::Control;
 use station::Answer;
 
-pub mod command;
-pub mod dump;
-pub mod print;
+mod command;
+mod dump;
+mod panel;
+mod print;
 
 fn wide(x: u8) -> u32
     ensures { λ r. ⌜ r < 256 ⌝ }
@@ -99,6 +100,8 @@ pub fn feed(
             let h = r.answer;
             u = r.station;
             k = command::heard(k, h, r.mask, t, out);
+        } else if action::ends_figures(w, k) {
+            k = command::charged(u, k, words, t);
         } else if action::ends(w, k) {
             let r = command::finish(u, k, words, lent, out);
             let h = r.answer;
@@ -173,15 +176,15 @@ fn read_all(s: Station, c: Control, lent: &mut [u8; 409600], t: &mut [u8; 65536]
     k
 }
 
-// The program `tape`, or `drive`, with the settings of `tape`. Were its first start refused, that alone would be printed.
-pub fn run(drive: bool) {
+// The program `tape`, or `drive`, or `panel`, which takes all of `drive`'s commands, with the settings of `tape`. Were its first start refused, that alone would be printed.
+pub fn run(drive: bool, panel: bool) {
     let mut lent = [0u8; 409600];
     let mut t = [0u8; 65536];
     let g = preset::tape_settings();
     let r = station::start(preset::blank(), g, &lent[..64000]);
     let s = r.station;
     let a = r.answer;
-    let c = action::first_control(drive, false);
+    let c = action::first_control(drive, panel);
     let k = begun(s, c, a, &mut lent, &mut t);
     text::flush(&t, k.end);
 }

@@ -1,23 +1,30 @@
 // The head of a burst and its wave.
+use super::frame;
 use super::say;
 
-fn poll(t: &mut [u8; 65536], at: usize, s: &[u8], x: u32) -> usize {
-    let a = say::number(t, at, s, x % 64);
+fn poll(t: &mut [u8; 65536], at: usize, who: &[u8; 441], x: u32) -> usize {
+    let a = say::named(t, at, b"burst: K_POLL, poll of slot ", who, x % 64);
     let b = say::number(t, a, b", level cap ", x / 64 % 16);
     say::number(t, b, b", burst ", x / 1024 % 4)
 }
 
-fn relay(t: &mut [u8; 65536], at: usize, x: u32) -> usize {
-    let a = say::number(t, at, b"burst: K_RELAY, poll of slot ", x % 64);
-    let b = say::number(t, a, b" for source ", x / 64 % 64);
+fn relay(t: &mut [u8; 65536], at: usize, who: &[u8; 441], x: u32) -> usize {
+    let a = say::named(t, at, b"burst: K_RELAY, poll of slot ", who, x % 64);
+    let b = say::named(t, a, b" for source ", who, x / 64 % 64);
     say::number(t, b, b", level cap ", x / 4096 % 16)
 }
 
-fn ack(t: &mut [u8; 65536], at: usize, s: &[u8], x: u32) -> usize {
-    let a = say::number(t, at, s, x % 64);
+fn ack(t: &mut [u8; 65536], at: usize, s: &[u8], who: &[u8; 441], x: u32) -> usize {
+    let a = say::named(t, at, s, who, x % 64);
     let b = say::number(t, a, b", burst ", x / 64 % 4);
     let c = text::put_text(t, b, b", frames ");
     marks(t, c, x / 256 % 256)
+}
+
+fn idle(t: &mut [u8; 65536], at: usize, who: &[u8; 441], x: u32) -> usize {
+    let a = say::named(t, at, b"burst: K_IDLE, nothing to send: slot ", who, x % 64);
+    let b = text::put_text(t, a, b", hears us");
+    frame::field(t, b, ((x / 64) % 64) as u8)
 }
 
 // The bits of a bitmap, the lowest first: x for one that is set.
@@ -38,28 +45,29 @@ pub fn byte_marks(t: &mut [u8; 65536], at: usize, x: u8) -> usize {
 }
 
 // A burst with no frames: what it says stands in the head.
-fn tiny(t: &mut [u8; 65536], at: usize, kind: u32, x: u32) -> usize {
+fn tiny(t: &mut [u8; 65536], at: usize, who: &[u8; 441], kind: u32, x: u32) -> usize {
     match kind {
-        1 => poll(t, at, b"burst: K_POLL, poll of slot ", x),
+        1 => poll(t, at, who, x),
         2 => ack(
             t,
             at,
             b"burst: K_POLLACK, acknowledged and polled again: slot ",
+            who,
             x,
         ),
-        3 => ack(t, at, b"burst: K_ACK, acknowledged: slot ", x),
-        4 => text::put_text(t, at, b"burst: K_IDLE"),
-        5 => relay(t, at, x),
+        3 => ack(t, at, b"burst: K_ACK, acknowledged: slot ", who, x),
+        4 => idle(t, at, who, x),
+        5 => relay(t, at, who, x),
         6 => text::put_text(t, at, b"burst: K_CLOSE, the net closes"),
         _ => say::number(t, at, b"burst: header only, kind ", kind),
     }
 }
 
 // Word 8.
-pub fn head(t: &mut [u8; 65536], at: usize, w: u32) -> usize {
+pub fn head(t: &mut [u8; 65536], at: usize, who: &[u8; 441], w: u32) -> usize {
     let h = words::head_of(w);
     if h.code == 62 {
-        return tiny(t, at, h.hi, h.extra);
+        return tiny(t, at, who, h.hi, h.extra);
     }
     if h.code == 0 {
         return text::put_text(t, at, b"burst: control frames");

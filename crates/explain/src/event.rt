@@ -40,31 +40,42 @@ fn asked(t: &mut [u8; 65536], at: usize, n: u32) -> usize {
     }
 }
 
-fn message(t: &mut [u8; 65536], at: usize, w: u32) -> usize {
-    let a = say::number(t, at, b"event: message from slot ", w % 64);
+fn message(t: &mut [u8; 65536], at: usize, who: &[u8; 441], w: u32) -> usize {
+    let a = say::named(t, at, b"event: message from slot ", who, w % 64);
     let b = say::number(t, a, b" in cell ", w / 64 % 128);
     let c = say::number(t, b, b", number ", w / 8192 % 256);
     text::put_text(t, c, b" mod 256")
 }
 
-fn with_relay(t: &mut [u8; 65536], at: usize, s: &[u8], w: u32) -> usize {
-    let a = say::number(t, at, b"event: slot ", w % 64);
-    let b = text::put_text(t, a, s);
-    say::relay(t, b, w / 64 % 64)
+// A slot, and behind s its relay.
+fn with_relay(t: &mut [u8; 65536], at: usize, s: &[u8], who: &[u8; 441], w: u32) -> usize {
+    let b = text::put_text(t, at, s);
+    say::relay(t, b, who, w / 64 % 64)
 }
 
-fn missed(t: &mut [u8; 65536], at: usize, w: u32) -> usize {
+// A slot that may be another boat's from here on: its call is not said.
+fn anew(t: &mut [u8; 65536], at: usize, s: &[u8], who: &[u8; 441], w: u32) -> usize {
     let a = say::number(t, at, b"event: slot ", w % 64);
+    with_relay(t, a, s, who, w)
+}
+
+fn routed(t: &mut [u8; 65536], at: usize, who: &[u8; 441], w: u32) -> usize {
+    let a = say::named(t, at, b"event: slot ", who, w % 64);
+    with_relay(t, a, b" routed", who, w)
+}
+
+fn missed(t: &mut [u8; 65536], at: usize, who: &[u8; 441], w: u32) -> usize {
+    let a = say::named(t, at, b"event: slot ", who, w % 64);
     text::put_text(t, a, b" missed its turn")
 }
 
 // Words of kinds 1 to 5.
-pub fn event(t: &mut [u8; 65536], at: usize, w: u32) -> usize {
+pub fn event(t: &mut [u8; 65536], at: usize, who: &[u8; 441], w: u32) -> usize {
     match w / 268435456 {
-        1 => with_relay(t, at, b" checked in", w),
-        2 => message(t, at, w),
-        3 => missed(t, at, w),
-        4 => with_relay(t, at, b" relayed", w),
-        _ => with_relay(t, at, b" routed", w),
+        1 => anew(t, at, b" checked in", who, w),
+        2 => message(t, at, who, w),
+        3 => missed(t, at, who, w),
+        4 => anew(t, at, b" relayed", who, w),
+        _ => routed(t, at, who, w),
     }
 }

@@ -70,26 +70,26 @@ fn ack(t: &mut [u8; 65536], at: usize, p: &[u8; 255], i: usize) -> usize {
 }
 
 // Three bytes: the slot, the first message that is missing, and which of the eight after it are there.
-fn listed(t: &mut [u8; 65536], at: usize, p: &[u8; 255], i: usize) -> usize {
+fn listed(t: &mut [u8; 65536], at: usize, who: &[u8; 441], p: &[u8; 255], i: usize) -> usize {
     if 252 < i {
         return at;
     }
-    let a = say::byte(t, at, b" slot ", p[i]);
+    let a = say::named_byte(t, at, b" slot ", who, p[i]);
     let b = say::byte(t, a, b" wants ", p[i + 1]);
     let c = text::put_text(t, b, b" after it ");
     burst::byte_marks(t, c, p[i + 2])
 }
 
 // Two bytes: a leaf and its relay.
-fn branch(t: &mut [u8; 65536], at: usize, p: &[u8; 255], i: usize) -> usize {
+fn branch(t: &mut [u8; 65536], at: usize, who: &[u8; 441], p: &[u8; 255], i: usize) -> usize {
     if 253 < i {
         return at;
     }
-    let a = say::byte(t, at, b" slot ", p[i]);
+    let a = say::named_byte(t, at, b" slot ", who, p[i]);
     if p[i + 1] == 63 {
         return text::put_text(t, a, b" direct");
     }
-    say::byte(t, a, b" by relay ", p[i + 1])
+    say::named_byte(t, a, b" by relay ", who, p[i + 1])
 }
 
 // Eight bytes: a call that asks in, the level field at which it was heard, capability and version.
@@ -100,11 +100,11 @@ fn heard_call(t: &mut [u8; 65536], at: usize, p: &[u8; 255], i: usize) -> usize 
 }
 
 // Two bytes: a boat relayed by the sender, and from 128 on the level at which it answered.
-fn child(t: &mut [u8; 65536], at: usize, p: &[u8; 255], i: usize) -> usize {
+fn child(t: &mut [u8; 65536], at: usize, who: &[u8; 441], p: &[u8; 255], i: usize) -> usize {
     if 253 < i {
         return at;
     }
-    let a = say::byte(t, at, b" slot ", p[i]);
+    let a = say::named_byte(t, at, b" slot ", who, p[i]);
     if p[i + 1] < 128 {
         return text::put_text(t, a, b" did not answer");
     }
@@ -112,7 +112,7 @@ fn child(t: &mut [u8; 65536], at: usize, p: &[u8; 255], i: usize) -> usize {
 }
 
 // A level field: decibels plus 24 in the low six bits, 63 for nothing measured.
-fn field(t: &mut [u8; 65536], at: usize, q: u8) -> usize {
+pub fn field(t: &mut [u8; 65536], at: usize, q: u8) -> usize {
     let x = q % 64;
     if x == 63 {
         return text::put_text(t, at, b" not measured");
@@ -132,19 +132,49 @@ fn checkin(t: &mut [u8; 65536], at: usize, p: &[u8; 255]) -> usize {
     field(t, c, p[6])
 }
 
-fn report(t: &mut [u8; 65536], at: usize, p: &[u8; 255]) -> usize {
-    let a = say::byte(t, at, b"report of slot ", p[1]);
+// Twelve bytes, then two for each boat that it hears.
+fn report(t: &mut [u8; 65536], at: usize, who: &[u8; 441], p: &[u8; 255], len: usize) -> usize {
+    let a = say::named_byte(t, at, b"report of slot ", who, p[1]);
     let b = text::put_text(t, a, b", hears us");
-    field(t, b, p[2])
+    let c = field(t, b, p[2]);
+    let d = more(t, c, (p[3] != 0) | (p[4] != 0) | (p[5] != 0));
+    if len < 14 {
+        return d;
+    }
+    entries(t, d, who, b", hears:", 3, p, len)
 }
 
-fn entry(t: &mut [u8; 65536], at: usize, kind: u8, p: &[u8; 255], i: usize) -> usize {
+fn more(t: &mut [u8; 65536], at: usize, yes: bool) -> usize {
+    if yes {
+        return text::put_text(t, at, b", has bytes to send");
+    }
+    at
+}
+
+// Two bytes: a boat that the sender hears, and how.
+fn hearing(t: &mut [u8; 65536], at: usize, who: &[u8; 441], p: &[u8; 255], i: usize) -> usize {
+    if 253 < i {
+        return at;
+    }
+    let a = say::named_byte(t, at, b" slot ", who, p[i]);
+    field(t, a, p[i + 1])
+}
+
+fn entry(
+    t: &mut [u8; 65536],
+    at: usize,
+    who: &[u8; 441],
+    kind: u8,
+    p: &[u8; 255],
+    i: usize,
+) -> usize {
     match kind {
+        3 => hearing(t, at, who, p, i),
         4 => heard_call(t, at, p, i),
         5 => ack(t, at, p, i),
-        6 => listed(t, at, p, i),
-        10 => child(t, at, p, i),
-        _ => branch(t, at, p, i),
+        6 => listed(t, at, who, p, i),
+        10 => child(t, at, who, p, i),
+        _ => branch(t, at, who, p, i),
     }
 }
 
@@ -159,6 +189,13 @@ fn size_of(kind: u8) -> usize
     }
 }
 
+// Where the entries begin.
+fn first_of(kind: u8) -> usize
+    ensures { λ r. ⌜ r < 13 ⌝ }
+{
+    if kind == 3 { 12 } else { 1 }
+}
+
 fn comma(t: &mut [u8; 65536], at: usize, yes: bool) -> usize {
     if yes {
         return text::put(t, at, b',');
@@ -166,17 +203,26 @@ fn comma(t: &mut [u8; 65536], at: usize, yes: bool) -> usize {
     at
 }
 
-// The entries after the first byte, a comma between two.
-fn entries(t: &mut [u8; 65536], at: usize, s: &[u8], kind: u8, p: &[u8; 255], len: usize) -> usize {
+// The entries, a comma between two.
+fn entries(
+    t: &mut [u8; 65536],
+    at: usize,
+    who: &[u8; 441],
+    s: &[u8],
+    kind: u8,
+    p: &[u8; 255],
+    len: usize,
+) -> usize {
     let size = size_of(kind);
+    let first = first_of(kind);
     let mut e = text::put_text(t, at, s);
-    let mut i: usize = 1;
+    let mut i = first;
     while i < 255 {
         if len < i + size {
             return e;
         }
-        let c = comma(t, e, 1 < i);
-        e = entry(t, c, kind, p, i);
+        let c = comma(t, e, first < i);
+        e = entry(t, c, who, kind, p, i);
         i += size;
     }
     e
@@ -200,52 +246,82 @@ fn spaced(t: &mut [u8; 65536], at: usize, b: u8) -> usize {
     text::put_hex(t, a, b as u64, 2)
 }
 
-fn control(t: &mut [u8; 65536], at: usize, p: &[u8; 255], len: usize) -> usize {
-    let kind = p[0];
-    match kind {
+fn control(t: &mut [u8; 65536], at: usize, who: &[u8; 441], p: &[u8; 255], len: usize) -> usize {
+    match p[0] {
         1 => {
             if len < 14 {
                 return raw(t, at, p, len);
             }
             beacon(t, at, p, len)
         }
-        2 | 3 => of_boat(t, at, p, len),
-        4 => entries(t, at, b"overheard:", 4, p, len),
-        5 => entries(t, at, b"members:", 5, p, len),
-        6 => entries(t, at, b"received:", 6, p, len),
-        8 => entries(t, at, b"tree:", 8, p, len),
-        10 => entries(t, at, b"children:", 10, p, len),
+        2 | 3 => of_boat(t, at, who, p, len),
+        4 => entries(t, at, who, b"overheard:", 4, p, len),
+        5 => entries(t, at, who, b"members:", 5, p, len),
+        6 => entries(t, at, who, b"received:", 6, p, len),
+        8 => entries(t, at, who, b"tree:", 8, p, len),
+        10 => entries(t, at, who, b"children:", 10, p, len),
         _ => raw(t, at, p, len),
     }
 }
 
 // A boat's check-in or report.
-fn of_boat(t: &mut [u8; 65536], at: usize, p: &[u8; 255], len: usize) -> usize {
+fn of_boat(t: &mut [u8; 65536], at: usize, who: &[u8; 441], p: &[u8; 255], len: usize) -> usize {
     if (p[0] == 2) & (6 < len) {
         return checkin(t, at, p);
     }
     if (p[0] == 3) & (11 < len) {
-        return report(t, at, p);
+        return report(t, at, who, p, len);
     }
     raw(t, at, p, len)
+}
+
+// From a boat: a piece of a message. To a boat: the field alone.
+fn data(t: &mut [u8; 65536], at: usize, own: bool, field: u32, p: &[u8; 255], len: usize) -> usize {
+    if own {
+        let a = say::number(t, at, b"message ", field / 65536);
+        let b = say::number(t, a, b" mod 256 from offset ", field % 65536);
+        let c = text::put_text(t, b, b", ");
+        return raw(t, c, p, len);
+    }
+    let a = say::number(t, at, b"field ", field);
+    let b = text::put_text(t, a, b", ");
+    raw(t, b, p, len)
 }
 
 // A frame of len payload bytes.
 pub fn frame(
     t: &mut [u8; 65536],
     at: usize,
+    who: &[u8; 441],
     flags: u32,
     field: u32,
     p: &[u8; 255],
     len: usize,
 ) -> usize {
     let a = text::put_text(t, at, b"  frame, ");
-    let b = say::slot(t, a, flags % 64);
+    let b = say::slot(t, a, who, flags % 64);
     let c = text::put_text(t, b, b": ");
     if (flags / 64 % 4 == 2) & (0 < len) {
-        return control(t, c, p, len);
+        return control(t, c, who, p, len);
     }
-    let d = say::number(t, c, b"field ", field);
-    let e = text::put_text(t, d, b", ");
-    raw(t, e, p, len)
+    data(t, c, flags / 64 % 4 == 0, field, p, len)
+}
+
+// The frame behind a command that is no reception: a call and its relay, or bytes.
+pub fn argument(
+    t: &mut [u8; 65536],
+    at: usize,
+    who: &[u8; 441],
+    command: u32,
+    flags: u32,
+    p: &[u8; 255],
+    len: usize,
+) -> usize {
+    if (command == 3) & (len == 5) {
+        let a = text::put_text(t, at, b"  call ");
+        let b = say::call(t, a, packed(p, 0));
+        return say::relay(t, b, who, flags);
+    }
+    let a = text::put_text(t, at, b"  ");
+    raw(t, a, p, len)
 }

@@ -2,7 +2,7 @@
 use super::say;
 
 // Bits 3-0 of a command.
-fn command(t: &mut [u8; 65536], at: usize, n: u32, rest: u32) -> usize {
+fn command(t: &mut [u8; 65536], at: usize, who: &[u8; 441], n: u32, rest: u32) -> usize {
     match n {
         0 => text::put_text(t, at, b"command: next decision"),
         1 => text::put_text(t, at, b"command: end of a sending"),
@@ -12,11 +12,11 @@ fn command(t: &mut [u8; 65536], at: usize, n: u32, rest: u32) -> usize {
         5 => say::number(t, at, b"command: read cell ", rest),
         6 => say::number(t, at, b"command: free cell ", rest),
         7 => text::put_text(t, at, b"command: show the roster"),
-        _ => further(t, at, n, rest),
+        _ => further(t, at, who, n, rest),
     }
 }
 
-fn further(t: &mut [u8; 65536], at: usize, n: u32, rest: u32) -> usize {
+fn further(t: &mut [u8; 65536], at: usize, who: &[u8; 441], n: u32, rest: u32) -> usize {
     match n {
         8 => text::put_text(t, at, b"command: start with the settings that follow"),
         9 => text::put_text(t, at, b"command: set the clock that follows"),
@@ -28,36 +28,61 @@ fn further(t: &mut [u8; 65536], at: usize, n: u32, rest: u32) -> usize {
         ),
         12 => text::put_text(t, at, b"command: hold the largest payloads that follow"),
         13 => text::put_text(t, at, b"command: post the message that follows"),
-        14 => say::number(t, at, b"command: sign off slot ", rest),
-        _ => say::number(t, at, b"command: the panel's question ", rest % 16),
+        14 => say::named(t, at, b"command: sign off slot ", who, rest),
+        _ => question(t, at, who, rest),
+    }
+}
+
+// A question of `panel`.
+fn question(t: &mut [u8; 65536], at: usize, who: &[u8; 441], rest: u32) -> usize {
+    let slot = rest / 16 % 256;
+    match rest % 16 {
+        0 => text::put_text(t, at, b"command: how many boats are silent"),
+        1 => say::named(t, at, b"command: show slot ", who, slot),
+        2 => {
+            let a = say::named(t, at, b"command: at which level slot ", who, slot);
+            say::named(t, a, b" hears slot ", who, rest / 4096 % 256)
+        }
+        3 => text::put_text(t, at, b"command: the dues of the figures that follow"),
+        4 => say::named(t, at, b"command: the worst level of slot ", who, slot),
+        _ => say::number(t, at, b"command: no question of the panel's, ", rest % 16),
     }
 }
 
 // Eighths of a second.
 fn clock(t: &mut [u8; 65536], at: usize, x: u32) -> usize {
     let a = say::number(t, at, b"clock: ", x / 8);
-    if x % 8 == 0 {
-        return text::put_text(t, a, b" s");
+    let b = parts(t, a, x % 8 * 125);
+    text::put_text(t, b, b" s")
+}
+
+// What stands behind the point.
+fn parts(t: &mut [u8; 65536], at: usize, x: u32) -> usize {
+    if x == 0 {
+        return at;
     }
-    let b = say::number(t, a, b" s and ", x % 8);
-    text::put_text(t, b, b" eighths")
+    say::number(t, at, b".", x)
+}
+
+fn decibels(t: &mut [u8; 65536], at: usize, s: &[u8], x: u32) -> usize {
+    let a = say::number(t, at, s, x / 4);
+    let b = parts(t, a, x % 4 * 25);
+    text::put_text(t, b, b" dB")
 }
 
 // Quarter decibels plus 800.
 fn level(t: &mut [u8; 65536], at: usize, x: u32) -> usize {
     if x < 800 {
-        let a = say::number(t, at, b"level: -", 800 - x);
-        return text::put_text(t, a, b" quarters of a decibel");
+        return decibels(t, at, b"level: -", 800 - x);
     }
-    let a = say::number(t, at, b"level: ", x - 800);
-    text::put_text(t, a, b" quarters of a decibel")
+    decibels(t, at, b"level: ", x - 800)
 }
 
 // Words of kinds 7, 14 and 15.
-pub fn word(t: &mut [u8; 65536], at: usize, w: u32) -> usize {
+pub fn word(t: &mut [u8; 65536], at: usize, who: &[u8; 441], w: u32) -> usize {
     let x = w % 268435456;
     match w / 268435456 {
-        7 => command(t, at, w % 16, x / 16),
+        7 => command(t, at, who, w % 16, x / 16),
         14 => clock(t, at, x),
         _ => level(t, at, x),
     }

@@ -4,15 +4,19 @@ use super::burst;
 use super::event;
 use super::frame;
 use super::input;
-use super::say;
+use super::message;
+use super::who;
 
 // end: where the text ends so far. word: the digits of the line so far, count how many, plain: the line is no word.
+// part: how far a line with a message is. command: the last one of a script, 2 before any and in a burst.
 // open: a frame is being read, of `flags`, `field` and `len` payload bytes, of which `got` are in.
 pub struct State {
     pub end: usize,
     pub word: u32,
     pub count: usize,
     pub plain: bool,
+    pub part: u32,
+    pub command: u32,
     pub open: bool,
     pub flags: u32,
     pub field: u32,
@@ -26,6 +30,8 @@ pub fn first() -> State {
         word: 0,
         count: 0,
         plain: false,
+        part: 0,
+        command: 2,
         open: false,
         flags: 0,
         field: 0,
@@ -35,7 +41,7 @@ pub fn first() -> State {
 }
 
 // The value of a digit; 16 for no digit.
-fn digit(b: u8) -> u32 {
+pub fn digit(b: u8) -> u32 {
     match b {
         b'0'..=b'9' => wide(b) - 48,
         b'A'..=b'F' => wide(b) - 55,
@@ -52,12 +58,22 @@ fn wide(b: u8) -> u32
 
 // ---- frames
 
+fn said(s: State, bytes: &[u8; 255], who: &[u8; 441], t: &mut [u8; 65536]) -> usize {
+    if s.command == 2 {
+        return frame::frame(t, s.end, who, s.flags, s.field, bytes, s.len);
+    }
+    frame::argument(t, s.end, who, s.command, s.flags, bytes, s.len)
+}
+
 // The line of the frame, and its end.
-fn shut(s: State, bytes: &[u8; 255], t: &mut [u8; 65536]) -> State {
+fn shut(s: State, bytes: &[u8; 255], who: &mut [u8; 441], t: &mut [u8; 65536]) -> State {
     let mut u = s;
-    let a = frame::frame(t, s.end, s.flags, s.field, bytes, s.len);
+    let a = said(s, bytes, who, t);
     u.end = text::put(t, a, b'\n');
     u.open = false;
+    if s.command == 2 {
+        who::told(who, s.flags, bytes, s.len);
+    }
     u
 }
 
@@ -84,11 +100,11 @@ fn small(x: u32) -> usize {
     if x < 256 { x as usize } else { 255 }
 }
 
-fn fielded(s: State, w: u32, bytes: &[u8; 255], t: &mut [u8; 65536]) -> State {
+fn fielded(s: State, w: u32, bytes: &[u8; 255], who: &mut [u8; 441], t: &mut [u8; 65536]) -> State {
     let mut u = s;
     u.field = w % 16777216;
     if s.len == 0 {
-        return shut(u, bytes, t);
+        return shut(u, bytes, who, t);
     }
     u
 }
@@ -108,12 +124,18 @@ fn keep(s: State, b: u8, bytes: &mut [u8; 255]) -> State {
 }
 
 // Three payload bytes.
-fn payload(s: State, w: u32, bytes: &mut [u8; 255], t: &mut [u8; 65536]) -> State {
+fn payload(
+    s: State,
+    w: u32,
+    bytes: &mut [u8; 255],
+    who: &mut [u8; 441],
+    t: &mut [u8; 65536],
+) -> State {
     let a = keep(s, low(w / 65536), bytes);
     let b = keep(a, low(w / 256), bytes);
     let u = keep(b, low(w), bytes);
     if u.len <= u.got {
-        return shut(u, bytes, t);
+        return shut(u, bytes, who, t);
     }
     u
 }
@@ -126,38 +148,63 @@ fn other(t: &mut [u8; 65536], at: usize, w: u32) -> usize {
 }
 
 // A word that is no part of a frame, as one line.
-fn alone(t: &mut [u8; 65536], at: usize, w: u32) -> usize {
+fn alone(t: &mut [u8; 65536], at: usize, who: &[u8; 441], w: u32) -> usize {
     match w / 268435456 {
         0 => event::refusal(t, at, w % 268435456),
-        1..=5 => event::event(t, at, w),
-        8 => burst::head(t, at, w),
+        1..=5 => event::event(t, at, who, w),
+        8 => burst::head(t, at, who, w),
         9 => burst::wave(t, at, w),
         13 => text::put_text(t, at, b"  frame lost"),
-        7 | 14 | 15 => input::word(t, at, w),
+        7 | 14 | 15 => input::word(t, at, who, w),
         _ => other(t, at, w),
     }
 }
 
-fn on_a_line(s: State, w: u32, t: &mut [u8; 65536]) -> State {
+// A check-in or a sign-off: the slot may be another boat's. A start: all may.
+fn forgotten(w: u32, who: &mut [u8; 441]) {
+    let kind = w / 268435456;
+    if kind == 1 {
+        who::forget(who, w % 64);
+    }
+    if (kind == 7) & (w % 16 == 14) {
+        who::forget(who, w / 16 % 16777216);
+    }
+    if (kind == 7) & (w % 16 == 8) {
+        who::forget_all(who);
+    }
+}
+
+// The command whose words follow; a head's frames are a burst's.
+fn command_of(s: State, w: u32) -> u32 {
+    match w / 268435456 {
+        7 => w % 16,
+        8 => 2,
+        _ => s.command,
+    }
+}
+
+fn on_a_line(s: State, w: u32, who: &mut [u8; 441], t: &mut [u8; 65536]) -> State {
     let mut u = cut(s, t);
-    let a = alone(t, u.end, w);
+    let a = alone(t, u.end, who, w);
     u.end = text::put(t, a, b'\n');
+    u.command = command_of(s, w);
+    forgotten(w, who);
     u
 }
 
-fn word(s: State, bytes: &mut [u8; 255], t: &mut [u8; 65536]) -> State {
+fn word(s: State, bytes: &mut [u8; 255], who: &mut [u8; 441], t: &mut [u8; 65536]) -> State {
     let w = s.word;
     let kind = w / 268435456;
     if kind == 10 {
         return opened(cut(s, t), w);
     }
     if s.open & (kind == 11) {
-        return fielded(s, w, bytes, t);
+        return fielded(s, w, bytes, who, t);
     }
     if s.open & (kind == 12) {
-        return payload(s, w, bytes, t);
+        return payload(s, w, bytes, who, t);
     }
-    on_a_line(s, w, t)
+    on_a_line(s, w, who, t)
 }
 
 // ---- lines
@@ -187,21 +234,30 @@ fn fresh(s: State) -> State {
 }
 
 // A byte of a line that passes.
-fn passed(s: State, b: u8, t: &mut [u8; 65536]) -> State {
+pub fn passed(s: State, b: u8, t: &mut [u8; 65536]) -> State {
     let mut u = s;
     let a = text::room(t, s.end);
     u.end = text::put(t, a, b);
     u
 }
 
-fn line_end(s: State, kept: &[u8; 8], bytes: &mut [u8; 255], t: &mut [u8; 65536]) -> State {
+fn line_end(
+    s: State,
+    kept: &[u8; 8],
+    bytes: &mut [u8; 255],
+    who: &mut [u8; 441],
+    t: &mut [u8; 65536],
+) -> State {
     let mut u = s;
     u.end = text::room(t, s.end);
+    if s.part != 0 {
+        return fresh(passed(message::end(u, t), b'\n', t));
+    }
     if s.plain {
         return fresh(passed(u, b'\n', t));
     }
     if s.count == 8 {
-        return fresh(word(u, bytes, t));
+        return fresh(word(u, bytes, who, t));
     }
     fresh(passed(given_back(u, kept, t), b'\n', t))
 }
@@ -223,13 +279,20 @@ pub fn step(
     b: u8,
     kept: &mut [u8; 8],
     bytes: &mut [u8; 255],
+    who: &mut [u8; 441],
     t: &mut [u8; 65536],
 ) -> State {
     if b == b'\n' {
-        return line_end(s, kept, bytes, t);
+        return line_end(s, kept, bytes, who, t);
+    }
+    if s.part != 0 {
+        return message::step(s, b, t);
     }
     if s.plain {
         return passed(s, b, t);
+    }
+    if (b == b'R') & (s.count == 0) {
+        return message::begun(cut(s, t));
     }
     let d = digit(b);
     if (d < 16) & (s.count < 8) {
@@ -239,9 +302,15 @@ pub fn step(
 }
 
 // What is left at the end of the input.
-pub fn last(s: State, kept: &[u8; 8], bytes: &mut [u8; 255], t: &mut [u8; 65536]) -> usize {
-    if s.plain | (0 < s.count) {
-        return line_end(s, kept, bytes, t).end;
+pub fn last(
+    s: State,
+    kept: &[u8; 8],
+    bytes: &mut [u8; 255],
+    who: &mut [u8; 441],
+    t: &mut [u8; 65536],
+) -> usize {
+    if s.plain | (s.part != 0) | (0 < s.count) {
+        return line_end(s, kept, bytes, who, t).end;
     }
     cut(s, t).end
 }

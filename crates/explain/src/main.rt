@@ -4,7 +4,9 @@ mod event;
 mod frame;
 mod input;
 mod line;
+mod message;
 mod say;
+mod who;
 
 use line::State;
 
@@ -19,12 +21,13 @@ fn feed(
     n: usize,
     kept: &mut [u8; 8],
     bytes: &mut [u8; 255],
+    who: &mut [u8; 441],
     t: &mut [u8; 65536],
 ) -> State {
     let mut u = s;
     let mut i: usize = 0;
     while i < n {
-        u = line::step(u, byte_at(b, i), kept, bytes, t);
+        u = line::step(u, byte_at(b, i), kept, bytes, who, t);
         i += 1;
     }
     u
@@ -34,14 +37,15 @@ fn feed(
 fn read_all(t: &mut [u8; 65536]) -> usize {
     let mut kept = [0u8; 8];
     let mut bytes = [0u8; 255];
+    let mut who = [0u8; 441];
     let mut b = io::large_buffer();
     let mut s = line::first();
     let mut left: u64 = 18446744073709551615;
     while 0 < left {
         let n = io::read_full(0, &mut b);
-        s = feed(s, &b, n, &mut kept, &mut bytes, t);
+        s = feed(s, &b, n, &mut kept, &mut bytes, &mut who, t);
         if n < 65536 {
-            return line::last(s, &kept, &mut bytes, t);
+            return line::last(s, &kept, &mut bytes, &mut who, t);
         }
         left -= 1;
     }

@@ -1,4 +1,5 @@
 // Small parts of a line.
+use super::who;
 
 // Text and a number behind it.
 pub fn number(t: &mut [u8; 65536], at: usize, s: &[u8], x: u32) -> usize {
@@ -10,20 +11,30 @@ pub fn byte(t: &mut [u8; 65536], at: usize, s: &[u8], x: u8) -> usize {
     number(t, at, s, x as u32)
 }
 
+// Text, a slot behind it and its call.
+pub fn named(t: &mut [u8; 65536], at: usize, s: &[u8], who: &[u8; 441], x: u32) -> usize {
+    let a = number(t, at, s, x);
+    who::beside(t, a, who, x)
+}
+
+pub fn named_byte(t: &mut [u8; 65536], at: usize, s: &[u8], who: &[u8; 441], x: u8) -> usize {
+    named(t, at, s, who, x as u32)
+}
+
 // A slot, or everyone.
-pub fn slot(t: &mut [u8; 65536], at: usize, x: u32) -> usize {
+pub fn slot(t: &mut [u8; 65536], at: usize, who: &[u8; 441], x: u32) -> usize {
     if x == 63 {
         return text::put_text(t, at, b"everyone");
     }
-    number(t, at, b"slot ", x)
+    named(t, at, b"slot ", who, x)
 }
 
 // A relay, or none.
-pub fn relay(t: &mut [u8; 65536], at: usize, x: u32) -> usize {
+pub fn relay(t: &mut [u8; 65536], at: usize, who: &[u8; 441], x: u32) -> usize {
     if x == 63 {
         return text::put_text(t, at, b", direct");
     }
-    number(t, at, b", by relay ", x)
+    named(t, at, b", by relay ", who, x)
 }
 
 // A character, a dot for one that no line can show.
@@ -42,7 +53,7 @@ pub fn call(t: &mut [u8; 65536], at: usize, packed: [u8; 5]) -> usize {
     text::put(t, b, b'"')
 }
 
-fn trimmed(t: &mut [u8; 65536], at: usize, c: [u8; 7]) -> usize {
+pub fn trimmed(t: &mut [u8; 65536], at: usize, c: [u8; 7]) -> usize {
     let mut e = at;
     let mut i: usize = 0;
     while i < 7 {

@@ -34,9 +34,9 @@ restOf w = w / 16 % 16777216
 abbrev pub slotOf : ℕ → ℕ
 slotOf w = w / 16 % 256
 
--- a question of the panel's: the silent boats, the boat in a slot, at which level one boat hears another, the dues
+-- a question of the panel's: the silent boats, the boat in a slot, at which level one boat hears another, the dues, the lowest of a boat's last levels
 abbrev pub asked : ℕ → Bool
-asked rest = eqb rest 0 || (eqb (rest % 16) 1 && ltb rest 4096) || (eqb (rest % 16) 2 && ltb rest 1048576) || eqb rest 3
+asked rest = eqb rest 0 || (eqb (rest % 16) 1 && ltb rest 4096) || (eqb (rest % 16) 2 && ltb rest 1048576) || eqb rest 3 || (eqb (rest % 16) 4 && ltb rest 4096)
 
 -- the command is one of the program's, and no bit is set that is not named
 abbrev pub named : ℕ → Control → Bool
@@ -77,6 +77,7 @@ actionOf w c =
 abbrev pub isShown : Action → Bool
 isShown Read = true
 isShown Roster = true
+isShown Ask = true
 isShown Push = false
 isShown Bad = false
 isShown Time = false
@@ -87,7 +88,6 @@ isShown Sent = false
 isShown Close = false
 isShown Free = false
 isShown SignOff = false
-isShown Ask = false
 
 -- ---- what the program holds
 

@@ -115,7 +115,8 @@ fn is_named(w: u32, c: Control) -> bool
         | (c.panel & (command == 15) & is_asked(rest))
 }
 
-// A question of the panel's: the silent boats (0), the boat in a slot (1), at which level one boat hears another (2), the dues (3).
+// A question of the panel's: the silent boats (0), the boat in a slot (1), at which level one boat hears another (2), the dues (3),
+// the lowest of a boat's last levels (4).
 fn is_asked(rest: u32) -> bool
     ensures { λ r. ⌜ r ≡ asked rest ⌝ }
 {
@@ -123,6 +124,7 @@ fn is_asked(rest: u32) -> bool
         | ((rest % 16 == 1) & (rest < 4096))
         | ((rest % 16 == 2) & (rest < 1048576))
         | (rest == 3)
+        | ((rest % 16 == 4) & (rest < 4096))
 }
 
 // The action of a named command.
@@ -208,12 +210,12 @@ pub fn is_shown(a: Action) -> bool
     match a {
         Action::Read => true,
         Action::Roster => true,
+        Action::Ask => true,
         Action::Next => false,
         Action::Sent => false,
         Action::Close => false,
         Action::Free => false,
         Action::SignOff => false,
-        Action::Ask => false,
         Action::Push => false,
         Action::Bad => false,
         Action::Time => false,

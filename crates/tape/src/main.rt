@@ -1,4 +1,4 @@
 // The program of document 01, Words: a tape of words on standard input, result words on standard output.
 fn main() {
-    driver::run(false);
+    driver::run(false, false);
 }

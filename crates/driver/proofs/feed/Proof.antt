@@ -32,6 +32,12 @@ receive-requires c κs = tt
 heard-requires : tie.Need-heard-requires Inv-loop μ-loop
 heard-requires c κs = tt
 
+ends-figures-requires : tie.Need-ends-figures-requires Inv-loop μ-loop
+ends-figures-requires c κs = tt
+
+charged-requires : tie.Need-charged-requires Inv-loop μ-loop
+charged-requires c κs = tt
+
 ends-requires : tie.Need-ends-requires Inv-loop μ-loop
 ends-requires c κs = tt
 
@@ -135,6 +141,8 @@ feed-spec =
     ends-burst-requires
     receive-requires
     heard-requires
+    ends-figures-requires
+    charged-requires
     ends-requires
     finish-requires
     settled-requires

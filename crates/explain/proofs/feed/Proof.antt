@@ -5,10 +5,10 @@ use Rattle.explain.proofs.feed.Statement.{statement}
 use Rattle.explain.proofs.feed.Tie as tie
 
 abbrev Inv-loop : tie.InvT-loop
-Inv-loop b n kept₀ bytes₀ t₀ u₀ i₀ kept bytes t u i = Unit
+Inv-loop b n kept₀ bytes₀ who₀ t₀ u₀ i₀ kept bytes who t u i = Unit
 
 abbrev μ-loop : tie.MeasureT-loop
-μ-loop b n kept₀ bytes₀ t₀ u₀ i₀ kept bytes t u i = n - i
+μ-loop b n kept₀ bytes₀ who₀ t₀ u₀ i₀ kept bytes who t u i = n - i
 
 loop-holds : tie.Need-loop-holds Inv-loop μ-loop
 loop-holds c = tt

@@ -7,10 +7,10 @@ use Rattle.explain.proofs.read_all.Statement.{statement}
 use Rattle.explain.proofs.read_all.Tie as tie
 
 abbrev Inv-loop : tie.InvT-loop
-Inv-loop t₀ kept₀ bytes₀ b₀ s₀ left₀ t kept bytes b s left = 65536 ≡ length b
+Inv-loop t₀ kept₀ bytes₀ who₀ b₀ s₀ left₀ t kept bytes who b s left = 65536 ≡ length b
 
 abbrev μ-loop : tie.MeasureT-loop
-μ-loop t₀ kept₀ bytes₀ b₀ s₀ left₀ t kept bytes b s left = left
+μ-loop t₀ kept₀ bytes₀ who₀ b₀ s₀ left₀ t kept bytes who b s left = left
 
 large-buffer-requires : tie.Need-large-buffer-requires Inv-loop μ-loop
 large-buffer-requires c κs = tt

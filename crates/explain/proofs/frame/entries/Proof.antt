@@ -5,13 +5,16 @@ use Rattle.explain.proofs.frame.entries.Statement.{statement}
 use Rattle.explain.proofs.frame.entries.Tie as tie
 
 abbrev Inv-loop : tie.InvT-loop
-Inv-loop t₀ at s kind p len size e₀ i₀ t e i = Unit
+Inv-loop t₀ at who s kind p len size first e₀ i₀ t e i = Unit
 
 abbrev μ-loop : tie.MeasureT-loop
-μ-loop t₀ at s kind p len size e₀ i₀ t e i = 255 - i
+μ-loop t₀ at who s kind p len size first e₀ i₀ t e i = 255 - i
 
 size-of-requires : tie.Need-size-of-requires Inv-loop μ-loop
 size-of-requires c κs = tt
+
+first-of-requires : tie.Need-first-of-requires Inv-loop μ-loop
+first-of-requires c κs = tt
 
 put-text-requires : tie.Need-put-text-requires Inv-loop μ-loop
 put-text-requires c κs = tt
@@ -50,6 +53,7 @@ entries-spec =
     Inv-loop
     μ-loop
     size-of-requires
+    first-of-requires
     put-text-requires
     loop-holds
     add-if1
