@@ -18,11 +18,12 @@ use Rattle.net.specs.Net.{isMember}
 use Rattle.net.proofs.Laws.{member-again}
 use Rattle.frames.specs.declared.Air.{Air}
 use Rattle.frames.specs.declared.Frame.{Frame}
-use Rattle.frames.specs.Kinds.{Kind, Nothing, Piece, Checkin, Report, Overheard, Kids}
+use Rattle.frames.specs.Code.Kinds.{Kind, Nothing, Piece, Checkin, Report, Overheard, Kids}
 use Rattle.frames.specs.Reading.{Reading, alsoSaid}
 use Rattle.frames.specs.Pieces.{pieceFrame}
 use Rattle.frames.specs.Control.{checkinFrame, reportFrame, overheardFrame, kidsFrame, forwardedBy, reportMember, hearPairs, reportStation}
-use Rattle.frames.specs.Frames.{controlBy, controlFrame, readFrame, frameOf, controlByte, byteKind, controlKind, kindOf, readBy}
+use Rattle.frames.specs.Frames.{controlBy, controlFrame, readFrame}
+use Rattle.frames.specs.Code.Frames.{frameOf, controlByte, byteKind, controlKind, kindOf, readBy}
 
 -- ### Kinds
 

@@ -12,7 +12,7 @@ use Rattle.words.proofs.Read.{least-left, length-bytes, payload-take}
 use Rattle.words.specs.declared.Item.{Item}
 use Rattle.words.specs.declared.Item.the-variants as item
 use Rattle.frames.specs.declared.Frame.{Frame}
-use Rattle.frames.specs.Frames.{frameOf}
+use Rattle.frames.specs.Code.Frames.{frameOf}
 
 -- ### Frames
 

@@ -35,7 +35,8 @@ use Rattle.net.specs.Net.{isMember}
 use Rattle.frames.specs.declared.Air.{Air}
 use Rattle.frames.specs.declared.pieces.Piece.{Piece}
 use Rattle.frames.specs.Reading.{Reading}
-use Rattle.frames.specs.Pieces.{RoomIn, unwantedOf, pieceBy, pieceOf, takenOf, keptPiece, barredPiece, takenPiece, pieceFrame, unkeptAt, storedPiece, heardMember}
+use Rattle.frames.specs.Pieces.{keptPiece, barredPiece, takenPiece, pieceFrame, unkeptAt, heardMember}
+use Rattle.frames.specs.Code.Pieces.{RoomIn, unwantedOf, pieceBy, pieceOf, takenOf, storedPiece}
 
 -- ### The room
 

@@ -21,7 +21,6 @@ use Rattle.admit.specs.Admission.{seatOf, slotOf, admitBy}
 use Rattle.admit.specs.declared.Seat.{Seat}
 use Rattle.admit.specs.declared.Seat.the-variants.{Known, Free, Full}
 use Rattle.frames.specs.declared.Air.{Air}
-use Rattle.frames.specs.Kinds.{Kind, Nothing, Piece, Checkin, Report, Overheard, Kids}
 use Rattle.frames.specs.Reading.{Reading, onStation}
 
 -- the payload of the frame of len bytes at `at`
@@ -168,12 +167,3 @@ kidEntry a p slot e x = kidBy a slot (getD p e 0) (getD p (e + 1) 0) x
 
 unfoldable pub kidsFrame : Air → ℕ → List ℕ → ℕ → Station → Said
 kidsFrame a len p slot s = eachEntry (kidEntry a p slot) 2 len 128 1 (said s [])
-
--- ---- a control frame that is no report
-abbrev pub controlSays : Kind → Air → ℕ → ℕ → List ℕ → Station → Said
-controlSays Nothing a slot len p s = said s []
-controlSays Piece a slot len p s = said s []
-controlSays Checkin a slot len p s = checkinFrame a len p s
-controlSays Report a slot len p s = said s []
-controlSays Overheard a slot len p s = overheardFrame a len p slot s
-controlSays Kids a slot len p s = kidsFrame a len p slot s

@@ -1,5 +1,5 @@
-pub mod Kinds
 pub mod Reading
 pub mod Pieces
 pub mod Control
 pub mod Frames
+pub mod Code

@@ -1,12 +1,9 @@
 -- The running values of `ncs_rx` of ncs.rs, frame by frame: the definitions' (Reading) and the code's (Rx).
 use Prim.Native.Nat.{ℕ, _+_}
-use mathlib.Core.Bool.{Bool, false, not, cond, _&&_, _||_}
+use mathlib.Core.Bool.{Bool}
 use mathlib.Core.List.{List, _++_}
-use Rattle.bits.specs.Mask.{hasBit, withBit}
 use Rattle.net.specs.declared.Station.{Station}
 use Rattle.net.specs.Net.{Said}
-use Rattle.frames.specs.declared.Rx.{Rx}
-use Rattle.frames.specs.declared.Frame.{Frame}
 
 -- The station and the store as they are, the events so far, the number of the next frame; the frames heard and kept, the pieces not kept,
 -- the slot that the last report names (256: none; those of boats relayed by the polled boat apart), whether a report told of more to come.
@@ -29,27 +26,3 @@ onStation x s =
 abbrev pub alsoSaid : Reading → Said → Reading
 alsoSaid x d =
     record { station = d .station; store = x .store; words = x .words ++ d .words; frame = x .frame; heard = x .heard; unkept = x .unkept; sender = x .sender; more = x .more; seen = x .seen }
-
--- ---- the code's
-
-abbrev pub firstRx : Rx
-firstRx = record { word = 1; frame = 0; at = 0; sender = 256; more = false; heard = 0; unkept = 0 }
-
--- on to the next frame: a lost one, or a piece not kept, is not heard
-abbrev pub nextRx : Rx → Frame → Rx
-nextRx x f =
-    record {
-      word = x .word + f .size;
-      frame = x .frame + 1;
-      at = x .at;
-      sender = x .sender;
-      more = x .more;
-      heard = cond (not (f .lost) && not (hasBit (x .unkept) (x .frame))) (withBit (x .heard) (x .frame)) (x .heard);
-      unkept = x .unkept;
-    }
-
--- what a report tells, where it is no forwarded one: its slot, and whether more is to come
-abbrev pub reportRx : Rx → Bool → ℕ → Bool → Rx
-reportRx x forwarded slot pending =
-    cond forwarded x
-    (record { word = x .word; frame = x .frame; at = x .at; sender = slot; more = x .more || pending; heard = x .heard; unkept = x .unkept })

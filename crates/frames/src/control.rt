@@ -14,7 +14,7 @@ ghost use lib.ListN.{getD};
 ghost use Rattle.out.specs.Encode.{Wrote};
 ghost use Rattle.net.specs.Net.{Did, said};
 ghost use Rattle.admit.specs.declared.Seat.the-variants.{Free};
-ghost use Rattle.frames.specs.Reading.{reportRx};
+ghost use Rattle.frames.specs.Code.Reading.{reportRx};
 ghost use Rattle.frames.specs.Control.{payloadIn, callAt, checkinMember, checkinFrame, forwardedBy, reportMember, hearing, hearPairs, isPending, relayOf, newcomer, overheardBy, overheardEntry, overheardFrame, kidMember, heardAs, kidRecent, kidEvents, kidOf, kidsFrame};
 
 // Byte j of the payload of the frame of len bytes at `at`; 0 past its end.

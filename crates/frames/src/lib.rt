@@ -3,8 +3,8 @@ ghost use mathlib.Core.Path.{_≡_};
 ghost use Prim.Native.Nat.{_+_, _%_, _^_, _<_};
 ghost use lib.ListN.{drop};
 ghost use Rattle.words.specs.Words.{peekAt, byteAt};
-ghost use Rattle.frames.specs.Reading.{firstRx, nextRx};
-ghost use Rattle.frames.specs.Frames.{lostFrame, frameOf, controlByte};
+ghost use Rattle.frames.specs.Code.Reading.{firstRx, nextRx};
+ghost use Rattle.frames.specs.Code.Frames.{lostFrame, frameOf, controlByte};
 use words::Item;
 
 pub mod control;

@@ -24,7 +24,8 @@ ghost use Rattle.roster.specs.Members.{barredOne};
 ghost use Rattle.words.specs.Words.{bytesAt};
 ghost use Rattle.out.specs.Encode.{Wrote};
 ghost use Rattle.stream.specs.Table.{took, takeOf, leftOf, roomFor, ownerOf};
-ghost use Rattle.frames.specs.Pieces.{unwantedOf, numberedOf, pieceOf, RoomIn, takenOf, ownerAfter, frees, busyAfter, landedAfter, withIf, sizeOf, directIf, heardMember, memberAfter, relayedBy, roundAfter, totalsAfter, landedEvents};
+ghost use Rattle.frames.specs.Pieces.{sizeOf, directIf, heardMember};
+ghost use Rattle.frames.specs.Code.Pieces.{unwantedOf, numberedOf, pieceOf, RoomIn, takenOf, ownerAfter, frees, busyAfter, landedAfter, withIf, memberAfter, relayedBy, roundAfter, totalsAfter, landedEvents};
 
 // A boat's piece as it is read. wanted: its slot has a member, and its message a number that is not handed over; else nothing is done
 // with its bytes. barred: that number is barred.

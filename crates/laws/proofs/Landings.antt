@@ -29,7 +29,8 @@ use Rattle.stream.proofs.Accepts.{leftAs, answerOf, cellIn, heldAfter, putAs, b
 use Rattle.net.specs.declared.Station.{Station}
 use Rattle.net.proofs.Laws.{member-lt}
 use Rattle.stream.proofs.Windows.{fresh-none, bar-handed}
-use Rattle.station.specs.SignOff.{signOff, signOffRefusal, signOffOf}
+use Rattle.signoff.specs.SignOff.{signOff}
+use Rattle.station.specs.SignOff.{signOffRefusal, signOffOf}
 use Rattle.frames.specs.declared.Air.{Air}
 use Rattle.frames.specs.Reading.{Reading}
 use Rattle.frames.specs.Frames.{frameStep, readFrames}

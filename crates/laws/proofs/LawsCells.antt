@@ -47,7 +47,8 @@ use Rattle.frames.specs.Reading.{Reading}
 use Rattle.frames.specs.Frames.{frameStep, readFrames}
 use Rattle.rx.specs.Reception.{airOf, ncsRx}
 use Rattle.station.specs.Entries.{Outcome, refused, receivedAs, receiveOf, cellRefusal, freeOf, startRefusal}
-use Rattle.station.specs.SignOff.{signOffRefusal, signOffOf, isCellOf, clearAll}
+use Rattle.signoff.specs.SignOff.{isCellOf, clearAll}
+use Rattle.station.specs.SignOff.{signOffRefusal, signOffOf}
 use Rattle.config.specs.declared.Given.{Given}
 use Rattle.promise.specs.Promise.{lentTo, Net, net, ofBurst, Call, admission, reception, decision, sending, closing, reading, freeing, charging, signing, asking, result, inBook, isRefused, step, after, started, isBoats, framesBy}
 use Rattle.laws.specs.Laws.{from, InCells, alsoIn, wentBy, wentIn, wentAll, wentRx, wentWith, inCells, StoreOk, StoresOk, AllCut, Splits, AllSplit}

@@ -37,7 +37,8 @@ use Rattle.admit.specs.declared.Seat.the-variants.{Free}
 use Rattle.admit.specs.Admission.{seatOf, isFull, viaFor, admitBy, enterAt, leadsTo}
 use Rattle.admit.proofs.Laws.{seat-lt, seat-free}
 use Rattle.station.specs.Entries.{Outcome, done, refused, unless, admitted, admitRefusal, admitOf}
-use Rattle.station.specs.SignOff.{vacant, leave, untried, bereft, bereftOf, bereaveAt, bereaveAll, isCellOf, clearAt, clearAll, unhearAt, unhearAll, strikeRound, strikeBy, strikeWait, struckOff, signOff, signOffRefusal, signOffOf}
+use Rattle.signoff.specs.SignOff.{vacant, leave, untried, bereft, bereftOf, bereaveAt, bereaveAll, isCellOf, clearAt, clearAll, unhearAt, unhearAll, strikeRound, strikeBy, strikeWait, struckOff, signOff}
+use Rattle.station.specs.SignOff.{signOffRefusal, signOffOf}
 use Rattle.promise.specs.Promise.{Net, net, admission, signing, result, outcome, isRefused, step, after, started, leads, LinksHold}
 use Rattle.promise.proofs.Links.{links}
 use Rattle.promise.proofs.Signs.{sign-member, signed}

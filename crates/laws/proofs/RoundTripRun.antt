@@ -19,7 +19,8 @@ use Rattle.frames.specs.Frames.{controlBy, readFrame, frameStep, readFrames}
 use Rattle.rx.specs.Ending.{replyEnd}
 use Rattle.rx.specs.Reception.{ncsRx}
 use Rattle.station.specs.Entries.{admitRefusal, admitOf, receiveRefusal, receiveOf}
-use Rattle.station.specs.SignOff.{bereaveAt, bereaveAll, clearAt, clearAll, unhearAt, unhearAll, signOff, signOffRefusal, signOffOf}
+use Rattle.signoff.specs.SignOff.{bereaveAt, bereaveAll, clearAt, clearAll, unhearAt, unhearAll, signOff}
+use Rattle.station.specs.SignOff.{signOffRefusal, signOffOf}
 use Rattle.promise.specs.Promise.{Call, admission, signing, result, outcome, step, after}
 use Rattle.promise.proofs.Runs.{nought, joins, hears, one-cell}
 

@@ -25,7 +25,7 @@ use Rattle.bursts.specs.Reroute.{withSeated}
 use Rattle.config.specs.declared.Given.{Given}
 use Rattle.config.specs.Checks.{secondsOk, durationsOk, decibelsOk, numbersOk, settingsOk, settingsOf}
 use Rattle.station.specs.Entries.{startRefusal}
-use Rattle.station.specs.SignOff.{vacant, leave, bereft, bereftOf, bereaveAt, bereaveAll, struckOff, signOff}
+use Rattle.signoff.specs.SignOff.{vacant, leave, bereft, bereftOf, bereaveAt, bereaveAll, struckOff, signOff}
 use Rattle.promise.specs.Promise.{after, started}
 use Rattle.laws.specs.Silent.{SilentCounted}
 use Rattle.promise.proofs.Walk.{Change}

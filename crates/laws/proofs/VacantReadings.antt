@@ -19,7 +19,7 @@ use Rattle.net.specs.Net.{isMember, newStation}
 use Rattle.net.proofs.Laws.{member-lt, member-has}
 use Rattle.config.specs.declared.Given.{Given}
 use Rattle.station.specs.Entries.{startRefusal}
-use Rattle.station.specs.SignOff.{bereaveAt, bereaveAll, leave, struckOff, signOff}
+use Rattle.signoff.specs.SignOff.{bereaveAt, bereaveAll, leave, struckOff, signOff}
 use Rattle.promise.specs.Promise.{Call, after, started}
 use Rattle.promise.proofs.Walk.{Change, others, turned, over, hears, written, counted, promoted, moved, readings, entered, piece, landed, freed, barred, signsOff}
 use Rattle.promise.proofs.WalkCalls.{all, always}

@@ -25,7 +25,7 @@ use Rattle.net.specs.declared.Wait.{Wait}
 use Rattle.net.specs.State.{tableOf}
 use Rattle.net.specs.Net.{isMember, idleWait, waitOf}
 use Rattle.net.proofs.Laws.{member-lt, member-is}
-use Rattle.station.specs.SignOff.{bereft, isCellOf, unhearAt, unhearAll, noSource, strikeBy, signOff}
+use Rattle.signoff.specs.SignOff.{bereft, isCellOf, unhearAt, unhearAll, noSource, strikeBy, signOff}
 use Rattle.promise.proofs.Signs.{Signed, signed, cleared}
 use Rattle.laws.specs.FreeSlots.{Apart, BlankIn}
 use Rattle.laws.proofs.Vacant.{Keeps}

@@ -31,7 +31,7 @@ use Rattle.bursts.proofs.Masks.{mask-where}
 use Rattle.next.specs.Next.{listFor}
 use Rattle.config.specs.declared.Given.{Given}
 use Rattle.station.specs.Entries.{startRefusal}
-use Rattle.station.specs.SignOff.{vacant}
+use Rattle.signoff.specs.SignOff.{vacant}
 use Rattle.promise.specs.Promise.{Call, after, started}
 use Rattle.promise.proofs.Walk.{Allowed, Field, burst, told, caps, version, heard, down, received, direct, reached, Fields, fields-keep, Turned, still, ends, sends, polls, goes, draws, Within, Change, others, turned, over, hears, written, counted, promoted, moved, entered, piece, landed, freed, barred, signsOff, offered, readings}
 use Rattle.promise.proofs.WalkCalls.{all, always}

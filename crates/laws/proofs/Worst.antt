@@ -60,7 +60,8 @@ use Rattle.rx.specs.Ending.{Ended, turnOverIn, idleHeard, idleBy, idleEnd, repl
 use Rattle.rx.specs.Reception.{Received, airOf, firstReading, ncsRx}
 use Rattle.config.specs.Checks.{settingsOf}
 use Rattle.station.specs.Entries.{Outcome, done, refused, unless, check1, admitRefusal, admitted, admitOf, receiveBy, receiveRefusal, receiveOf, nextRefusal, nextOf, sentOf, closeRefusal, closeOf, readRefusal, cellRefusal, freeOf}
-use Rattle.station.specs.SignOff.{bereftOf, bereaveAt, bereaveAll, leave, struckOff, vacant, signOff, signOffRefusal, signOffOf}
+use Rattle.signoff.specs.SignOff.{bereftOf, bereaveAt, bereaveAll, leave, struckOff, vacant, signOff}
+use Rattle.station.specs.SignOff.{signOffRefusal, signOffOf}
 use Rattle.station.specs.declared.Lowest.the-variants.{Refused, Is}
 use Rattle.station.specs.Worst.{worstOf, refusalIn, decibelsOf}
 use Rattle.dues.specs.Dues.{duesRefusal}

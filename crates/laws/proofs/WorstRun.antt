@@ -38,7 +38,8 @@ use Rattle.rx.specs.Reception.{ncsRx}
 use Rattle.station.specs.declared.Lowest.{Lowest}
 use Rattle.station.specs.declared.Lowest.the-variants.{Refused, Is}
 use Rattle.station.specs.Entries.{admitRefusal, admitOf, receiveRefusal, receiveOf, nextRefusal, nextOf, sentOf}
-use Rattle.station.specs.SignOff.{bereaveAt, bereaveAll, clearAt, clearAll, unhearAt, unhearAll, signOff, signOffRefusal, signOffOf}
+use Rattle.signoff.specs.SignOff.{bereaveAt, bereaveAll, clearAt, clearAll, unhearAt, unhearAll, signOff}
+use Rattle.station.specs.SignOff.{signOffRefusal, signOffOf}
 use Rattle.station.specs.Worst.{worstOf}
 use Rattle.promise.specs.Promise.{handed, Net, net, Call, admission, reception, decision, sending, signing, result, step, after}
 

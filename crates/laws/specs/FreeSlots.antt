@@ -14,7 +14,7 @@ use Rattle.net.specs.declared.Turn.{Turn}
 use Rattle.net.specs.declared.Turn.the-variants.{Idle, Sending, Waiting}
 use Rattle.config.specs.declared.Given.{Given}
 use Rattle.station.specs.Entries.{startRefusal}
-use Rattle.station.specs.SignOff.{vacant}
+use Rattle.signoff.specs.SignOff.{vacant}
 use Rattle.promise.specs.Promise.{Call, after, started}
 
 -- slot i is neither polled nor relayed for

@@ -26,7 +26,7 @@ use Rattle.next.specs.declared.Act.{Act}
 use Rattle.next.specs.declared.Act.the-variants as act
 use Rattle.next.specs.declared.Late.{Late}
 use Rattle.next.specs.Next.{dueOf, drawn, ncsNext}
-use Rattle.next.specs.Steps.{saidAfter, lateOf, lateWords, lateMember, lateSource, lateWait, lateTotals, lateRound, lateStation, lateSays, actIn, isSeldom, reroutedThen, reroutingOf, listThen, roundThen, seldomOf, pollIf, nextStraight}
+use Rattle.next.specs.Code.Decision.{saidAfter, lateOf, lateWords, lateMember, lateSource, lateWait, lateTotals, lateRound, lateStation, lateSays, actIn, isSeldom, reroutedThen, reroutingOf, listThen, roundThen, seldomOf, pollIf, nextStraight}
 use Rattle.next.proofs.Stages.{next-is}
 
 -- nothing is written

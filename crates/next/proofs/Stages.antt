@@ -36,7 +36,7 @@ use Rattle.next.specs.declared.Due.the-variants.{Free, Quiet, Close, Aga
 use Rattle.next.specs.declared.Act.{Act}
 use Rattle.next.specs.declared.Act.the-variants as act
 use Rattle.next.specs.Next.{silent, spoke, after, pollBy, pollStage, drawn, drawStage, reroutedStage, rerouteStage, listStage, roundEnd, hurried, actOf, actBy, actStage, windowStage, closeStage, againStage, missedEvent, turnOverIn, missedStage, dueTurn, dueOf, byDue, ncsNext}
-use Rattle.next.specs.Steps.{saidOf, saidAfter, noLate, lateReply, lateBy, lateOf, lateMembers, lateStation, lateSays, lateThen, forwardTo, reroutedThen, reroutingOf, listThen, roundThen, seldomOf, mayPoll, frontBy, frontOf, pollSlot, pollIf, pollThen, restOf, nextStraight}
+use Rattle.next.specs.Code.Decision.{saidOf, saidAfter, noLate, lateReply, lateBy, lateOf, lateMembers, lateStation, lateSays, lateThen, forwardTo, reroutedThen, reroutingOf, listThen, roundThen, seldomOf, mayPoll, frontBy, frontOf, pollSlot, pollIf, pollThen, restOf, nextStraight}
 use Rattle.next.proofs.Keeps.{acks-busy, reroute-wait, list-busy, unsent}
 
 -- ### Tests

@@ -8,7 +8,7 @@ ghost use Rattle.out.specs.Encode.{Wrote};
 ghost use Rattle.net.specs.State.{withNumber};
 ghost use Rattle.net.specs.Net.{Did, said};
 ghost use Rattle.next.specs.Next.{overdueOf, dueBy, dueOf, listFor, drawn, ncsNext};
-ghost use Rattle.next.specs.Steps.{noLate, lateReply, lateOf, lateWords, lateMember, lateSource, lateWait, lateTotals, closeRound, forwardTo, lateRound, actIn, isSeldom, reroutingOf, roundThen, seldomOf, mayPoll, frontOf, pollWait, pollTotals, pollList, pollSource, pollWords, pollIf};
+ghost use Rattle.next.specs.Code.Decision.{noLate, lateReply, lateOf, lateWords, lateMember, lateSource, lateWait, lateTotals, closeRound, forwardTo, lateRound, actIn, isSeldom, reroutingOf, roundThen, seldomOf, mayPoll, frontOf, pollWait, pollTotals, pollList, pollSource, pollWords, pollIf};
 use bits::Found;
 use bursts::reroute;
 use level::Clock;

@@ -22,7 +22,7 @@ use Rattle.net.proofs.Laws.{index-is, member-lt, member-is}
 use Rattle.bursts.specs.Rows.{seated}
 use Rattle.config.specs.declared.Given.{Given}
 use Rattle.station.specs.Entries.{startRefusal}
-use Rattle.station.specs.SignOff.{bereft, signOff}
+use Rattle.signoff.specs.SignOff.{bereft, signOff}
 use Rattle.promise.specs.Promise.{Call, after, started, LinksHold}
 use Rattle.promise.proofs.Trees.{absent, root, via, tree-gone}
 use Rattle.promise.proofs.Rosters.{linkVia, linkIn, Kept, Keeps, kept-none, kept-same, kept-cut, kept-hang, kept-new, kept-holds}

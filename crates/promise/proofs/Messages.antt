@@ -36,7 +36,8 @@ use Rattle.rx.specs.Reception.{Received, airOf, ncsRx}
 use Rattle.config.specs.declared.Given.{Given}
 use Rattle.config.specs.Checks.{settingsOk, settingsOf}
 use Rattle.station.specs.Entries.{Outcome, refused, done, unless, admitted, receivedAs, receiveOf, admitRefusal, admitOf, nextRefusal, nextOf, sentOf, check1, closeRefusal, closeOf, startRefusal, startOf, cellRefusal, check22, readRefusal, readingOf, freeOf}
-use Rattle.station.specs.SignOff.{signOff, signOffRefusal, signOffOf}
+use Rattle.signoff.specs.SignOff.{signOff}
+use Rattle.station.specs.SignOff.{signOffRefusal, signOffOf}
 use Rattle.station.specs.Worst.{worstOf, refusalIn}
 use Rattle.dues.specs.Dues.{duesRefusal}
 use Rattle.promise.specs.Promise.{Lent, lentTo, Net, net, ofBurst, InBook, Call, admission, reception, decision, sending, closing, reading, freeing, charging, signing, result, inBook, outcome, isRefused, step, started, Stays, Sent, sentNow, Message, Ledger, Book, emptyBook, same, alsoHanded, Entered, unchanged, bookFrames, framesBy, Event2, eventsIn, enter, enterAll, named, answersOf, bookEnds, bookDone, bookCall, FramesOk, CallOk, CallsOk, Once, Paired, ReadsAs, AtCall, Holds, Stayed, stayed, handedIn, alsoStayed, OnceInStay, Messages, handed, another, asking, LentOk}

@@ -26,7 +26,7 @@ use Rattle.bursts.proofs.Masks.{mask-past}
 use Rattle.next.specs.Next.{listFor}
 use Rattle.config.specs.declared.Given.{Given}
 use Rattle.station.specs.Entries.{startRefusal}
-use Rattle.station.specs.SignOff.{leave, struckOff, bereaveAt, bereaveAll, signOff}
+use Rattle.signoff.specs.SignOff.{leave, struckOff, bereaveAt, bereaveAll, signOff}
 use Rattle.promise.specs.Promise.{Call, after, started, leads}
 use Rattle.promise.proofs.Links.{links}
 use Rattle.promise.proofs.Walk.{Turned, still, ends, sends, polls, goes, draws, stays-up, also, none, RelayOk, Change, others, turned, over, hears, written, counted, promoted, moved, entered, piece, landed, freed, barred, readings, signsOff}

@@ -28,7 +28,7 @@ use Rattle.net.specs.declared.Station.{Station}
 use Rattle.net.specs.State.{indexOf, tableOf}
 use Rattle.net.specs.Net.{isMember}
 use Rattle.net.proofs.Laws.{index-is, member-lt, member-is}
-use Rattle.station.specs.SignOff.{bereft, isCellOf, clearAll, signOff}
+use Rattle.signoff.specs.SignOff.{bereft, isCellOf, clearAll, signOff}
 use Rattle.promise.specs.Promise.{Sent, Message, Ledger, Book, strikeEntry, bookEnds, allBelow}
 use Rattle.promise.proofs.Ledgers.{Cov, none-below}
 use Rattle.promise.proofs.Modest.{fresh-free}

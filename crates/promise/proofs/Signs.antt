@@ -24,7 +24,8 @@ use Rattle.net.specs.State.{tableOf, withRecent, recentAt}
 use Rattle.net.specs.Net.{isMember}
 use Rattle.bursts.specs.Rows.{seated}
 use Rattle.bursts.specs.Reroute.{withSeated}
-use Rattle.station.specs.SignOff.{vacant, leave, bereft, bereftOf, bereaveAt, bereaveAll, struckOff, strikeRound, strikeWait, isCellOf, clearAt, clearAll, unhearAll, signOff, signOffRefusal}
+use Rattle.signoff.specs.SignOff.{vacant, leave, bereft, bereftOf, bereaveAt, bereaveAll, struckOff, strikeRound, strikeWait, isCellOf, clearAt, clearAll, unhearAll, signOff}
+use Rattle.station.specs.SignOff.{signOffRefusal}
 
 -- ---- the other boats
 

@@ -26,7 +26,8 @@ use Rattle.rx.specs.Reception.{Received, airOf, ncsRx}
 use Rattle.config.specs.declared.Given.{Given}
 use Rattle.station.specs.Entries.{Outcome, receiveOf, startRefusal, cellRefusal, freeOf}
 use Rattle.promise.specs.Promise.{Lent, lentTo, Net, net, Call, admission, reception, decision, sending, closing, reading, freeing, charging, signing, result, outcome, isRefused, step, after, started, framesBy, asking}
-use Rattle.station.specs.SignOff.{signOff, signOffRefusal, signOffOf}
+use Rattle.signoff.specs.SignOff.{signOff}
+use Rattle.station.specs.SignOff.{signOffRefusal, signOffOf}
 use Rattle.net.proofs.Laws.{member-lt}
 use Rattle.promise.proofs.Signs.{sign-member, signed, cleared-tidy}
 use Rattle.promise.proofs.SignTies.{window-gone, window-still}

@@ -27,7 +27,8 @@ use Rattle.admit.specs.Admission.{seatOf, isFull, viaFor}
 use Rattle.next.specs.Next.{ncsNext}
 use Rattle.rx.specs.Reception.{ncsRx}
 use Rattle.station.specs.Entries.{Outcome, refused, done, unless, startRefusal, startOf, admitted, admitOf, receiveBy, receiveRefusal, receiveOf, nextOf, sentOf, closeOf, freeOf, readRefusal, check1, admitRefusal, nextRefusal, closeRefusal, cellRefusal}
-use Rattle.station.specs.SignOff.{noSource, strikeBy, signOff, signOffRefusal, signOffOf}
+use Rattle.signoff.specs.SignOff.{noSource, strikeBy, signOff}
+use Rattle.station.specs.SignOff.{signOffRefusal, signOffOf}
 use Rattle.station.specs.Worst.{worstOf, refusalIn}
 use Rattle.dues.specs.Dues.{duesRefusal}
 use Rattle.promise.specs.Promise.{lentTo, Net, ofBurst, Call, admission, reception, decision, sending, closing, reading, freeing, charging, signing, result, outcome, step, after, started, TurnEvent, struck, overIf, drewIf, burstsIn, turnEvents, trace, emptyView, TurnsHold, asking}

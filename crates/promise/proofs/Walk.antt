@@ -35,7 +35,7 @@ use Rattle.bursts.specs.Rows.{seated}
 use Rattle.bursts.specs.Reroute.{withSeated, sourceFor}
 use Rattle.next.specs.Next.{listFor}
 use Rattle.frames.specs.Pieces.{sizeOf}
-use Rattle.station.specs.SignOff.{signOff}
+use Rattle.signoff.specs.SignOff.{signOff}
 
 -- which changes a chain may have: those by levels of this kind, those of the waiting and the list, those of the cells
 pub record Allowed : Type 1 where

@@ -22,7 +22,7 @@ use Rattle.net.specs.Net.{isMember, blankCall}
 use Rattle.net.proofs.Laws.{index-lt}
 use Rattle.bursts.specs.Rows.{seated}
 use Rattle.bursts.specs.Reroute.{withSeated}
-use Rattle.station.specs.SignOff.{vacant, leave, untried, cutOff, bereft, bereftOf, bereaveAt, bereaveAll, struckOff, signOff}
+use Rattle.signoff.specs.SignOff.{vacant, leave, untried, cutOff, bereft, bereftOf, bereaveAt, bereaveAll, struckOff, signOff}
 use Rattle.promise.proofs.Walk.{Allowed, Field, fields-keep, Stays, stays, over-keeps, over-stays, RelayOk, Change}
 use Rattle.promise.proofs.Walk as walk
 use Rattle.promise.proofs.WalkNext.{index-member}

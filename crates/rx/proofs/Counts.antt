@@ -14,8 +14,9 @@ use Rattle.admit.specs.declared.Seat.{Seat}
 use Rattle.admit.specs.declared.Seat.the-variants.{Known, Free, Full}
 use Rattle.admit.specs.Admission.{admitBy, seatOf, slotOf}
 use Rattle.frames.specs.declared.Air.{Air}
-use Rattle.frames.specs.Kinds.{Kind, Nothing, Piece, Checkin, Report, Overheard, Kids}
-use Rattle.frames.specs.Control.{eachEntry, checkinFrame, checkinMember, seatedIn, callAt, withActive, overheardBy, overheardEntry, overheardFrame, relayOf, heardBy, hearing, newcomer, kidBy, kidEntry, kidsFrame, isKid, controlSays}
+use Rattle.frames.specs.Code.Kinds.{Kind, Nothing, Piece, Checkin, Report, Overheard, Kids}
+use Rattle.frames.specs.Control.{eachEntry, checkinFrame, checkinMember, seatedIn, callAt, withActive, overheardBy, overheardEntry, overheardFrame, relayOf, heardBy, hearing, newcomer, kidBy, kidEntry, kidsFrame, isKid}
+use Rattle.frames.specs.Code.Control.{controlSays}
 
 -- what each entry keeps, all of them keep
 each-keeps : {A : Type 0} (P : A → Type 0) (f : ℕ → A → A) (w len : ℕ) → ((e : ℕ) (x : A) → P x → P (f e x)) → (n e : ℕ) (x : A) → P x → P (eachEntry f w len n e x)

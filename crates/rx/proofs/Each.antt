@@ -24,12 +24,16 @@ use Rattle.net.specs.Net.{isMember, Did}
 use Rattle.frames.specs.declared.Air.{Air}
 use Rattle.frames.specs.declared.Rx.{Rx}
 use Rattle.frames.specs.declared.Frame.{Frame}
-use Rattle.frames.specs.Kinds.{Kind, Nothing, Piece, Checkin, Report, Overheard, Kids}
+use Rattle.frames.specs.Code.Kinds.{Kind, Nothing, Piece, Checkin, Report, Overheard, Kids}
 use Rattle.frames.specs.declared.pieces.Piece as piece
-use Rattle.frames.specs.Reading.{Reading, alsoSaid, nextRx, reportRx}
-use Rattle.frames.specs.Pieces.{pieceOf, pieceFrame, takenOf, ownerAfter, busyAfter, landedAfter, withIf, memberAfter, relayedBy, roundAfter, totalsAfter, landedEvents, storedPiece, RoomIn}
-use Rattle.frames.specs.Control.{payloadIn, forwardedBy, isForwarded, reportMember, reportStation, reportFrame, hearPairs, isPending, controlSays}
-use Rattle.frames.specs.Frames.{readFrame, readBy, frameOf, kindOf}
+use Rattle.frames.specs.Reading.{Reading, alsoSaid}
+use Rattle.frames.specs.Code.Reading.{nextRx, reportRx}
+use Rattle.frames.specs.Pieces.{pieceFrame}
+use Rattle.frames.specs.Code.Pieces.{pieceOf, takenOf, ownerAfter, busyAfter, landedAfter, withIf, memberAfter, relayedBy, roundAfter, totalsAfter, landedEvents, storedPiece, RoomIn}
+use Rattle.frames.specs.Control.{payloadIn, forwardedBy, isForwarded, reportMember, reportStation, reportFrame, hearPairs, isPending}
+use Rattle.frames.specs.Code.Control.{controlSays}
+use Rattle.frames.specs.Frames.{readFrame}
+use Rattle.frames.specs.Code.Frames.{readBy, frameOf, kindOf}
 use Rattle.frames.proofs.Laws.{bytes-payload, peek-bytes}
 use Rattle.frames.proofs.Entries.{did-none}
 use Rattle.frames.proofs.ByKind.{read-kind, report-whole}

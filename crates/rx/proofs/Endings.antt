@@ -33,7 +33,7 @@ use Rattle.frames.specs.Reading.{Reading}
 use Rattle.rx.specs.declared.ending.Awaited.{Awaited}
 use Rattle.rx.specs.declared.ending.Ending.{Ending}
 use Rattle.rx.specs.Ending.{isReply, goesOn, replyMember, idleHeard, idleBy, idleEnd, answerBy, replyHeard, replyBy, replyEnd, turnOverIn, nothingMore, endReading, endSaid}
-use Rattle.rx.specs.Steps.{awaits, noReply, noEnding, idleEnding, replyEnding, awaitedOf, endingBy, endStation, endBurst, endWords, endLevel, endMember, endRecent, endSource, endWait, endTotals}
+use Rattle.rx.specs.Code.Ending.{awaits, noReply, noEnding, idleEnding, replyEnding, awaitedOf, endingBy, endStation, endBurst, endWords, endLevel, endMember, endRecent, endSource, endWait, endTotals}
 
 -- ### What the burst is
 

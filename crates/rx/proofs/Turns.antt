@@ -21,16 +21,19 @@ use Rattle.net.specs.declared.Station.{Station}
 use Rattle.frames.specs.declared.Air.{Air}
 use Rattle.frames.specs.declared.Rx.{Rx}
 use Rattle.frames.specs.declared.Frame.{Frame}
-use Rattle.frames.specs.Reading.{Reading, firstRx, nextRx}
+use Rattle.frames.specs.Reading.{Reading}
+use Rattle.frames.specs.Code.Reading.{firstRx, nextRx}
 use Rattle.frames.proofs.ByKind.{frame-size}
-use Rattle.frames.specs.Frames.{readFrame, readFrames, frameStep, frameOf, isThere}
+use Rattle.frames.specs.Frames.{readFrame, readFrames, frameStep, isThere}
+use Rattle.frames.specs.Code.Frames.{frameOf}
 use Rattle.wire.specs.Kinds.{tiny, kIdle}
 use Rattle.words.specs.declared.Head.{Head}
 use Rattle.net.specs.declared.Turn.{Turn}
 use Rattle.net.specs.declared.Turn.the-variants.{Idle, Sending, Waiting}
 use Rattle.net.specs.Net.{Did}
 use Rattle.rx.specs.Ending.{Ended, nothingMore, idleEnd, replyBy, replyEnd, endOf, endReading, endSaid}
-use Rattle.rx.specs.Reception.{RxDid, firstReading, framesRead, burstRead}
+use Rattle.rx.specs.Reception.{RxDid, firstReading}
+use Rattle.rx.specs.Code.Reception.{framesRead, burstRead}
 
 -- the running values, as the loop has them
 abbrev pub readingAt : Station → List ℕ → List ℕ → List ℕ → Rx → Reading

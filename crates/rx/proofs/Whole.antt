@@ -19,7 +19,8 @@ use Rattle.net.specs.State.{withWait}
 use Rattle.frames.specs.declared.Air.{Air}
 use Rattle.frames.specs.Frames.{readFrames}
 use Rattle.rx.specs.Ending.{busyWait}
-use Rattle.rx.specs.Reception.{airBy, airOf, headFor, quietHead, manyOf, framesRead, burstRead, rxBy, rxOf, ncsRx}
+use Rattle.rx.specs.Reception.{airBy, airOf, rxBy, rxOf, ncsRx}
+use Rattle.rx.specs.Code.Reception.{headFor, quietHead, manyOf, framesRead, burstRead}
 
 -- ### What `read_burst` asks
 

@@ -1,3 +1,3 @@
 pub mod Ending
-pub mod Steps
 pub mod Reception
+pub mod Code

@@ -1,14 +1,13 @@
 -- `ncs_rx` of ncs.rs, whole.
 use Prim.Native.Nat.{ℕ}
 use mathlib.Core.Path.{_≡_}
-use mathlib.Core.Bool.{Bool, true, false, cond}
+use mathlib.Core.Bool.{Bool, false, cond}
 use mathlib.Core.List.{List, [], _++_}
 use mathlib.Core.Option.{Option, none}
-use lib.Dec.{eqb, ltb}
-use lib.ListN.{length, getD}
+use lib.Dec.{eqb}
 use lib.Ieee.{Float}
 use Rattle.wire.specs.Kinds.{tiny, kIdle}
-use Rattle.words.specs.Words.{Heard, Burst, Parsed, malformed, parsed, parse, headOf}
+use Rattle.words.specs.Words.{Burst, Parsed, malformed, parsed, parse}
 use Rattle.words.specs.declared.Head.{Head}
 use Rattle.out.specs.Encode.{Wrote}
 use Rattle.net.specs.declared.Station.{Station}
@@ -18,7 +17,7 @@ use Rattle.net.specs.Net.{polledBy}
 use Rattle.frames.specs.declared.Air.{Air}
 use Rattle.frames.specs.Reading.{Reading}
 use Rattle.frames.specs.Frames.{readFrames}
-use Rattle.rx.specs.Ending.{isAside, busyWait, Ended, nothingMore, idleEnd, replyEnd, endOf}
+use Rattle.rx.specs.Ending.{isAside, busyWait, Ended, nothingMore, idleEnd, replyEnd}
 
 -- What a reception comes to: station, store, events and burst, the pieces not kept; and what item 3 speaks of: the members as each frame was read, and the
 -- slot the waiting for whose reply ended, after the burst.
@@ -83,29 +82,3 @@ pub record RxDid (d : Received) (r : Station) (t : List ℕ) (l : List ℕ) (m :
   pub store : t ≡ d .store
   pub wrote : Wrote l 0 (d .words) m j
   pub unkept : k ≡ d .unkept
-
--- ---- as the code takes it
-
--- a head that says nothing stands for that of a refused burst
-abbrev pub quietHead : Head
-quietHead = headOf 0x87c00000
-
-abbrev pub headFor : Bool → List ℕ → Head
-headFor ok words = cond ok (cond (ltb 0 (length words)) (headOf (getD words 0 0)) quietHead) quietHead
-
-abbrev pub manyOf : Head → ℕ → ℕ
-manyOf h n = cond (eqb (h .code) tiny) 0 n
-
-abbrev pub framesIn : Parsed Burst → List Heard
-framesIn malformed = []
-framesIn (parsed b) = b .frames
-
--- the n frames that are read of the words
-unfoldable pub framesRead : ℕ → List ℕ → List Heard
-framesRead n words = cond (eqb n 0) [] (framesIn (parse words))
-
-abbrev pub endedOf : Air → Head → Reading → Received
-endedOf a h x = receivedOf x (endOf a h x)
-
-unfoldable pub burstRead : Air → Head → ℕ → List ℕ → Station → List ℕ → Received
-burstRead a h n words s store = endedOf a h (readFrames a (framesRead n words) (firstReading s store))

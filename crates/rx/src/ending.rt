@@ -4,7 +4,7 @@ ghost use Prim.Native.Nat.{_+_, _%_};
 ghost use Rattle.out.specs.Encode.{Wrote};
 ghost use Rattle.net.specs.Net.{Did};
 ghost use Rattle.rx.specs.Ending.{isAside, isBusy, putOff, busyWait, goesOn, isReply, idleMember, replyMember, ackExtra, endSaid};
-ghost use Rattle.rx.specs.Steps.{noReply, awaits, awaitedOf, noEnding, idleEnding, replyEnding, endingBy, endMember, endRecent, endSource, endWait, endTotals, endLevel, endWords};
+ghost use Rattle.rx.specs.Code.Ending.{noReply, awaits, awaitedOf, noEnding, idleEnding, replyEnding, endingBy, endMember, endRecent, endSource, endWait, endTotals, endLevel, endWords};
 use frames::Air;
 use frames::Rx;
 use level::Clock;

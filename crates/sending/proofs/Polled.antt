@@ -27,7 +27,7 @@ use Rattle.config.specs.declared.Given.{Given}
 use Rattle.config.specs.Checks.{settingsOf}
 use Rattle.stream.specs.Table.{cellCount}
 use Rattle.station.specs.Entries.{startRefusal}
-use Rattle.station.specs.SignOff.{strikeBy, signOff, bereaveAt, bereaveAll, leave, struckOff}
+use Rattle.signoff.specs.SignOff.{strikeBy, signOff, bereaveAt, bereaveAll, leave, struckOff}
 use Rattle.promise.specs.Promise.{Call, Net, step, started}
 use Rattle.promise.proofs.Walk.{Turned, still, ends, sends, polls, goes, draws, Change, others, turned, over, hears, written, counted, promoted, moved, entered, piece, landed, freed, barred, readings, signsOff, chain-keeps}
 use Rattle.promise.proofs.WalkCalls.{all, step-walk}

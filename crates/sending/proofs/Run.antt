@@ -40,7 +40,8 @@ use Rattle.rx.specs.Reception.{ncsRx}
 use Rattle.config.specs.declared.Given.{Given}
 use Rattle.config.specs.Checks.{settingsOk, settingsOf, thresholdsOk}
 use Rattle.station.specs.Entries.{startRefusal, admitRefusal, admitOf, receiveRefusal, receiveOf, nextRefusal, nextOf, sentOf, readRefusal, cellRefusal, readingOf}
-use Rattle.station.specs.SignOff.{bereaveAt, bereaveAll, clearAt, clearAll, unhearAt, unhearAll, signOff, signOffRefusal, signOffOf}
+use Rattle.signoff.specs.SignOff.{bereaveAt, bereaveAll, clearAt, clearAll, unhearAt, unhearAll, signOff}
+use Rattle.station.specs.SignOff.{signOffRefusal, signOffOf}
 use Rattle.outbox.specs.Outbox.{cut-up, recut, picked, swept, sweep, sweep-out, fresh, fresh-out, lens, take-out, retain, remove, acked}
 use Rattle.promise.specs.Promise as item3
 use Rattle.promise.specs.Promise.{handed, Net, net, Call, admission, reception, decision, sending, signing, result, started, Stays, cover, alsoHanded, allBelow, bookFrame, bookFrames, bookEnds, eventsIn}

@@ -18,7 +18,6 @@ use net::Station;
 use words::Shape;
 
 pub mod show;
-pub mod signoff;
 
 // A refusal's number, or how many words were written.
 pub enum Answer {
@@ -313,22 +312,13 @@ pub fn read<'a>(s: Station, lent: &'a [u8], cell: usize, no: &mut u8) -> &'a [u8
     inbox::store::read(lent, cell)
 }
 
-fn without_if(mask: u64, cell: usize, yes: bool) -> u64
-    ensures { λ r. ⌜ r ≡ cond yes (withoutBit mask cell) mask ⌝ }
-{
-    if yes {
-        return bits::without(mask, cell);
-    }
-    mask
-}
-
 // A cell given back for reuse. The store is not touched.
 pub fn free(mut s: Station, cell: usize) -> Answered
     ensures { λ r. ⌜ r ≡ answered (freeOf s cell) 0 ⌝ }
 {
     let no = cell_refusal(s.count, s.landed, cell);
-    s.landed = without_if(s.landed, cell, no == 0);
-    s.busy = without_if(s.busy, cell, no == 0);
+    s.landed = signoff::without_if(s.landed, cell, no == 0);
+    s.busy = signoff::without_if(s.busy, cell, no == 0);
     Answered {
         station: s,
         answer: answer_of(no, 0),

@@ -1,7 +1,7 @@
 -- Assumes nothing.
 use mathlib.Core.Path.{sym, _∙_}
 use lib.ListN.{drop}
-use Rattle.frames.specs.Frames.{frameOf}
+use Rattle.frames.specs.Code.Frames.{frameOf}
 use Rattle.frames.proofs.Laws.{frame-read}
 use borrow.Author.Needs.{needs}
 use Rattle.frames.proofs.frame_at.Statement.{statement}

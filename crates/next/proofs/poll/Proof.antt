@@ -8,7 +8,7 @@ use Rattle.bursts.specs.declared.reroute.Surveyed.{Surveyed}
 use Rattle.bursts.specs.Reroute.{sourceFor}
 use Rattle.bursts.proofs.Saying.{did-as}
 use Rattle.net.proofs.Laws.{index-lt}
-use Rattle.next.specs.Steps.{pollSource}
+use Rattle.next.specs.Code.Decision.{pollSource}
 use Rattle.next.proofs.Stages.{poll-is}
 use borrow.Author.Needs.{needs}
 use Rattle.next.proofs.poll.Statement.{statement}

@@ -2,7 +2,7 @@
 use mathlib.Core.Path.{sym}
 use Rattle.bits.proofs.Lists.{cond-true}
 use Rattle.bursts.proofs.Saying.{did-as}
-use Rattle.next.specs.Steps.{reroutingOf}
+use Rattle.next.specs.Code.Decision.{reroutingOf}
 use Rattle.next.proofs.Calls.{did-none, moved-said, round-drawn}
 use borrow.Author.Needs.{needs}
 use Rattle.next.proofs.rerouting.Statement.{statement}

@@ -2,7 +2,7 @@
 use mathlib.Core.Path.{sym, _∙_}
 use Rattle.bits.proofs.Lists.{cond-true}
 use Rattle.bursts.proofs.Saying.{did-as}
-use Rattle.next.specs.Steps.{roundThen}
+use Rattle.next.specs.Code.Decision.{roundThen}
 use Rattle.next.proofs.Calls.{list-none, list-said}
 use borrow.Author.Needs.{needs}
 use Rattle.next.proofs.round_end.Statement.{statement}

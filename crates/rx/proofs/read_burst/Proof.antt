@@ -3,7 +3,7 @@ use mathlib.Core.Path.{refl, sym, ap, _∙_}
 use mathlib.Core.Logic.{⊎-elim}
 use Rattle.out.proofs.Laws.{wrote-length}
 use Rattle.frames.specs.declared.Rx.{Rx}
-use Rattle.frames.specs.Kinds.{Piece, Checkin, Overheard, Kids}
+use Rattle.frames.specs.Code.Kinds.{Piece, Checkin, Overheard, Kids}
 use Rattle.frames.proofs.ByKind.{kind-up, kind-byte, is-checkin, short-checkin, is-report, short-report, is-overheard, is-kids, is-none}
 use native.Mathlib.Omega.{arith}
 use Prim.Native.Nat.{_-_}

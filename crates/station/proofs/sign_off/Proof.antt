@@ -7,7 +7,8 @@ use mathlib.Core.List.{[]}
 use lib.Dec.{ltb}
 use borrow.Author.Tests.{ltb-false, ne-eqb}
 use Rattle.net.specs.Net.{isMember}
-use Rattle.station.specs.SignOff.{signOff, signOffRefusal, signOffOf}
+use Rattle.signoff.specs.SignOff.{signOff}
+use Rattle.station.specs.SignOff.{signOffRefusal, signOffOf}
 use Rattle.station.proofs.Laws.{refused-as, done-as}
 use borrow.Author.Needs.{needs}
 use Rattle.station.proofs.sign_off.Statement.{statement}

@@ -1,5 +1,5 @@
 -- Assumes nothing.
-use Rattle.frames.specs.Pieces.{pieceOf}
+use Rattle.frames.specs.Code.Pieces.{pieceOf}
 use borrow.Author.Needs.{needs}
 use Rattle.frames.proofs.pieces.piece_of.Statement.{statement}
 use Rattle.frames.proofs.pieces.piece_of.Tie as tie

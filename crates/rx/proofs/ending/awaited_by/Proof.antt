@@ -1,7 +1,7 @@
 -- Assumes nothing.
 use mathlib.Core.Path.{ap, _∙_}
 use Rattle.net.specs.declared.Reply.{Reply}
-use Rattle.rx.specs.Steps.{awaits}
+use Rattle.rx.specs.Code.Ending.{awaits}
 use mathlib.Core.Bool.{false}
 use borrow.Author.Needs.{needs}
 use Rattle.rx.proofs.ending.awaited_by.Statement.{statement}

@@ -4,7 +4,7 @@ use Rattle.rx.specs.declared.ending.Awaited.{Awaited}
 use Rattle.rx.proofs.Endings.{ending-reply, ending-none}
 use borrow.Author.Tests.{eq-eqb, ne-eqb}
 use mathlib.Core.Path.{_∙_}
-use Rattle.rx.specs.Steps.{endingBy}
+use Rattle.rx.specs.Code.Ending.{endingBy}
 use borrow.Author.Needs.{needs}
 use Rattle.rx.proofs.ending.ending_of.Statement.{statement}
 use Rattle.rx.proofs.ending.ending_of.Tie as tie
