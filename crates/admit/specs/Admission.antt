@@ -10,10 +10,11 @@ use Rattle.bits.specs.Mask.{hasBit, withBit, lowestFree}
 use Rattle.bits.specs.declared.Found.{Found}
 use Rattle.bits.specs.declared.Found.the-variants.{At, Nothing}
 use Rattle.wire.specs.Call.{keyOf}
+use Rattle.queue.specs.Queues.{emptyQueue}
 use Rattle.out.specs.Encode.{eventWord}
 use Rattle.roster.specs.Members.{noMember, newMember}
 use Rattle.net.specs.declared.Station.{Station}
-use Rattle.net.specs.State.{indexOf, memberAt, withMember, withUsed, alsoAck, emptied}
+use Rattle.net.specs.State.{indexOf, memberAt, withMember, withUsed, alsoAck, emptied, withQueue}
 use Rattle.net.specs.Net.{isMember, Said, said}
 use Rattle.admit.specs.declared.Seat.{Seat}
 use Rattle.admit.specs.declared.Seat.the-variants.{Known, Free, Full}
@@ -52,7 +53,7 @@ admitEvents slot via = cond (eqb via 63) (eventWord 1 slot via ∷ []) (eventWor
 
 abbrev pub enterAt : Station → ℕ → List ℕ → ℕ → Float → Station
 enterAt s slot call via now =
-    alsoAck (withUsed (withMember (emptied s (indexOf slot)) slot (newMember call via now)) (withBit (s .used) (indexOf slot))) (indexOf slot)
+    alsoAck (withQueue (withUsed (withMember (emptied s (indexOf slot)) slot (newMember call via now)) (withBit (s .used) (indexOf slot))) slot emptyQueue) (indexOf slot)
 
 -- the boat takes its seat; via is the relay of a newcomer
 abbrev pub admitBy : Seat → Station → List ℕ → ℕ → Float → Said

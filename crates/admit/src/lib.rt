@@ -92,6 +92,8 @@ fn enter(mut s: Station, slot: u8, call: [u8; 7], via: u8, time: f64) -> Station
     s.members[i] = m;
     let none = recent::empty();
     s.recent[i] = none;
+    let q = queue::empty();
+    s.queues[i] = q;
     s.used = bits::with(s.used, i);
     let acks = bits::with(s.round.toack, i);
     s.round.toack = acks;

@@ -7,3 +7,4 @@ pub mod Listing
 pub mod Waiting
 pub mod Listed
 pub mod Timing
+pub mod Directing

@@ -1,3 +1,4 @@
 pub mod Rows
 pub mod Bursts
+pub mod Direct
 pub mod Reroute

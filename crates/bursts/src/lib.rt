@@ -12,6 +12,7 @@ use net::Settings;
 use net::Station;
 use roster::Member;
 
+pub mod direct;
 pub mod reroute;
 pub mod rows;
 

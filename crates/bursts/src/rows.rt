@@ -162,7 +162,7 @@ fn or_floor(lev: u32) -> u32
 }
 
 // The level a burst for a member goes at: its own, or its relay's (p).
-fn reach_level(g: Settings, used: u64, m: Member, p: Member) -> u32
+pub fn reach_level(g: Settings, used: u64, m: Member, p: Member) -> u32
     ensures { λ r. ⌜ r ≡ reachBy g used m p ⌝ }
 {
     if net::is_member(used, m.via) {

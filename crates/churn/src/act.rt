@@ -90,6 +90,12 @@ pub fn freed(d: Drawn, a: Answer) -> usize {
     }
 }
 
+// A next decision; nothing is posted, so no byte of the queue is sent.
+fn decided(s: Station, now: f64, out: &mut [u32; 8192]) -> Answered {
+    let queue = [0u8; 126976];
+    station::next(s, now, &queue, out)
+}
+
 pub fn one(
     s: Station,
     d: Drawn,
@@ -103,7 +109,7 @@ pub fn one(
         0 | 1 => station::sign_off(s, (d.a % 64) as u8),
         2 | 3 => admitted(s, d, now, out),
         4..=8 => heard(s, d, now, lent, w, out),
-        9..=11 => station::next(s, now, out),
+        9..=11 => decided(s, now, out),
         12 | 13 => station::sent(s, now),
         _ => emptied(s, (d.a % 10) as usize, lent),
     }

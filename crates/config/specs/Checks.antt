@@ -1,10 +1,10 @@
 -- Document 01, Settings: the span of each setting (5), and the settings that a start leaves.
-use Prim.Native.Nat.{ℕ, _^_}
+use Prim.Native.Nat.{ℕ, zero, suc, _+_, _*_}
 use mathlib.Core.Bool.{Bool, true, false, not, cond, _&&_, _||_}
-use mathlib.Core.List.{List}
-use lib.Dec.{ltb, leb}
+use mathlib.Core.List.{List, [], _∷_}
+use lib.Dec.{eqb, ltb, leb}
 use lib.ListN.{getD}
-use lib.Ieee.{Float, nan}
+use lib.Ieee.{Float, nan, le}
 use Rattle.bits.specs.Loop.{every}
 use Rattle.level.specs.Spans.{upTo, within}
 use Rattle.wire.specs.Call.{numberOf, unpackCall}
@@ -34,10 +34,34 @@ decibelsOk g = thresholdsOk (g .thresholds) && within 200 (g .margin) && within 
 abbrev pub numbersOk : Settings → Bool
 numbersOk g = leb 1 (g .misslimit) && leb (g .misslimit) 1000 && leb (g .beaconlevel) 16
 
+-- ---- bursts of data (request U1)
+
+-- 17 by 64 durations: of n frames, 1 to 64, at level l, at 64 l + n - 1
+unfoldable pub dataOk : List Float → Bool
+dataOk d = every (λ i. spanOk (getD d i nan)) 1088 0
+
+-- the largest payload of each level, a byte: 1 to 255
+unfoldable pub payloadsOk : List ℕ → Bool
+payloadsOk p = every (λ l. not (eqb (getD p l 0) 0)) 17 0
+
+-- `room(level, 64)` of net.rs: n frames, and one more, k times at most, while the duration of one frame more is at most max_burst_s
+unfoldable pub roomOn : List Float → Float → ℕ → ℕ → ℕ → ℕ
+roomOn d max level zero n = n
+roomOn d max level (suc k) n = cond (le (getD d (64 * level + n) nan) max) (roomOn d max level k (n + 1)) n
+
+unfoldable pub room : List Float → Float → ℕ → ℕ
+room d max level = roomOn d max level 63 1
+
+-- of n levels from `level` on
+unfoldable pub roomsFrom : List Float → Float → ℕ → ℕ → List ℕ
+roomsFrom d max zero level = []
+roomsFrom d max (suc n) level = room d max level ∷ roomsFrom d max n (level + 1)
+
 unfoldable pub settingsOk : Given → Bool
 settingsOk x =
     secondsOk (x .settings) && durationsOk (x .settings .durations) && decibelsOk (x .settings) && numbersOk (x .settings) && ltb (numberOf (x .call)) 114415582592
+    && dataOk (x .times) && payloadsOk (x .payloads)
 
--- the settings of a start: the call is read as any call is
+-- the settings of a start: the call is read as any call is, and the station keeps how many frames fit a burst at each level
 abbrev pub settingsOf : Given → Settings
-settingsOf x = record { turnaround = x .settings .turnaround; maxburst = x .settings .maxburst; replyslack = x .settings .replyslack; detect = x .settings .detect; beaconevery = x .settings .beaconevery; quickbeacon = x .settings .quickbeacon; idleroundgap = x .settings .idleroundgap; durations = x .settings .durations; thresholds = x .settings .thresholds; margin = x .settings .margin; relaysnr = x .settings .relaysnr; misslimit = x .settings .misslimit; beaconlevel = x .settings .beaconlevel; windowslots = x .settings .windowslots; call = unpackCall (x .call); name = x .settings .name; prime = x .settings .prime; lead = x .settings .lead; latency = x .settings .latency }
+settingsOf x = record { turnaround = x .settings .turnaround; maxburst = x .settings .maxburst; replyslack = x .settings .replyslack; detect = x .settings .detect; beaconevery = x .settings .beaconevery; quickbeacon = x .settings .quickbeacon; idleroundgap = x .settings .idleroundgap; durations = x .settings .durations; thresholds = x .settings .thresholds; margin = x .settings .margin; relaysnr = x .settings .relaysnr; misslimit = x .settings .misslimit; beaconlevel = x .settings .beaconlevel; windowslots = x .settings .windowslots; call = unpackCall (x .call); name = x .settings .name; prime = x .settings .prime; lead = x .settings .lead; latency = x .settings .latency; rooms = roomsFrom (x .times) (x .settings .maxburst) 17 0; payloads = x .payloads }

@@ -79,6 +79,7 @@ fn length_of(command: u32) -> usize {
         3 => 5,
         8 => 182,
         9 => 8,
+        12 => 17,
         _ => 4,
     }
 }
@@ -110,6 +111,80 @@ fn malformed(s: Station) -> Answered {
     }
 }
 
+// ---- durations and payloads of data bursts, held for the starts that follow
+
+// How many numbers a frame of durations brings for its level, which is its flags, from the index on that is its field; 0 where it is none, or one is a NaN's
+// pattern.
+fn numbers_in(words: &[u32], p: &[u8; 255]) -> usize {
+    let i = words::item_at(words, 0);
+    let words::Item::Frame { flags, field, len } = i else {
+        return 0;
+    };
+    let n = len / 8;
+    let bad = (words::size_of(i) != words.len()) | (len % 8 != 0) | (16 < flags) | (63 < field);
+    if bad | (64 < field as usize % 64 + n) | any_nan(p, n) {
+        return 0;
+    }
+    n
+}
+
+// One of the first n numbers is a NaN's pattern.
+fn any_nan(p: &[u8; 255], n: usize) -> bool {
+    let m = least(n, 31);
+    let mut i: usize = 0;
+    while i < m {
+        if number::nan64_at(p, 8 * i) {
+            return true;
+        }
+        i += 1;
+    }
+    false
+}
+
+// Where they stand: at 64 * level + index.
+fn place_in(words: &[u32]) -> usize {
+    let i = words::item_at(words, 0);
+    let words::Item::Frame { flags, field, len } = i else {
+        return 0;
+    };
+    64 * (flags as usize % 17) + field as usize % 64
+}
+
+fn hold(held: &mut [f64; 1088], at: usize, p: &[u8; 255], n: usize) {
+    let m = least(n, 31);
+    let mut i: usize = 0;
+    while i < m {
+        let j = at % 1088 + i;
+        if j < 1088 {
+            held[j] = number::f64_at(p, 8 * i);
+        }
+        i += 1;
+    }
+}
+
+fn durations(c: Control, words: &[u32], held: &mut [f64; 1088], t: &mut [u8; 65536]) -> Control {
+    let p = words::payload(words, 0, 248);
+    let n = numbers_in(words, &p);
+    if n == 0 {
+        return print::word(t, action::closed(c), 3);
+    }
+    hold(held, place_in(words), &p, n);
+    action::closed(c)
+}
+
+fn largest(c: Control, words: &[u32], payloads: &mut [u8; 17], t: &mut [u8; 65536]) -> Control {
+    if 255 < flags_of(words, 12) {
+        return print::word(t, action::closed(c), 3);
+    }
+    let p = words::payload(words, 0, 17);
+    let mut i: usize = 0;
+    while i < 17 {
+        payloads[i] = p[i];
+        i += 1;
+    }
+    action::closed(c)
+}
+
 // The clock or the level from here on, if the words are one frame with no NaN in it.
 fn set(c: Control, words: &[u32], t: &mut [u8; 65536]) -> Control {
     let p = words::payload(words, 0, 8);
@@ -131,13 +206,127 @@ fn set(c: Control, words: &[u32], t: &mut [u8; 65536]) -> Control {
     k
 }
 
-// Runs the open command, if the word w ends it and it sets the clock or the level.
-pub fn setting(c: Control, w: u32, words: &[u32], t: &mut [u8; 65536]) -> Control {
-    if action::ends_setting(w, c) {
-        let m = least(c.words, words.len());
-        return set(c, &words[..m], t);
+// Runs the open command, if the word w ends it and it asks nothing of the station.
+pub fn setting(
+    c: Control,
+    w: u32,
+    words: &[u32],
+    held: &mut [f64; 1088],
+    payloads: &mut [u8; 17],
+    t: &mut [u8; 65536],
+) -> Control {
+    if !action::ends_setting(w, c) {
+        return c;
     }
-    c
+    let m = least(c.words, words.len());
+    let mine = &words[..m];
+    if c.command == 11 {
+        return durations(c, mine, held, t);
+    }
+    if c.command == 12 {
+        return largest(c, mine, payloads, t);
+    }
+    set(c, mine, t)
+}
+
+// ---- posting
+
+// The frame at `at` of a posting to the slot `flags`: how many words it takes; 0 where it is none, or longer than `room`.
+fn post_size(words: &[u32], at: usize, slot: u32, room: usize) -> usize {
+    let i = words::item_at(words, at);
+    let words::Item::Frame { flags, field, len } = i else {
+        return 0;
+    };
+    if (flags != slot) | (field != 0) | (room < len) {
+        return 0;
+    }
+    words::size_of(i)
+}
+
+fn post_length(words: &[u32], at: usize) -> usize {
+    let i = words::item_at(words, at);
+    let words::Item::Frame { flags, field, len } = i else {
+        return 0;
+    };
+    len
+}
+
+// The slot of the first frame; 256 where there is none.
+fn post_slot(words: &[u32]) -> u32 {
+    let i = words::item_at(words, 0);
+    let words::Item::Frame { flags, field, len } = i else {
+        return 256;
+    };
+    flags
+}
+
+// The payload of the frame at `at` goes behind the first n bytes of the message.
+fn join(message: &mut [u8; 2300], n: usize, words: &[u32], at: usize, len: usize) {
+    let p = words::payload(words, at, len);
+    let m = least(len, 255);
+    let mut i: usize = 0;
+    while i < m {
+        let j = n % 2301 + i;
+        if j < 2300 {
+            message[j] = p[i];
+        }
+        i += 1;
+    }
+}
+
+// The message that the frames say, and how many bytes it has; 2,301 where they say none.
+fn message_of(words: &[u32], slot: u32, message: &mut [u8; 2300]) -> usize {
+    let end = words.len();
+    let mut n: usize = 0;
+    let mut at: usize = 0;
+    while at < end {
+        let size = post_size(words, at, slot, 2300 - least(n, 2300));
+        let more = least(post_length(words, at), 2300);
+        let left = end - at;
+        let total = n + more;
+        if size == 0 {
+            return 2301;
+        }
+        if left < size {
+            return 2301;
+        }
+        if 2300 < total {
+            return 2301;
+        }
+        join(message, n, words, at, more);
+        n = total;
+        at += size;
+    }
+    n
+}
+
+// The first n bytes, posted.
+fn posted(s: Station, slot: u8, b: &[u8], n: usize, queue: &mut [u8; 126976]) -> Answered {
+    let z = least(n, b.len());
+    station::post(s, slot, &b[..z], queue)
+}
+
+fn posted_of(
+    s: Station,
+    slot: u8,
+    message: &[u8; 2300],
+    n: usize,
+    queue: &mut [u8; 126976],
+) -> Answered {
+    posted(s, slot, message, n, queue)
+}
+
+// A message posted, of the words that were kept for it.
+pub fn post(s: Station, c: Control, words: &[u32], queue: &mut [u8; 126976]) -> Answered {
+    let m = least(c.words, words.len());
+    let mine = &words[..m];
+    let slot = post_slot(mine);
+    let mut message = [0u8; 2300];
+    let n = message_of(mine, slot, &mut message);
+    if (255 < slot) | (2300 < n) {
+        return malformed(s);
+    }
+    posted_of(s, (slot % 256) as u8, &message, n, queue)
 }
 
 // A reception of the words that were kept for it.
@@ -179,13 +368,19 @@ fn admit(s: Station, words: &[u32], now: f64, out: &mut [u32; 8192]) -> Answered
 }
 
 // A fresh start.
-fn start(s: Station, words: &[u32], lent: &[u8]) -> Answered {
+fn start(
+    s: Station,
+    words: &[u32],
+    lent: &[u8],
+    held: &[f64; 1088],
+    payloads: &[u8; 17],
+) -> Answered {
     let p = words::payload(words, 0, 199);
     if (255 < flags_of(words, 8)) | given::has_nan(&p) {
         return malformed(s);
     }
     let z = store_of(given::lent_cells(&p), lent.len());
-    station::start(s, given::given(&p), &lent[..z])
+    station::start(s, given::given(&p, held, payloads), &lent[..z])
 }
 
 // A direct admission or a start, of the words that were kept for it.
@@ -194,6 +389,8 @@ pub fn finish(
     c: Control,
     words: &[u32],
     lent: &[u8],
+    held: &[f64; 1088],
+    payloads: &[u8; 17],
     out: &mut [u32; 8192],
 ) -> Answered {
     let m = least(c.words, words.len());
@@ -201,7 +398,7 @@ pub fn finish(
     if c.command == 3 {
         return admit(s, mine, c.now, out);
     }
-    start(s, mine, lent)
+    start(s, mine, lent, held, payloads)
 }
 
 // A start that was not refused: so many cells are lent from here on.

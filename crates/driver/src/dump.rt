@@ -3,6 +3,7 @@ use level::Clock;
 use level::Level;
 use net::Station;
 use net::Totals;
+use queue::Queue;
 use roster::Member;
 use script::number::bits32;
 use script::number::bits64;
@@ -123,6 +124,13 @@ fn put_member(t: &mut [u8; 65536], at: usize, m: Member, i: usize) -> usize {
     put_known(t, p, m.hasversion, m.version)
 }
 
+// The total posted, the first byte kept, the number reported.
+fn put_queue(t: &mut [u8; 65536], at: usize, q: Queue) -> usize {
+    let a = word_field(t, at, q.posted);
+    let b = word_field(t, a, q.kept);
+    word_field(t, b, q.reported)
+}
+
 fn put_totals(t: &mut [u8; 65536], at: usize, x: Totals) -> usize {
     let s = text::room(t, at);
     let a = text::put(t, s, b'T');
@@ -143,7 +151,9 @@ pub fn roster(s: Station, t: &mut [u8; 65536], at: usize) -> usize {
             let a = text::room(t, e);
             let b = put_member(t, a, m, i);
             let c = put_hears(t, b, &s.hears, i);
-            e = text::put(t, c, b'\n');
+            let q = s.queues[i];
+            let d = put_queue(t, c, q);
+            e = text::put(t, d, b'\n');
         }
         i += 1;
     }

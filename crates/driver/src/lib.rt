@@ -86,6 +86,9 @@ pub fn feed(
     n: usize,
     last: bool,
     lent: &mut [u8; 409600],
+    held: &mut [f64; 1088],
+    payloads: &mut [u8; 17],
+    queue: &mut [u8; 126976],
     words: &mut [u32; 8192],
     out: &mut [u32; 8192],
     t: &mut [u8; 65536],
@@ -94,23 +97,28 @@ pub fn feed(
     let mut i: usize = 0;
     while i < end {
         let w = word_or_end(b, i, n);
-        k = command::setting(k, w, words, t);
+        k = command::setting(k, w, words, held, payloads, t);
         if action::ends_burst(w, k) {
             let r = command::receive(u, k, words, lent, out);
             let h = r.answer;
             u = r.station;
             k = command::heard(k, h, r.mask, t, out);
+        } else if action::ends_post(w, k) {
+            let r = command::post(u, k, words, queue);
+            let h = r.answer;
+            u = r.station;
+            k = print::answer(t, action::closed(k), out, h);
         } else if action::ends_figures(w, k) {
             k = command::charged(u, k, words, t);
         } else if action::ends(w, k) {
-            let r = command::finish(u, k, words, lent, out);
+            let r = command::finish(u, k, words, lent, held, payloads, out);
             let h = r.answer;
             u = r.station;
             k = command::settled(k, words, h, t, out);
         }
         let a = action::action_of(w, k);
         if let Action::Next = a {
-            let r = station::next(u, k.now, out);
+            let r = station::next(u, k.now, queue, out);
             let h = r.answer;
             u = r.station;
             k = print::answer(t, k, out, h);
@@ -159,13 +167,29 @@ fn cut_short(c: Control, cut: bool, t: &mut [u8; 65536]) -> Control {
 fn read_all(s: Station, c: Control, lent: &mut [u8; 409600], t: &mut [u8; 65536]) -> Control {
     let mut words = [0u32; 8192];
     let mut out = [0u32; 8192];
+    let mut queue = [0u8; 126976];
+    let mut held = [1.0f64; 1088];
+    let mut payloads = preset::payloads();
     let mut b = io::large_buffer();
     let mut u = s;
     let mut k = c;
     let mut left: u64 = 18446744073709551615;
     while 0 < left {
         let n = io::read_full(0, &mut b);
-        let r = feed(u, k, &b, n / 4, n < 65536, lent, &mut words, &mut out, t);
+        let r = feed(
+            u,
+            k,
+            &b,
+            n / 4,
+            n < 65536,
+            lent,
+            &mut held,
+            &mut payloads,
+            &mut queue,
+            &mut words,
+            &mut out,
+            t,
+        );
         u = r.station;
         k = r.control;
         if n < 65536 {

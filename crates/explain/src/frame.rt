@@ -40,6 +40,10 @@ fn two(low: u8, high: u8) -> u64 {
     wide(low) + 256 * wide(high)
 }
 
+fn three(low: u8, middle: u8, high: u8) -> u64 {
+    wide(low) + 256 * wide(middle) + 65536 * wide(high)
+}
+
 fn wide(x: u8) -> u64
     ensures { λ r. ⌜ r < 256 ⌝ }
 {
@@ -138,10 +142,21 @@ fn report(t: &mut [u8; 65536], at: usize, who: &[u8; 441], p: &[u8; 255], len: u
     let b = text::put_text(t, a, b", hears us");
     let c = field(t, b, p[2]);
     let d = more(t, c, (p[3] != 0) | (p[4] != 0) | (p[5] != 0));
+    let e = held(t, d, three(p[9], p[10], p[11]));
     if len < 14 {
-        return d;
+        return e;
     }
-    entries(t, d, who, b", hears:", 3, p, len)
+    entries(t, e, who, b", hears:", 3, p, len)
+}
+
+// How much it holds of what was posted to it.
+fn held(t: &mut [u8; 65536], at: usize, n: u64) -> usize {
+    if n == 0 {
+        return at;
+    }
+    let a = text::put_text(t, at, b", holds ");
+    let b = text::put_decimal(t, a, n);
+    text::put_text(t, b, b" bytes of ours")
 }
 
 fn more(t: &mut [u8; 65536], at: usize, yes: bool) -> usize {
@@ -275,17 +290,18 @@ fn of_boat(t: &mut [u8; 65536], at: usize, who: &[u8; 441], p: &[u8; 255], len: 
     raw(t, at, p, len)
 }
 
-// From a boat: a piece of a message. To a boat: the field alone.
-fn data(t: &mut [u8; 65536], at: usize, own: bool, field: u32, p: &[u8; 255], len: usize) -> usize {
-    if own {
-        let a = say::number(t, at, b"message ", field / 65536);
-        let b = say::number(t, a, b" mod 256 from offset ", field % 65536);
-        let c = text::put_text(t, b, b", ");
-        return raw(t, c, p, len);
-    }
-    let a = say::number(t, at, b"field ", field);
-    let b = text::put_text(t, a, b", ");
-    raw(t, b, p, len)
+// Type 0, from a boat: a piece of a message. Type 1, to a boat: bytes of what was posted to it.
+fn data(t: &mut [u8; 65536], at: usize, ty: u32, field: u32, p: &[u8; 255], len: usize) -> usize {
+    let a = match ty {
+        0 => {
+            let b = say::number(t, at, b"message ", field / 65536);
+            say::number(t, b, b" mod 256 from offset ", field % 65536)
+        }
+        1 => say::number(t, at, b"word back from byte ", field),
+        _ => say::number(t, at, b"field ", field),
+    };
+    let c = text::put_text(t, a, b", ");
+    raw(t, c, p, len)
 }
 
 // A frame of len payload bytes.
@@ -304,7 +320,7 @@ pub fn frame(
     if (flags / 64 % 4 == 2) & (0 < len) {
         return control(t, c, who, p, len);
     }
-    data(t, c, flags / 64 % 4 == 0, field, p, len)
+    data(t, c, flags / 64 % 4, field, p, len)
 }
 
 // The frame behind a command that is no reception: a call and its relay, or bytes.

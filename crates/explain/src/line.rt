@@ -5,10 +5,11 @@ use super::event;
 use super::frame;
 use super::input;
 use super::message;
+use super::roster;
 use super::who;
 
 // end: where the text ends so far. word: the digits of the line so far, count how many, plain: the line is no word.
-// part: how far a line with a message is. command: the last one of a script, 2 before any and in a burst.
+// part: how far a line with a message is, 5 in a line of the roster, of which `posted` and `kept` are the last fields so far. command: the last one of a script, 2 before any and in a burst.
 // open: a frame is being read, of `flags`, `field` and `len` payload bytes, of which `got` are in.
 pub struct State {
     pub end: usize,
@@ -16,6 +17,8 @@ pub struct State {
     pub count: usize,
     pub plain: bool,
     pub part: u32,
+    pub posted: u32,
+    pub kept: u32,
     pub command: u32,
     pub open: bool,
     pub flags: u32,
@@ -31,6 +34,8 @@ pub fn first() -> State {
         count: 0,
         plain: false,
         part: 0,
+        posted: 0,
+        kept: 0,
         command: 2,
         open: false,
         flags: 0,
@@ -250,6 +255,9 @@ fn line_end(
 ) -> State {
     let mut u = s;
     u.end = text::room(t, s.end);
+    if s.part == 5 {
+        return fresh(passed(roster::end(u, t), b'\n', t));
+    }
     if s.part != 0 {
         return fresh(passed(message::end(u, t), b'\n', t));
     }
@@ -285,6 +293,9 @@ pub fn step(
     if b == b'\n' {
         return line_end(s, kept, bytes, who, t);
     }
+    if s.part == 5 {
+        return roster::step(s, b, t);
+    }
     if s.part != 0 {
         return message::step(s, b, t);
     }
@@ -293,6 +304,9 @@ pub fn step(
     }
     if (b == b'R') & (s.count == 0) {
         return message::begun(cut(s, t));
+    }
+    if (b == b'S') & (s.count == 0) {
+        return roster::begun(cut(s, t), t);
     }
     let d = digit(b);
     if (d < 16) & (s.count < 8) {

@@ -5,6 +5,7 @@ mod frame;
 mod input;
 mod line;
 mod message;
+mod roster;
 mod say;
 mod who;
 

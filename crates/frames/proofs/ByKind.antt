@@ -1,5 +1,5 @@
 -- A frame read by its kind, as the code does it, is the frame read by its flags and its first byte; a report's stores. Assumes nothing.
-use mathlib.Core.Path.{_≡_, refl, sym}
+use mathlib.Core.Path.{_≡_, refl, sym, _∙_}
 use mathlib.Core.Bool.{Bool, true, false, not, cond, _&&_}
 use mathlib.Core.List.{List}
 use Prim.Native.Nat.{ℕ, _/_, _%_, _<_, _≤_}
@@ -13,15 +13,16 @@ use Rattle.words.specs.declared.Item.{Item}
 use Rattle.words.specs.declared.Item.the-variants as item
 use Rattle.words.proofs.Read.{byte-in, payload-length}
 use Rattle.net.specs.declared.Station.{Station}
-use Rattle.net.specs.State.{memberAt, withMember, withHears}
+use Rattle.queue.specs.Queues.{reportedTo}
+use Rattle.net.specs.State.{memberAt, withMember, withHears, queueAt, withQueue}
 use Rattle.net.specs.Net.{isMember}
-use Rattle.net.proofs.Laws.{member-again}
+use Rattle.net.proofs.Laws.{member-again, queue-again}
 use Rattle.frames.specs.declared.Air.{Air}
 use Rattle.frames.specs.declared.Frame.{Frame}
 use Rattle.frames.specs.Code.Kinds.{Kind, Nothing, Piece, Checkin, Report, Overheard, Kids}
 use Rattle.frames.specs.Reading.{Reading, alsoSaid}
 use Rattle.frames.specs.Pieces.{pieceFrame}
-use Rattle.frames.specs.Control.{checkinFrame, reportFrame, overheardFrame, kidsFrame, forwardedBy, reportMember, hearPairs, reportStation}
+use Rattle.frames.specs.Control.{checkinFrame, reportFrame, overheardFrame, kidsFrame, forwardedBy, reportMember, hearPairs, reportStation, u24}
 use Rattle.frames.specs.Frames.{controlBy, controlFrame, readFrame}
 use Rattle.frames.specs.Code.Frames.{frameOf, controlByte, byteKind, controlKind, kindOf, readBy}
 
@@ -123,12 +124,13 @@ frame-size (item.Frame flags field len) p q = refl
 pub report-whole : (a : Air) (len : ℕ) (p : List ℕ) (slot : ℕ) (s : Station)
     → let here = isMember (s .used) slot in
     let m = memberAt s slot in
-    withHears (withMember s slot (cond here (reportMember a (getD p 2 0) (forwardedBy a here m) m) m)) (cond here (hearPairs len p slot (s .hears)) (s .hears))
+    let q = queueAt s slot in
+    withQueue (withHears (withMember s slot (cond here (reportMember a (getD p 2 0) (forwardedBy a here m) m) m)) (cond here (hearPairs len p slot (s .hears)) (s .hears))) slot (cond here (reportedTo q (u24 p 9)) q)
     ≡ reportStation a len p slot s
 report-whole a len p slot s = go (isMember (s .used) slot)
   where
     go : (here : Bool)
-        → withHears (withMember s slot (cond here (reportMember a (getD p 2 0) (forwardedBy a here (memberAt s slot)) (memberAt s slot)) (memberAt s slot))) (cond here (hearPairs len p slot (s .hears)) (s .hears))
-        ≡ cond here (withHears (withMember s slot (reportMember a (getD p 2 0) (forwardedBy a here (memberAt s slot)) (memberAt s slot))) (hearPairs len p slot (s .hears))) s
+        → withQueue (withHears (withMember s slot (cond here (reportMember a (getD p 2 0) (forwardedBy a here (memberAt s slot)) (memberAt s slot)) (memberAt s slot))) (cond here (hearPairs len p slot (s .hears)) (s .hears))) slot (cond here (reportedTo (queueAt s slot) (u24 p 9)) (queueAt s slot))
+        ≡ cond here (withQueue (withHears (withMember s slot (reportMember a (getD p 2 0) (forwardedBy a here (memberAt s slot)) (memberAt s slot))) (hearPairs len p slot (s .hears))) slot (reportedTo (queueAt s slot) (u24 p 9))) s
     go true = refl
-    go false = member-again s slot
+    go false = queue-again (withMember s slot (memberAt s slot)) slot ∙ member-again s slot

@@ -15,7 +15,8 @@ use Rattle.out.specs.Encode.{missedWord}
 use Rattle.roster.specs.declared.Member.{Member}
 use Rattle.roster.specs.Members.{withHeard, withDown, withCaps, withVersion, receivedAt, reachedAt, missedOne, isWilling}
 use Rattle.net.specs.declared.Station.{Station}
-use Rattle.net.specs.State.{indexOf, memberAt, withMember, withCounted, withRound, withHears, withActivity, withRecent, recentAt, alsoNoted}
+use Rattle.net.specs.State.{indexOf, memberAt, withMember, withCounted, withRound, withHears, withActivity, withRecent, recentAt, alsoNoted, queueAt, withQueue}
+use Rattle.queue.specs.Queues.{reportedTo}
 use Rattle.net.specs.Net.{isMember, Said, said}
 use Rattle.admit.specs.Admission.{seatOf, slotOf, admitBy}
 use Rattle.admit.specs.declared.Seat.{Seat}
@@ -87,10 +88,15 @@ hearPairs len p r hears = eachEntry (hearPair p r) 2 len 128 12 hears
 abbrev pub isPending : List ℕ → Bool
 isPending p = not (eqb (getD p 3 0) 0) || not (eqb (getD p 4 0) 0) || not (eqb (getD p 5 0) 0)
 
+-- three bytes, lowest first
+abbrev pub u24 : List ℕ → ℕ → ℕ
+u24 p j = getD p j 0 + 256 * getD p (j + 1) 0 + 65536 * getD p (j + 2) 0
+
+-- and how much of what was posted to it the boat holds, forwarded or not (U1)
 abbrev pub reportStation : Air → ℕ → List ℕ → ℕ → Station → Station
 reportStation a len p slot s =
     cond (isMember (s .used) slot)
-    (withHears (withMember s slot (reportMember a (getD p 2 0) (isForwarded a s slot) (memberAt s slot))) (hearPairs len p slot (s .hears))) s
+    (withQueue (withHears (withMember s slot (reportMember a (getD p 2 0) (isForwarded a s slot) (memberAt s slot))) (hearPairs len p slot (s .hears))) slot (reportedTo (queueAt s slot) (u24 p 9))) s
 
 -- of the reports that are no forwarded ones the last names the sender, and any may tell of more
 abbrev pub reportSays : Bool → List ℕ → Reading → Reading

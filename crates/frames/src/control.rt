@@ -4,6 +4,7 @@ use crate::Rx;
 use admit::Seat;
 use level::Level;
 use net::Station;
+use queue::Queue;
 use recent::Recent;
 use roster::Member;
 ghost use mathlib.Core.Path.{_≡_};
@@ -12,10 +13,11 @@ ghost use mathlib.Core.List.{[]};
 ghost use Prim.Native.Nat.{_+_, _<_};
 ghost use lib.ListN.{getD};
 ghost use Rattle.out.specs.Encode.{Wrote};
+ghost use Rattle.queue.specs.Queues.{reportedTo};
 ghost use Rattle.net.specs.Net.{Did, said};
 ghost use Rattle.admit.specs.declared.Seat.the-variants.{Free};
 ghost use Rattle.frames.specs.Code.Reading.{reportRx};
-ghost use Rattle.frames.specs.Control.{payloadIn, callAt, checkinMember, checkinFrame, forwardedBy, reportMember, hearing, hearPairs, isPending, relayOf, newcomer, overheardBy, overheardEntry, overheardFrame, kidMember, heardAs, kidRecent, kidEvents, kidOf, kidsFrame};
+ghost use Rattle.frames.specs.Control.{payloadIn, callAt, checkinMember, checkinFrame, forwardedBy, reportMember, hearing, hearPairs, isPending, relayOf, newcomer, overheardBy, overheardEntry, overheardFrame, kidMember, heardAs, kidRecent, kidEvents, kidOf, kidsFrame, u24};
 
 // Byte j of the payload of the frame of len bytes at `at`; 0 past its end.
 pub fn byte_in(words: &[u32], at: usize, len: u8, j: usize) -> u8
@@ -85,6 +87,19 @@ pub fn report_member(m: Member, here: bool, forwarded: bool, a: Air, q: u8) -> M
         return roster::with_heard(k, a.time);
     }
     k
+}
+
+// The numbers of its directed queue: bytes 9 to 11 say how much of it the boat holds.
+pub fn report_queue(q: Queue, here: bool, words: &[u32], at: usize, len: u8) -> Queue
+    ensures { λ r. ⌜ r ≡ cond here (reportedTo q (u24 (payloadIn (now (words .entry)) at len) 9)) q ⌝ }
+{
+    if !here {
+        return q;
+    }
+    let a = byte_in(words, at, len, 9) as u32;
+    let b = byte_in(words, at, len, 10) as u32;
+    let c = byte_in(words, at, len, 11) as u32;
+    queue::reported_to(q, a + 256 * b + 65536 * c)
 }
 
 // Slot r hears slot a at the level field q, and 63 strikes the entry out; keys of 62 and above are dropped.

@@ -36,7 +36,7 @@ use Rattle.frames.specs.Reading.{Reading}
 use Rattle.frames.specs.Frames.{frameStep, readFrames}
 use Rattle.rx.specs.Reception.{airOf, ncsRx}
 use Rattle.station.specs.Entries.{Outcome, receiveOf, cellRefusal, freeOf}
-use Rattle.promise.specs.Promise.{lentTo, Net, net, Call, admission, reception, decision, sending, closing, reading, freeing, charging, signing, result, inBook, outcome, step, after, alsoHanded, framesBy, Event2, eventsIn, answersOf, asking}
+use Rattle.promise.specs.Promise.{lentTo, Net, net, Call, admission, reception, decision, sending, closing, reading, freeing, charging, signing, result, inBook, outcome, step, after, alsoHanded, framesBy, Event2, eventsIn, answersOf, asking, posting}
 use Rattle.laws.specs.Marks.{alsoLanded, landedBy, landedIn}
 use Rattle.promise.proofs.Ledgers.{handed-other}
 use Rattle.promise.proofs.Ties.{View}
@@ -46,7 +46,7 @@ use Rattle.promise.proofs.Events.{events-none}
 use Rattle.promise.proofs.WalkFrames.{viewIn, offeredIn, FrameRead, other, unkept, barred, piece, firstIn, rx-end}
 use Rattle.promise.proofs.Signs.{sign-member}
 use Rattle.promise.proofs.SignTies.{window-gone, window-still}
-use Rattle.promise.proofs.Messages.{admission-kept, decision-kept, sending-kept, closing-kept, reading-kept, charging-kept, asking-kept}
+use Rattle.promise.proofs.Messages.{admission-kept, decision-kept, sending-kept, closing-kept, reading-kept, charging-kept, asking-kept, posting-kept}
 use Rattle.promise.proofs.Outcomes.{refusedBy, receive-cases}
 use Rattle.promise.proofs.Fits.{FitView, accept-land}
 use Rattle.promise.proofs.Sounds.{Fit, FitRead, fit-frame, step-read-fit, read-fine, first-fit, lent-fit, step-fit}
@@ -320,7 +320,8 @@ module _ (f : ℕ → ℕ → Bool) (n : Net) (fit : Fit n) (told : Told f (n .s
   unfolding step result
   call-told (admission packed relay now room) = kept-told (admission packed relay now room) (admission-kept (n .station) packed relay now room)
   call-told (reception words snr now lent room numbers) = received-told words snr now (lentTo lent (n .store)) room
-  call-told (decision now room) = kept-told (decision now room) (decision-kept (n .station) now room)
+  call-told (decision now queue room) = kept-told (decision now queue room) (decision-kept (n .station) now queue room)
+  call-told (posting slot message queue) = kept-told (posting slot message queue) (posting-kept (n .station) slot message queue)
   call-told (sending now) = kept-told (sending now) (sending-kept (n .station) now)
   call-told (closing count) = kept-told (closing count) (closing-kept (n .station) count)
   call-told (reading cell lent) = kept-told (reading cell lent) (reading-kept cell lent n)

@@ -50,12 +50,12 @@ use Rattle.station.specs.Entries.{Outcome, refused, receivedAs, receiveOf, cell
 use Rattle.signoff.specs.SignOff.{isCellOf, clearAll}
 use Rattle.station.specs.SignOff.{signOffRefusal, signOffOf}
 use Rattle.config.specs.declared.Given.{Given}
-use Rattle.promise.specs.Promise.{lentTo, Net, net, ofBurst, Call, admission, reception, decision, sending, closing, reading, freeing, charging, signing, asking, result, inBook, isRefused, step, after, started, isBoats, framesBy}
+use Rattle.promise.specs.Promise.{lentTo, Net, net, ofBurst, Call, admission, reception, decision, sending, closing, reading, freeing, charging, signing, asking, posting, result, inBook, isRefused, step, after, started, isBoats, framesBy}
 use Rattle.laws.specs.Laws.{from, InCells, alsoIn, wentBy, wentIn, wentAll, wentRx, wentWith, inCells, StoreOk, StoresOk, AllCut, Splits, AllSplit}
 use Rattle.promise.proofs.Ties.{View}
 use Rattle.promise.proofs.Quiet.{windowAt, viewOf}
 use Rattle.promise.proofs.WalkFrames.{viewIn, isPiece, FrameRead, other, unkept, barred, piece, firstIn, rx-end}
-use Rattle.promise.proofs.Messages.{admission-kept, decision-kept, sending-kept, closing-kept, reading-kept, charging-kept, asking-kept, same-cond}
+use Rattle.promise.proofs.Messages.{admission-kept, decision-kept, sending-kept, closing-kept, reading-kept, charging-kept, asking-kept, posting-kept, same-cond}
 use Rattle.promise.proofs.Outcomes.{refusedBy, receive-cases, lent-is}
 use Rattle.promise.proofs.Signs.{sign-beside, Cleared, cleared}
 use Rattle.promise.proofs.Fits.{accept-bar}
@@ -295,7 +295,8 @@ module _ (f : InCells) (n : Net) (fit : Fit n) (d : TracedIn f (viewOf (n .stati
   call-traced (admission packed relay now room) ok = quiet-traced (admission packed relay now room) (quiet-view (admission packed relay now room) n (admission-kept (n .station) packed relay now room) refl)
   call-traced (reception words snr now lent room numbers) ok =
       received-traced words snr now (lentTo lent (n .store)) room (lent-is (n .store) lent (isRefused (reception words snr now lent room numbers) n) ok)
-  call-traced (decision now room) ok = quiet-traced (decision now room) (quiet-view (decision now room) n (decision-kept (n .station) now room) refl)
+  call-traced (decision now queue room) ok = quiet-traced (decision now queue room) (quiet-view (decision now queue room) n (decision-kept (n .station) now queue room) refl)
+  call-traced (posting slot message queue) ok = quiet-traced (posting slot message queue) (quiet-view (posting slot message queue) n (posting-kept (n .station) slot message queue) refl)
   call-traced (sending now) ok = quiet-traced (sending now) (quiet-view (sending now) n (sending-kept (n .station) now) refl)
   call-traced (closing count) ok = quiet-traced (closing count) (quiet-view (closing count) n (closing-kept (n .station) count) refl)
   call-traced (reading cell lent) ok = quiet-traced (reading cell lent) (quiet-view (reading cell lent) n (reading-kept cell lent n) refl)

@@ -21,6 +21,7 @@ pub mod Bars
 pub mod Vacant
 pub mod VacantSign
 pub mod VacantWalk
+pub mod VacantQueue
 pub mod VacantReadings
 pub mod RoundTrip
 pub mod RoundTripRun
@@ -28,3 +29,11 @@ pub mod WorstRings
 pub mod WorstFinite
 pub mod Worst
 pub mod WorstRun
+pub mod DirectedBytes
+pub mod DirectedWords
+pub mod DirectedNext
+pub mod DirectedRx
+pub mod Directed
+pub mod DirectedRun
+pub mod DirectedTrace
+pub mod DirectedParsed

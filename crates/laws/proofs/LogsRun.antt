@@ -30,9 +30,11 @@ use Rattle.promise.proofs.TurnsRun.{settings, run}
 use Rattle.logs.specs.Reading.{slotsIn, entriesFrom, entriesOf, sentIn}
 use Rattle.logs.specs.Reading as log
 use Rattle.laws.specs.Logs.{slotWords, logOf, logFrom}
+use Rattle.queue.specs.Queues.{isDue}
+use Rattle.bursts.specs.Direct.{directedTo}
 
 -- its log: the beacon's sending is passed over, and the last acknowledgement is K_ACK
 longest-log : entriesOf (logFrom run (net (newStation settings 1) (replicate 6400 7)))
     ≡ log.mark (0 ∷ 1 ∷ []) ∷ log.poll 0 ∷ log.poll 0 ∷ log.pollack 0 ∷ log.poll 0 ∷ log.pollack 0 ∷ log.poll 0 ∷ log.pollack 0 ∷ log.poll 0 ∷ log.ack 0 ∷ log.poll 1 ∷ []
-unfolding size units round sum add mul lt le ofInt ofBits first fold every any hasBit withBit withoutBit bothOf eitherOf minusOf lowestBit lowestFree slotsOf stop levelBelow totalLt digit char trimStart trimEnd unpacked shifted itemAt framesOf headOk parse pack framesWords chunksOf heardAt relaySrcFor turnOver isMember newStation onTxDone seatOf findCall leadsTo pollBurst acksBurst beaconRows beaconPayload beyond beaconOf tellAll listSent rxListBurst triedOf sourceFor promoteAt promoteAll moveAt moveAll rerouteOf maskWhere rowsOn leastReach leastDirect pollStage listFor drawStage rerouteStage roundEnd actOf windowStage againStage dueOf ncsNext readFrames replyEnd ncsRx admitRefusal admitOf receiveRefusal receiveOf nextRefusal nextOf sentOf result step burstsIn turnEvents trace sentIn slotWords logOf logFrom slotsIn entriesFrom
+unfolding size units round sum add mul lt le ofInt ofBits first fold every any hasBit withBit withoutBit bothOf eitherOf minusOf lowestBit lowestFree slotsOf stop levelBelow totalLt digit char trimStart trimEnd unpacked shifted itemAt framesOf headOk parse pack framesWords chunksOf heardAt relaySrcFor turnOver isMember newStation onTxDone seatOf findCall leadsTo pollBurst acksBurst beaconRows beaconPayload beyond beaconOf tellAll listSent rxListBurst triedOf sourceFor promoteAt promoteAll moveAt moveAll rerouteOf maskWhere rowsOn leastReach leastDirect pollStage directedTo isDue listFor drawStage rerouteStage roundEnd actOf windowStage againStage dueOf ncsNext readFrames replyEnd ncsRx admitRefusal admitOf receiveRefusal receiveOf nextRefusal nextOf sentOf result step burstsIn turnEvents trace sentIn slotWords logOf logFrom slotsIn entriesFrom
 longest-log = refl

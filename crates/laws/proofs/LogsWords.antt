@@ -14,7 +14,7 @@ use Rattle.words.specs.Words.{wordsFor, headOk, headOf}
 use Rattle.words.specs.declared.Item.the-variants.{Frame}
 use Rattle.words.specs.Fine.{Bytes}
 use Rattle.words.proofs.Fine.{take-bytes}
-use Rattle.out.specs.Encode.{headWord, waveWord, word12, pack, ctrlWords, chunksOf, chunkSize, chunkWords}
+use Rattle.out.specs.Encode.{headWord, waveWord, word12, pack, ctrlWords, chunksOf, chunkSize, chunkWords, frameWords}
 use Rattle.out.proofs.Pack.{length-take-most}
 use Rattle.out.proofs.Trip.{item-back, rest-back}
 use Rattle.bursts.specs.Bursts.{headWords, tinyWords}
@@ -87,21 +87,21 @@ good-head code hi extra level ws g room h =
       eq-eqb (waveWord level / 32) 75497472 (omega arith),
     ) (g 64 (omega arith))
 
-module _ (p ws : List ℕ) (n : length p < 256) (bs : Bytes p) where
+module _ (flags field : ℕ) (fl : flags < 256) (fi : field < 16777216) (p ws : List ℕ) (n : length p < 256) (bs : Bytes p) where
   abbrev w : ℕ
-  w = 0xa0000000 + 0xbf * 256 + length p
+  w = 0xa0000000 + flags * 256 + length p
 
-  frame-part : (room : ℕ) → partOf room (ctrlWords p ++ ws) ≡ framePart room (Frame 0xbf 0 (length p))
+  frame-part : (room : ℕ) → partOf room (frameWords flags field p ++ ws) ≡ framePart room (Frame flags field (length p))
   unfolding partOf headOk
   frame-part room =
-      rw (ne-eqb (w / 268435456) 6 (λ e. omega arith), ne-eqb (w / 268435456) 8 (λ e. omega arith)) (ap (framePart room) (item-back 0xbf 0 p ws (omega arith) (omega arith) n bs))
+      rw (ne-eqb (w / 268435456) 6 (λ e. omega arith), ne-eqb (w / 268435456) 8 (λ e. omega arith)) (ap (framePart room) (item-back flags field p ws fl fi n bs))
 
-  -- a control frame, where one may follow
-  good-frame : (m : ℕ) → GoodFrom m ws → GoodFrom (suc m) (ctrlWords p ++ ws)
+  -- a frame, where one may follow
+  good-frame : (m : ℕ) → GoodFrom m ws → GoodFrom (suc m) (frameWords flags field p ++ ws)
   good-frame m g room h =
-      let q : partOf room (ctrlWords p ++ ws) ≡ part (2 + wordsFor (length p)) (room - 1) = frame-part room ∙ cond-false (eqb room 0) _ _ (ne-eqb room 0 (λ e. omega arith)) in
-      parts-more (ctrlWords p ++ ws) 0 room (part (2 + wordsFor (length p)) (room - 1)) (sym q) (omega arith) (λ e. omega arith)
-      ∙ rw (zero-add (2 + wordsFor (length p)), rest-back 0xbf 0 p ws (omega arith) (omega arith) n bs) (g (room - 1) (omega arith))
+      let q : partOf room (frameWords flags field p ++ ws) ≡ part (2 + wordsFor (length p)) (room - 1) = frame-part room ∙ cond-false (eqb room 0) _ _ (ne-eqb room 0 (λ e. omega arith)) in
+      parts-more (frameWords flags field p ++ ws) 0 room (part (2 + wordsFor (length p)) (room - 1)) (sym q) (omega arith) (λ e. omega arith)
+      ∙ rw (zero-add (2 + wordsFor (length p)), rest-back flags field p ws fl fi n bs) (g (room - 1) (omega arith))
 
 -- ---- frames
 
@@ -113,6 +113,9 @@ pub record Frames (n : ℕ) (fs : List ℕ) : Type 0 where
 pub frames-none : (n : ℕ) → Frames n []
 frames-none n = record { plain = Plain.empty; good = λ m ws g room h. g room (omega arith) }
 
+pub frames-less : {n k : ℕ} {fs : List ℕ} → n ≤ k → Frames n fs → Frames k fs
+frames-less h f = record { plain = f .plain; good = λ m ws g room q. f .good m ws g room (omega arith) }
+
 pub frames-both : {n k : ℕ} {a b : List ℕ} → Frames n a → Frames k b → Frames (n + k) (a ++ b)
 frames-both {n} {k} {a} {b} f g =
     record {
@@ -120,12 +123,15 @@ frames-both {n} {k} {a} {b} f g =
       good = λ m ws h room q. rw append-assoc (f .good (k + m) (b ++ ws) (g .good m ws h) room (omega arith));
     }
 
-pub frames-ctrl : (p : List ℕ) → length p < 256 → Bytes p → Frames 1 (ctrlWords p)
-frames-ctrl p n bs =
+pub frames-one : (flags field : ℕ) → flags < 256 → field < 16777216 → (p : List ℕ) → length p < 256 → Bytes p → Frames 1 (frameWords flags field p)
+frames-one flags field fl fi p n bs =
     record {
-      plain = Plain.more {w = 0xa0000000 + 0xbf * 256 + length p} (omega arith) (omega arith) (Plain.more {w = 0xb0000000 + 0} (omega arith) (omega arith) (plain-pack bs));
-      good = λ m ws g room h. good-frame p ws n bs m g room (omega arith);
+      plain = Plain.more {w = 0xa0000000 + flags * 256 + length p} (omega arith) (omega arith) (Plain.more {w = 0xb0000000 + field} (omega arith) (omega arith) (plain-pack bs));
+      good = λ m ws g room h. good-frame flags field fl fi p ws n bs m g room (omega arith);
     }
+
+pub frames-ctrl : (p : List ℕ) → length p < 256 → Bytes p → Frames 1 (ctrlWords p)
+frames-ctrl p n bs = frames-one 0xbf 0 (omega arith) (omega arith) p n bs
 
 drop-bytes : (n : ℕ) {l : List ℕ} → Bytes l → Bytes (drop n l)
 drop-bytes zero h = h
@@ -210,6 +216,14 @@ module _ (code hi extra level : ℕ) (fs : List ℕ) (f : Frames 64 fs) where
 -- a burst with frames
 pub burst-other : (level : ℕ) (fs : List ℕ) → Frames 64 fs → burstsIn (headWords 0 0 0 level ++ fs) ≡ [] → Burst (headWords 0 0 0 level ++ fs) none
 burst-other level fs f e = burst-of 0 0 0 level fs f none (subst (λ (l : List TurnEvent). Agree l none []) (sym e) Agree.neither)
+
+-- one of data, whose code is its level
+pub burst-level : (level : ℕ) (fs : List ℕ) → level < 17 → Frames 64 fs → burstsIn (headWords level 0 0 level ++ fs) ≡ [] → Burst (headWords level 0 0 level ++ fs) none
+burst-level level fs l f e =
+    let w = headWord level 0 0 in
+    let c : w / 2097152 % 128 ≡ level = omega arith in
+    burst-of level 0 0 level fs f none
+    (subst (λ (x : List Entry). Agree (burstsIn (headWords level 0 0 level ++ fs)) none x) (sym (rw (c, ne-eqb level 62 (λ z. omega arith)))) (subst (λ (x : List TurnEvent). Agree x none []) (sym e) Agree.neither))
 
 -- ---- header-only bursts
 

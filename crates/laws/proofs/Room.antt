@@ -234,6 +234,6 @@ all-fit =
       reception = λ s words snr now store room.
           fits-unless (receiveRefusal room (length store) (s .count) now snr (parse words)) s store (receiveBy (parse words) s snr now store) room (checked room _)
           (receive-most words (parse words) refl s snr now store) (receive-silent (parse words) s snr now store);
-      decision = λ s now room.
-          fits-unless (nextRefusal now room) s [] (done (ncsNext s now .station) [] (ncsNext s now .words)) room (checked room _) (omega (arith, short-next s now .most)) (λ e. absurd (false≢true (sym e)));
+      decision = λ s now queue room.
+          fits-unless (nextRefusal now (length queue) room) s [] (done (ncsNext s now queue .station) [] (ncsNext s now queue .words)) room (checked room _) (omega (arith, short-next queue s now .most)) (λ e. absurd (false≢true (sym e)));
     }

@@ -27,7 +27,7 @@ use Rattle.net.specs.declared.Totals.{Totals}
 use Rattle.net.specs.declared.Turn.{Turn}
 use Rattle.net.specs.declared.Turn.the-variants.{Idle, Sending, Waiting}
 use Rattle.net.specs.declared.Wait.{Wait}
-use Rattle.net.specs.State.{indexOf, memberAt, tableOf, withList, withToack, withTreenews, withSilent, withMembers, withUsed, withRecent, recentAt, emptied, alsoAck}
+use Rattle.net.specs.State.{indexOf, memberAt, tableOf, withList, withToack, withTreenews, withSilent, withMembers, withUsed, withRecent, recentAt, emptied, alsoAck, withQueues}
 use Rattle.net.specs.Net.{isMember, Said, said}
 use Rattle.net.proofs.Laws.{index-is, member-is, member-lt}
 use Rattle.bursts.specs.Rows.{seated}
@@ -47,6 +47,9 @@ use Rattle.laws.specs.FreeSlots.{Apart, BlankIn}
 use Rattle.laws.proofs.VacantSign.{AllKeep, column-struck}
 use Rattle.laws.proofs.VacantWalk.{runs-kept}
 use Rattle.laws.proofs.VacantReadings.{UnreadIn, runs-unread}
+use Rattle.laws.proofs.VacantQueue.{UnpostedIn, runs-unposted}
+use Rattle.queue.specs.declared.Queue.{Queue}
+use Rattle.queue.specs.Queues.{emptyQueue}
 
 -- ---- there and back
 
@@ -61,11 +64,11 @@ unfolding tally
 tally-same n true = refl
 tally-same n false = refl
 
-station-is : (s : Station) (w : Wait) (r : Round) (x : Totals) (u : ℕ) (t : Table) (ms : List Member) (rs : List Recent) (h : List ℕ)
-    → w ≡ s .wait → r ≡ s .round → x ≡ s .totals → u ≡ s .used → t ≡ tableOf s → ms ≡ s .members → rs ≡ s .recent → h ≡ s .hears
-    → _≡_ {A = Station} (record { settings = s .settings; wait = w; round = r; totals = x; used = u; busy = t .busy; landed = t .landed; count = t .count; members = ms; recent = rs; hears = h; owners = t .owners; cells = t .cells }) s
-station-is s w r x u t ms rs h a b c d e f p g =
-    λ j. record { settings = s .settings; wait = a j; round = b j; totals = c j; used = d j; busy = e j .busy; landed = e j .landed; count = e j .count; members = f j; recent = p j; hears = g j; owners = e j .owners; cells = e j .cells }
+station-is : (s : Station) (w : Wait) (r : Round) (x : Totals) (u : ℕ) (t : Table) (ms : List Member) (rs : List Recent) (qs : List Queue) (h : List ℕ)
+    → w ≡ s .wait → r ≡ s .round → x ≡ s .totals → u ≡ s .used → t ≡ tableOf s → ms ≡ s .members → rs ≡ s .recent → qs ≡ s .queues → h ≡ s .hears
+    → _≡_ {A = Station} (record { settings = s .settings; wait = w; round = r; totals = x; used = u; busy = t .busy; landed = t .landed; count = t .count; members = ms; recent = rs; queues = qs; hears = h; owners = t .owners; cells = t .cells }) s
+station-is s w r x u t ms rs qs h a b c d e f p z g =
+    λ j. record { settings = s .settings; wait = a j; round = b j; totals = c j; used = d j; busy = e j .busy; landed = e j .landed; count = e j .count; members = f j; recent = p j; queues = z j; hears = g j; owners = e j .owners; cells = e j .cells }
 
 round-is : (r : Round) (l a n : ℕ) → l ≡ r .list → a ≡ r .toack → n ≡ r .treenews
     → _≡_ {A = Round} (withList (withTreenews (withToack r a) n) l) r
@@ -76,11 +79,11 @@ round-is r l a n p q w =
 seated-same : (s : Station) (j : ℕ) (m : Member) (r : Recent) → m ≡ seated s j → r ≡ recentAt s j → withRecent (withSeated s j m) (set (s .recent) j r) ≡ s
 seated-same s j m r e q =
     ap (λ (x : Member). withRecent (withSeated s j x) (set (s .recent) j r)) e
-    ∙ station-is s (s .wait) (s .round) _ (s .used) (tableOf s) _ _ (s .hears) refl refl
+    ∙ station-is s (s .wait) (s .round) _ (s .used) (tableOf s) _ _ (s .queues) (s .hears) refl refl
     (ap (withSilent (s .totals)) (tally-same (s .totals .silent) (silentAt (s .settings .misslimit) (seated s j)))) refl refl (set-getD (s .members) j noMember)
-    (ap (set (s .recent) j) q ∙ set-getD (s .recent) j noRecent) refl
+    (ap (set (s .recent) j) q ∙ set-getD (s .recent) j noRecent) refl refl
 
-module _ (s : Station) (slot : ℕ) (low : slot < 62) (free : hasBit (s .used) slot ≡ false) (k : AllKeep s) (u : UnreadIn s) (links : LinksHold s) (unnamed : Unnamed s slot) where
+module _ (s : Station) (slot : ℕ) (low : slot < 62) (free : hasBit (s .used) slot ≡ false) (k : AllKeep s) (u : UnreadIn s) (posted : UnpostedIn s) (links : LinksHold s) (unnamed : Unnamed s slot) where
   b : BlankIn slot s
   b = k slot low .blank free
 
@@ -160,13 +163,13 @@ module _ (s : Station) (slot : ℕ) (low : slot < 62) (free : hasBit (s .used) s
 
     -- the admission, with the slot for its index
     abbrev enter : ℕ → Station
-    enter x = alsoAck (withUsed (withMembers (emptied s x) (set (s .members) x new)) (withBit (s .used) x)) x
+    enter x = alsoAck (withQueues (withUsed (withMembers (emptied s x) (set (s .members) x new)) (withBit (s .used) x)) (set (s .queues) x emptyQueue)) x
 
     gone : leave slot (struckOff slot (enter slot)) ≡ s
     gone =
         let n = k slot low .long in
         station-is s (strikeWait slot (s .wait)) (strikeRound slot (withToack (s .round) (withBit (s .round .toack) slot))) _ (withoutBit (withBit (s .used) slot) slot) (clearAll slot (tableOf s))
-        (set (set (s .members) slot new) slot vacant) (set (set (s .recent) slot empty) slot empty) (unhearAll slot (s .hears))
+        (set (set (s .members) slot new) slot vacant) (set (set (s .recent) slot empty) slot empty) (set (set (s .queues) slot emptyQueue) slot emptyQueue) (unhearAll slot (s .hears))
         (strike-same (s .wait .turn) (s .wait) (b .turn))
         (round-is (s .round) _ _ _ (without-gone (s .round .list) slot (b .list)) (without-with (s .round .toack) slot (omega arith) (b .toack)) (without-gone (s .round .treenews) slot (b .treenews)))
         (ap (λ (m : Member). withSilent (s .totals) (tally (s .totals .silent) (silentAt (s .settings .misslimit) m) (silentAt (s .settings .misslimit) vacant))) (getD-set-same (s .members) slot new noMember (omega arith))
@@ -175,6 +178,7 @@ module _ (s : Station) (slot : ℕ) (low : slot < 62) (free : hasBit (s .used) s
         clear-same
         (set-set (s .members) slot new vacant ∙ ap (set (s .members) slot) (sym (b .member)) ∙ set-getD (s .members) slot noMember)
         (set-set (s .recent) slot empty empty ∙ ap (set (s .recent) slot) (sym (u .none slot low free)) ∙ set-getD (s .recent) slot noRecent)
+        (set-set (s .queues) slot emptyQueue emptyQueue ∙ ap (set (s .queues) slot) (sym (posted .none slot low free)) ∙ set-getD (s .queues) slot emptyQueue)
         unhear-same
 
     pub back : signOff (enterAt s slot call 63 now) slot ≡ s
@@ -274,5 +278,5 @@ round-trip s g store e cs packed now room slot seat unnamed ok =
       taken = ap (λ (x : Net). outcome (signing slot) x .refusal) p ∙ ap (λ (x : Outcome). x .refusal) o;
       silent = ap (λ (x : Net). outcome (signing slot) x .words) p ∙ ap (λ (x : Outcome). x .words) o;
       back = ap (step (signing slot)) p ∙ leaves-is t (n .store) slot z
-          ∙ ap (λ (x : Station). net x (n .store)) (back (n .station) slot low (seat-free (n .station) call slot seat) (runs-kept s g store e cs) (runs-unread s g store e cs) (links s g store e cs) unnamed call now);
+          ∙ ap (λ (x : Station). net x (n .store)) (back (n .station) slot low (seat-free (n .station) call slot seat) (runs-kept s g store e cs) (runs-unread s g store e cs) (runs-unposted s g store e cs) (links s g store e cs) unnamed call now);
     }

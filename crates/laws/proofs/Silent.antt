@@ -23,7 +23,7 @@ use Rattle.net.proofs.Laws.{member-lt, member-is}
 use Rattle.bursts.specs.Rows.{seated}
 use Rattle.bursts.specs.Reroute.{withSeated}
 use Rattle.config.specs.declared.Given.{Given}
-use Rattle.config.specs.Checks.{secondsOk, durationsOk, decibelsOk, numbersOk, settingsOk, settingsOf}
+use Rattle.config.specs.Checks.{secondsOk, durationsOk, decibelsOk, numbersOk, settingsOk, settingsOf, dataOk, payloadsOk}
 use Rattle.station.specs.Entries.{startRefusal}
 use Rattle.signoff.specs.SignOff.{vacant, leave, bereft, bereftOf, bereaveAt, bereaveAll, struckOff, signOff}
 use Rattle.promise.specs.Promise.{after, started}
@@ -85,7 +85,8 @@ unfolding settingsOk
 limit-ok g e =
     let x = g .settings in
     let first = secondsOk x && durationsOk (x .durations) && decibelsOk x in
-    let numbers = and-true first (numbersOk x) (and-true (first && numbersOk x) (ltb (numberOf (g .call)) 114415582592) e .0) .1 in
+    let call = ltb (numberOf (g .call)) 114415582592 in
+    let numbers = and-true first (numbersOk x) (and-true (first && numbersOk x) call (and-true (first && numbersOk x && call) (dataOk (g .times)) (and-true (first && numbersOk x && call && dataOk (g .times)) (payloadsOk (g .payloads)) e .0) .0) .0) .1 in
     leb-true 1 (x .misslimit)
     (and-true (leb 1 (x .misslimit)) (leb (x .misslimit) 1000) (and-true (leb 1 (x .misslimit) && leb (x .misslimit) 1000) (leb (x .beaconlevel) 16) numbers .0) .0)
 

@@ -30,6 +30,8 @@ use Rattle.rx.specs.Ending.{idleEnd, replyEnd}
 use Rattle.rx.specs.Reception.{ncsRx}
 use Rattle.station.specs.Entries.{admitRefusal, admitOf, receiveRefusal, receiveOf, nextRefusal, nextOf, sentOf}
 use Rattle.promise.specs.Promise.{handed, Net, net, Call, admission, reception, decision, sending, result, step, after}
+use Rattle.queue.specs.Queues.{isDue}
+use Rattle.bursts.specs.Direct.{directedTo}
 
 abbrev nil : Float
 nil = fin false 0 (pos 0)
@@ -40,10 +42,10 @@ far = fin false 1000 (pos 0)
 -- every time 0 but the beacon's
 abbrev settings : Settings
 settings =
-    record { turnaround = nil; maxburst = nil; replyslack = nil; detect = nil; beaconevery = far; quickbeacon = far; idleroundgap = nil; durations = replicate 4 nil; thresholds = replicate 17 nil; margin = nil; relaysnr = nil; misslimit = 2; beaconlevel = 0; windowslots = 0; call = replicate 7 32; name = replicate 6 32; prime = false; lead = nil; latency = nil }
+    record { turnaround = nil; maxburst = nil; replyslack = nil; detect = nil; beaconevery = far; quickbeacon = far; idleroundgap = nil; durations = replicate 4 nil; thresholds = replicate 17 nil; margin = nil; relaysnr = nil; misslimit = 2; beaconlevel = 0; windowslots = 0; call = replicate 7 32; name = replicate 6 32; prime = false; lead = nil; latency = nil; rooms = replicate 17 1; payloads = replicate 17 1 }
 
 abbrev next : Call
-next = decision nil 8192
+next = decision nil (replicate 126976 0) 8192
 
 abbrev sent : Call
 sent = sending nil
@@ -71,5 +73,5 @@ pub record SilentRun : Type 0 where
   pub heard : after (twice ++ (idle ∷ [])) from .station .totals .silent ≡ 0
 
 silent-run : SilentRun
-unfolding size units round sum add mul lt le ofInt ofBits first fold every any hasBit withBit withoutBit bothOf eitherOf minusOf lowestBit lowestFree slotsOf stop levelBelow totalLt digit char trimStart trimEnd unpacked shifted itemAt framesOf headOk parse pack framesWords chunksOf tally heardAt bestHigh relaySrcFor turnOver isMember newStation onTxDone seatOf findCall leadsTo pollBurst acksBurst beaconRows beaconPayload beyond beaconOf tellAll listSent rxListBurst triedOf sourceFor promoteAt promoteAll moveAt moveAll rerouteOf maskWhere rowsOn leastReach leastDirect pollStage listFor drawStage rerouteStage roundEnd actOf windowStage againStage missedStage dueOf ncsNext readFrames idleEnd replyEnd ncsRx admitRefusal admitOf receiveRefusal receiveOf nextRefusal nextOf sentOf result step after
+unfolding size units round sum add mul lt le ofInt ofBits first fold every any hasBit withBit withoutBit bothOf eitherOf minusOf lowestBit lowestFree slotsOf stop levelBelow totalLt digit char trimStart trimEnd unpacked shifted itemAt framesOf headOk parse pack framesWords chunksOf tally heardAt bestHigh relaySrcFor turnOver isMember newStation onTxDone seatOf findCall leadsTo pollBurst acksBurst beaconRows beaconPayload beyond beaconOf tellAll listSent rxListBurst triedOf sourceFor promoteAt promoteAll moveAt moveAll rerouteOf maskWhere rowsOn leastReach leastDirect pollStage directedTo isDue listFor drawStage rerouteStage roundEnd actOf windowStage againStage missedStage dueOf ncsNext readFrames idleEnd replyEnd ncsRx admitRefusal admitOf receiveRefusal receiveOf nextRefusal nextOf sentOf result step after
 silent-run = record { missed = refl; missed-once = refl; silent = refl; missed-twice = refl; heard = refl }

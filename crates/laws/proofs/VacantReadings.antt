@@ -21,10 +21,11 @@ use Rattle.config.specs.declared.Given.{Given}
 use Rattle.station.specs.Entries.{startRefusal}
 use Rattle.signoff.specs.SignOff.{bereaveAt, bereaveAll, leave, struckOff, signOff}
 use Rattle.promise.specs.Promise.{Call, after, started}
-use Rattle.promise.proofs.Walk.{Change, others, turned, over, hears, written, counted, promoted, moved, readings, entered, piece, landed, freed, barred, signsOff}
+use Rattle.promise.proofs.Walk.{Change, others, turned, over, hears, written, counted, promoted, moved, readings, entered, queued, posted, piece, landed, freed, barred, signsOff}
 use Rattle.promise.proofs.WalkCalls.{all, always}
 use Rattle.laws.specs.FreeSlots.{FreeSlots}
 use Rattle.laws.proofs.VacantWalk.{runs-kept}
+use Rattle.laws.proofs.VacantQueue.{runs-unposted}
 use Rattle.laws.proofs.Vacant.{differ}
 
 -- 62 rings, and none of a slot without a boat has a reading
@@ -81,11 +82,13 @@ change-unread s t (promoted i snr l here d) k = k
 change-unread s t (moved c r l here there able n) k = k
 change-unread s t (readings i r l here) k = put-unread (s .used) (s .recent) i r (member-has (s .used) i here) k
 change-unread s t (entered i call v now l free r) k = enter-unread (s .used) (s .recent) i l k
+change-unread s t (queued j q l here f) k = k
+change-unread s t (posted a j n l here e) k = k
 change-unread s t (piece a store slot field p m here f l d) k = k
 change-unread s t (landed a store slot field p m here f l d) k = k
 change-unread s t (freed a cell) k = k
 change-unread s t (barred a store slot field p here b) k = k
-change-unread s t (signsOff a b slot here) k = sign-unread s slot here k
+change-unread s t (signsOff a b c slot here) k = sign-unread s slot here k
 
 new-unread : (g : Settings) (count : ℕ) → UnreadIn (newStation g count)
 unfolding newStation
@@ -96,4 +99,4 @@ runs-unread s g store e cs = always UnreadIn change-unread s g store e (new-unre
 
 -- with what VacantWalk shows of the other fields
 pub free-slots : FreeSlots
-free-slots s g store e cs i low free = (runs-kept s g store e cs i low .blank free, runs-unread s g store e cs .none i low free)
+free-slots s g store e cs i low free = (runs-kept s g store e cs i low .blank free, runs-unread s g store e cs .none i low free, runs-unposted s g store e cs .none i low free)

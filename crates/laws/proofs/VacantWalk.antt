@@ -33,7 +33,7 @@ use Rattle.config.specs.declared.Given.{Given}
 use Rattle.station.specs.Entries.{startRefusal}
 use Rattle.signoff.specs.SignOff.{vacant}
 use Rattle.promise.specs.Promise.{Call, after, started}
-use Rattle.promise.proofs.Walk.{Allowed, Field, burst, told, caps, version, heard, down, received, direct, reached, Fields, fields-keep, Turned, still, ends, sends, polls, goes, draws, Within, Change, others, turned, over, hears, written, counted, promoted, moved, entered, piece, landed, freed, barred, signsOff, offered, readings}
+use Rattle.promise.proofs.Walk.{Allowed, Field, burst, told, caps, version, heard, down, received, direct, reached, Fields, fields-keep, Turned, still, ends, sends, polls, goes, draws, Within, Change, others, turned, over, hears, written, counted, promoted, moved, entered, piece, landed, freed, barred, signsOff, offered, readings, queued, posted}
 use Rattle.promise.proofs.WalkCalls.{all, always}
 use Rattle.laws.specs.FreeSlots.{Apart}
 use Rattle.laws.proofs.Vacant.{index-has, put-kept, seat-kept, member-kept, enter-kept, lists-kept, wait-kept, hears-kept, table-kept, freed-kept}
@@ -140,6 +140,8 @@ change-kept s t (promoted j snr l here d) k i low = seat-kept i low s j (promote
 change-kept s t (moved c r l here there able n) k i low = seat-kept i low s c (reroutedTo (seated s c) r) (member-has (s .used) c here) refl (k i low)
 change-kept s t (readings j r l here) k i low = k i low
 change-kept s t (entered c call v now l free r) k i low = enter-kept i low s c (newMember call v now) l refl (k i low)
+change-kept s t (queued j q l here f) k i low = k i low
+change-kept s t (posted a j n l here e) k i low = k i low
 change-kept s t (piece a store slot field p m here f l d) k i low =
     member-kept i low (withTable s (offered s store slot field p .table)) slot m here (tried-same f) (table-kept i low s slot field (memberAt s slot .up) store p here (k i low))
 change-kept s t (landed a store slot field p m here f l d) k i low =
@@ -147,7 +149,7 @@ change-kept s t (landed a store slot field p m here f l d) k i low =
 change-kept s t (freed a cell) k i low = freed-kept i low s cell (k i low)
 change-kept s t (barred a store slot field p here b) k i low =
     member-kept i low (withTable s (offered s store slot field p .table)) slot _ here refl (table-kept i low s slot field (memberAt s slot .up) store p here (k i low))
-change-kept s t (signsOff a b slot here) k i low = sign-keeps s slot here k i low
+change-kept s t (signsOff a b c slot here) k i low = sign-keeps s slot here k i low
 
 -- ---- a start, and every list of calls
 

@@ -35,7 +35,7 @@ use Rattle.net.specs.declared.Station.{Station}
 use Rattle.net.specs.declared.Reply.{Reply}
 use Rattle.net.specs.declared.Turn.{Turn}
 use Rattle.net.specs.declared.Turn.the-variants.{Idle, Sending, Waiting}
-use Rattle.net.specs.State.{indexOf, memberAt, tableOf, recentAt, withWait, withRound, withRxsent, withRxdirty, oneReply}
+use Rattle.net.specs.State.{indexOf, memberAt, queueAt, tableOf, recentAt, withWait, withRound, withRxsent, withRxdirty, oneReply}
 use Rattle.net.specs.Net.{isMember, idleWait, Said, said, onTxDone}
 use Rattle.net.proofs.Laws.{index-is, member-lt}
 use Rattle.admit.specs.declared.Seat.{Seat}
@@ -44,12 +44,13 @@ use Rattle.admit.specs.Admission.{seatOf, slotOf, isFull, viaFor, admitBy}
 use Rattle.admit.proofs.Laws.{known-lt, seat-lt}
 use Rattle.bursts.specs.Rows.{seated}
 use Rattle.bursts.specs.Bursts.{tellAt, tellAll, listSent, rxListBurst, acksBurst, beaconOf}
+use Rattle.bursts.specs.Direct.{directBurst}
 use Rattle.bursts.specs.Reroute.{floorOf, promoteWith, promoteAt, promoteAll, newRelay, mustMove, leavesOf, moveAt, moveAll, rerouteOf}
 use Rattle.next.specs.declared.Due.{Due}
 use Rattle.next.specs.declared.Due.the-variants as due
 use Rattle.next.specs.declared.Act.{Act}
 use Rattle.next.specs.declared.Act.the-variants as act
-use Rattle.next.specs.Next.{Decision, pollBy, pollStage, drawn, drawStage, reroutedStage, rerouteStage, roundEnd, hurried, actOf, actBy, windowStage, closeStage, againStage, missedIn, missedStage, dueOf, byDue, ncsNext}
+use Rattle.next.specs.Next.{Decision, pollBy, directedBy, wordBy, pollStage, drawn, drawStage, reroutedStage, rerouteStage, roundEnd, hurried, actOf, actBy, windowStage, closeStage, againStage, missedIn, missedStage, dueOf, byDue, ncsNext}
 use Rattle.next.specs.Next as next
 use Rattle.frames.specs.declared.Air.{Air}
 use Rattle.frames.specs.Reading.{Reading}
@@ -59,13 +60,13 @@ use Rattle.frames.specs.Frames.{controlBy, readFrame, frameStep, readFrames}
 use Rattle.rx.specs.Ending.{Ended, turnOverIn, idleHeard, idleBy, idleEnd, replyHeard, answerBy, goesOn, isReply, replyBy, replyEnd, busyWait}
 use Rattle.rx.specs.Reception.{Received, airOf, firstReading, ncsRx}
 use Rattle.config.specs.Checks.{settingsOf}
-use Rattle.station.specs.Entries.{Outcome, done, refused, unless, check1, admitRefusal, admitted, admitOf, receiveBy, receiveRefusal, receiveOf, nextRefusal, nextOf, sentOf, closeRefusal, closeOf, readRefusal, cellRefusal, freeOf}
+use Rattle.station.specs.Entries.{Outcome, done, refused, unless, check1, admitRefusal, admitted, admitOf, receiveBy, receiveRefusal, receiveOf, nextRefusal, nextOf, postRefusal, postOf, sentOf, closeRefusal, closeOf, readRefusal, cellRefusal, freeOf}
 use Rattle.signoff.specs.SignOff.{bereftOf, bereaveAt, bereaveAll, leave, struckOff, vacant, signOff}
 use Rattle.station.specs.SignOff.{signOffRefusal, signOffOf}
 use Rattle.station.specs.declared.Lowest.the-variants.{Refused, Is}
 use Rattle.station.specs.Worst.{worstOf, refusalIn, decibelsOf}
 use Rattle.dues.specs.Dues.{duesRefusal}
-use Rattle.promise.specs.Promise.{lentTo, Net, ofBurst, Call, admission, reception, decision, sending, closing, reading, freeing, charging, signing, asking, result, outcome, step, after, started}
+use Rattle.promise.specs.Promise.{lentTo, Net, ofBurst, Call, admission, reception, decision, sending, closing, reading, freeing, charging, signing, asking, posting, result, outcome, step, after, started}
 use Rattle.promise.proofs.WalkCalls.{started-is}
 use Rattle.laws.specs.Worst.{Update, measured, emptied, readingsOf, ofSeat, ofCheckin, ofLevel, ofKid, ofEntries, ofKids, ofOverheard, ofControl, ofFrame, ofFrames, ofSender, ofReply, ofBurstAt, ofReception, ofSlots, emptiedIf, promotions, ofReroute, ofRoundEnd, ofAct, ofWindow, ofDue, ofDecision, ofSignOff, ofCall, updatesOf, WorstOfLast, lastOf}
 use Rattle.laws.proofs.WorstFinite.{last-finite}
@@ -278,20 +279,26 @@ poll-same : (f : Found) (s : Station) → pollBy f s .station .recent ≡ s .rec
 poll-same found.Nothing s = refl
 poll-same (found.At slot) s = refl
 
-rerouted-same : (x : Said) (now : Float) → reroutedStage x now .station .recent ≡ x .station .recent
+-- word back before it
+word-same : (f : Found) (s : Station) (queue : List ℕ) → wordBy f s queue .station .recent ≡ s .recent
+unfolding directBurst
+word-same found.Nothing s queue = poll-same (lowestBit (s .round .list)) s
+word-same (found.At slot) s queue = refl
+
+rerouted-same : (x : Said) (now : Float) (queue : List ℕ) → reroutedStage x now queue .station .recent ≡ x .station .recent
 unfolding drawStage pollStage acksBurst
-rerouted-same x now =
+rerouted-same x now queue =
     cond-keeps (λ (d : Decision). d .station .recent ≡ x .station .recent) (eqb (x .station .round .treenews) 0) _ _
-    (λ _. poll-same (lowestBit (drawn (x .station) now .round .list)) (drawn (x .station) now)) (λ _. refl)
+    (λ _. word-same (directedBy (lowestBit (drawn (x .station) now .round .list)) (drawn (x .station) now)) (drawn (x .station) now) queue) (λ _. refl)
 
 abbrev stationOf : Decision → Station
 stationOf d = d .station
 
-reroute-stage : (s : Station) (now : Float) → Follows s (rerouteStage s now .station) (ofReroute s now)
+reroute-stage : (s : Station) (now : Float) (queue : List ℕ) → Follows s (rerouteStage s now queue .station) (ofReroute s now)
 unfolding rerouteStage
-reroute-stage s now =
+reroute-stage s now queue =
     follow-cond stationOf s (not (s .round .traffic) && ltb 0 (s .round .number) && lt now (s .round .nextround)) _ _ [] _
-    (λ _. refl) (λ _. rerouted-same (rerouteOf s) now ∙ reroute-follows s)
+    (λ _. refl) (λ _. rerouted-same (rerouteOf s) now queue ∙ reroute-follows s)
 
 list-same : (s : Station) → rxListBurst s .station .recent ≡ s .recent
 unfolding rxListBurst tellAll
@@ -299,30 +306,30 @@ list-same s =
     let t = fold-keeps (λ (r : Station). r .recent ≡ s .recent) tellAt (λ i r e. e) 62 0 (withRound s (withRxdirty (s .round) false)) refl in
     cond-keeps (λ (x : Said). x .station .recent ≡ s .recent) (listSent s) _ _ (λ _. t) (λ _. t)
 
-round-follows : (s : Station) (now : Float) → Follows s (roundEnd s now .station) (ofRoundEnd s now)
+round-follows : (s : Station) (now : Float) (queue : List ℕ) → Follows s (roundEnd s now queue .station) (ofRoundEnd s now)
 unfolding roundEnd
-round-follows s now =
+round-follows s now queue =
     let t = withRound s (withRxsent (s .round) (s .round .number)) in
     follow-cond stationOf s (eqb (s .round .number) 0 || eqb (s .round .rxsent) (s .round .number)) _ _ _ _
-    (λ _. reroute-stage s now)
+    (λ _. reroute-stage s now queue)
     (λ _. follow-cond stationOf s (listSent t) _ _ [] _ (λ _. list-same t)
-    (λ _. reroute-stage (rxListBurst t .station) now ∙ ap (applied (ofReroute (rxListBurst t .station) now)) (list-same t)))
+    (λ _. reroute-stage (rxListBurst t .station) now queue ∙ ap (applied (ofReroute (rxListBurst t .station) now)) (list-same t)))
 
-act-follows : (a : Act) (s : Station) (now : Float) → Follows s (actBy a s now .station) (ofAct a s now)
+act-follows : (a : Act) (s : Station) (now : Float) (queue : List ℕ) → Follows s (actBy a s now queue .station) (ofAct a s now)
 unfolding beaconOf acksBurst pollStage
-act-follows act.Wait s now = refl
-act-follows act.Beacon s now = refl
-act-follows act.Acks s now = refl
-act-follows act.Draw s now = round-follows s now
-act-follows act.Poll s now = poll-same (lowestBit (s .round .list)) s
+act-follows act.Wait s now queue = refl
+act-follows act.Beacon s now queue = refl
+act-follows act.Acks s now queue = refl
+act-follows act.Draw s now queue = round-follows s now queue
+act-follows act.Poll s now queue = word-same (directedBy (lowestBit (s .round .list)) s) s queue
 
-window-follows : (s : Station) (now : Float) → Follows s (windowStage s now .station) (ofWindow s now)
+window-follows : (s : Station) (now : Float) (queue : List ℕ) → Follows s (windowStage s now queue .station) (ofWindow s now)
 unfolding windowStage
-window-follows s now =
+window-follows s now queue =
     let t = hurried s now in
     let e : t .recent ≡ s .recent = cond-keeps (λ (r : Station). r .recent ≡ s .recent) (s .round .activity) _ s (λ _. refl) (λ _. refl) in
     follow-cond stationOf s (lt now (s .round .windowend)) _ _ [] _ (λ _. refl)
-    (λ _. act-follows (actOf (t .round) (t .used) now) t now ∙ ap (applied (ofAct (actOf (t .round) (t .used) now) t now)) e)
+    (λ _. act-follows (actOf (t .round) (t .used) now) t now queue ∙ ap (applied (ofAct (actOf (t .round) (t .used) now) t now)) e)
 
 missed-same : (s : Station) (slot source : ℕ) → next.turnOverIn (missedIn s slot) slot source .recent ≡ s .recent
 missed-same s slot source =
@@ -331,15 +338,15 @@ missed-same s slot source =
     m : missedIn s slot .recent ≡ s .recent
     m = cond-keeps (λ (t : Station). t .recent ≡ s .recent) (isMember (s .used) slot) _ s (λ _. refl) (λ _. refl)
 
-due-follows : (d : Due) (s : Station) (now : Float) → Follows s (byDue d s now .station) (ofDue d s now)
+due-follows : (d : Due) (s : Station) (now : Float) (queue : List ℕ) → Follows s (byDue d s now queue .station) (ofDue d s now)
 unfolding closeStage againStage missedStage
-due-follows due.Free s now = window-follows s now
-due-follows due.Quiet s now = refl
-due-follows due.Close s now = cond-keeps (λ (x : Decision). x .station .recent ≡ s .recent) (eqb (s .round .closeleft) 0) _ _ (λ _. refl) (λ _. refl)
-due-follows (due.Again r) s now = refl
-due-follows (due.Missed r) s now =
+due-follows due.Free s now queue = window-follows s now queue
+due-follows due.Quiet s now queue = refl
+due-follows due.Close s now queue = cond-keeps (λ (x : Decision). x .station .recent ≡ s .recent) (eqb (s .round .closeleft) 0) _ _ (λ _. refl) (λ _. refl)
+due-follows (due.Again r) s now queue = refl
+due-follows (due.Missed r) s now queue =
     let t = next.turnOverIn (missedIn (withWait s idleWait) (r .slot)) (r .slot) (r .relayfor) in
-    window-follows t now ∙ ap (applied (ofWindow t now)) (missed-same (withWait s idleWait) (r .slot) (r .relayfor))
+    window-follows t now queue ∙ ap (applied (ofWindow t now)) (missed-same (withWait s idleWait) (r .slot) (r .relayfor))
 
 -- ---- a sign-off
 
@@ -404,7 +411,7 @@ receive-follows malformed k s snr now store = never-follows k s store
 receive-follows (parsed b) k s snr now store = unless-follows k s store (receiveBy (parsed b) s snr now store) (ofReception s snr now store b) refl (reception-follows s b snr now store)
 
 pub call-follows : (c : Call) (n : Net) → Follows (n .station) (step c n .station) (cond (eqb (outcome c n .refusal) 0) (ofCall c n) [])
-unfolding step result admitOf receiveOf nextOf sentOf closeOf freeOf signOffOf ncsNext onTxDone
+unfolding step result admitOf receiveOf nextOf postOf sentOf closeOf freeOf signOffOf ncsNext onTxDone
 call-follows (admission packed relay now room) n =
     let s = n .station in
     let call = unpackCall packed in
@@ -414,9 +421,11 @@ call-follows (admission packed relay now room) n =
 call-follows (reception words snr now lent room numbers) n =
     let store = lentTo lent (n .store) in
     receive-follows (parse words) (receiveRefusal room (length store) (n .station .count) now snr (parse words)) (n .station) snr now store
-call-follows (decision now room) n =
+call-follows (decision now queue room) n =
     let s = n .station in
-    unless-follows (nextRefusal now room) s [] _ (ofDecision s now) refl (due-follows (dueOf (s .wait) (s .round .closed) now) s now)
+    unless-follows (nextRefusal now (length queue) room) s [] _ (ofDecision s now) refl (due-follows (dueOf (s .wait) (s .round .closed) now) s now queue)
+call-follows (posting slot message queue) n =
+    unless-follows (postRefusal (length queue) (n .station .used) slot (queueAt (n .station) slot) (length message)) (n .station) queue _ [] refl refl
 call-follows (sending now) n = unless-follows (check1 now 0) (n .station) [] _ [] refl refl
 call-follows (closing count) n = unless-follows (closeRefusal count) (n .station) [] _ [] refl refl
 call-follows (reading cell lent) n =

@@ -48,7 +48,7 @@ use Rattle.frames.specs.Frames.{frameStep, readFrames}
 use Rattle.rx.specs.Ending.{isReply, busyWait}
 use Rattle.rx.specs.Reception.{airOf, firstReading}
 use Rattle.station.specs.Entries.{Outcome, refused, unless, check1, check2, check3, check7, receiveRefusal, receiveBy, receiveOf}
-use Rattle.promise.specs.Promise.{lentTo, Net, ofBurst, Call, admission, reception, decision, sending, closing, reading, freeing, charging, signing, asking, result, outcome, step}
+use Rattle.promise.specs.Promise.{lentTo, Net, ofBurst, Call, admission, reception, decision, sending, closing, reading, freeing, charging, signing, asking, posting, result, outcome, step}
 use Rattle.laws.specs.Worst.{Update, measured, emptied, alsoRead, readingsOf, ofSeat, ofCheckin, ofLevel, ofKid, ofEntries, ofControl, ofFrame, ofFrames, ofSender, ofReply, ofReception, ofSlots, emptiedIf, promotions, ofReroute, ofRoundEnd, ofAct, ofWindow, ofDue, ofSignOff, ofCall, updatesOf}
 
 -- ---- updates with finite levels
@@ -202,7 +202,8 @@ call-fine (reception words snr now lent room numbers) n e =
     let store = lentTo lent (n .store) in
     burst-fine (parse words) s snr now store
     (within-finite 200 snr (level-in room (length store) (s .count) now snr (parse words) (not-refused (receiveRefusal room (length store) (s .count) now snr (parse words)) s store (receiveBy (parse words) s snr now store) e)))
-call-fine (decision now room) n e = due-fine (dueOf (n .station .wait) (n .station .round .closed) now) (n .station) now
+call-fine (posting slot message queue) n e = tt
+call-fine (decision now queue room) n e = due-fine (dueOf (n .station .wait) (n .station .round .closed) now) (n .station) now
 call-fine (sending now) n e = tt
 call-fine (closing count) n e = tt
 call-fine (reading cell lent) n e = tt

@@ -28,6 +28,8 @@ use Rattle.net.specs.State.{memberAt}
 use Rattle.net.specs.Net.{isMember, newStation, onTxDone}
 use Rattle.admit.specs.Admission.{seatOf, findCall, leadsTo}
 use Rattle.bursts.specs.Bursts.{pollBurst, acksBurst, beaconRows, beaconPayload, beyond, beaconOf, tellAll, listSent, rxListBurst}
+use Rattle.queue.specs.Queues.{isDue}
+use Rattle.bursts.specs.Direct.{directedTo}
 use Rattle.bursts.specs.Reroute.{triedOf, sourceFor, promoteAt, promoteAll, moveAt, moveAll, rerouteOf}
 use Rattle.bursts.specs.Rows.{maskWhere, rowsOn, leastReach, leastDirect}
 use Rattle.next.specs.Next.{pollStage, listFor, drawStage, rerouteStage, roundEnd, actOf, windowStage, againStage, missedStage, dueOf, ncsNext}
@@ -61,7 +63,7 @@ low = fin true 10 (pos 0)
 -- every time 0 but the beacon's; 0 decibels are enough
 abbrev settings : Settings
 settings =
-    record { turnaround = nil; maxburst = nil; replyslack = nil; detect = nil; beaconevery = far; quickbeacon = far; idleroundgap = nil; durations = replicate 4 nil; thresholds = replicate 17 nil; margin = nil; relaysnr = nil; misslimit = 2; beaconlevel = 0; windowslots = 0; call = replicate 7 32; name = replicate 6 32; prime = false; lead = nil; latency = nil }
+    record { turnaround = nil; maxburst = nil; replyslack = nil; detect = nil; beaconevery = far; quickbeacon = far; idleroundgap = nil; durations = replicate 4 nil; thresholds = replicate 17 nil; margin = nil; relaysnr = nil; misslimit = 2; beaconlevel = 0; windowslots = 0; call = replicate 7 32; name = replicate 6 32; prime = false; lead = nil; latency = nil; rooms = replicate 17 1; payloads = replicate 17 1 }
 
 abbrev from : Net
 from = net (newStation settings 1) (replicate 6400 7)
@@ -81,9 +83,12 @@ again (suc n) x = idle x ∷ again n x
 abbrev kids : ℕ → Call
 kids q = reception (burstWords (record { head = record { code = 0; hi = 0; extra = 0 }; frames = heard 128 0 (cKids ∷ 1 ∷ (128 + q) ∷ []) ∷ [] })) nil nil handed 8192 (0 ∷ [])
 
+abbrev next : Call
+next = decision nil (replicate 126976 0) 8192
+
 -- the first beacon, and the decision that reroutes
 abbrev promotes : List Call
-promotes = decision nil 8192 ∷ sending nil ∷ decision nil 8192 ∷ []
+promotes = next ∷ sending nil ∷ next ∷ []
 
 abbrev ofB : List Call → Lowest
 ofB cs = worstOf (after (both ++ cs) from .station) 1
@@ -110,7 +115,7 @@ pub record WorstRun : Type 0 where
   pub next-holder : ofB (idle low ∷ signing 1 ∷ admission (0 ∷ 0 ∷ 0 ∷ 0 ∷ 2 ∷ []) 0 nil 8192 ∷ []) ≡ Is Unheard
 
 pub worst-run : WorstRun
-unfolding size units round sum add mul lt le eq ofInt ofBits first fold every any hasBit withBit withoutBit bothOf eitherOf minusOf lowestBit lowestFree slotsOf stop levelBelow totalLt leastFrom backFrom readings worst digit char trimStart trimEnd unpacked shifted fieldDb snrFromQ wordOk payloadOk unpack payload frameOf itemAt framesOf headOk parse pack framesWords chunksOf tally heardAt bestHigh relaySrcFor turnOver isMember newStation onTxDone seatOf findCall leadsTo pollBurst acksBurst beaconRows beaconPayload beyond beaconOf tellAll listSent rxListBurst triedOf sourceFor promoteAt promoteAll moveAt moveAll rerouteOf maskWhere rowsOn leastReach leastDirect pollStage listFor drawStage rerouteStage roundEnd actOf windowStage againStage missedStage dueOf ncsNext eachEntry kidEntry kidsFrame controlBy readFrame frameStep readFrames idleEnd replyEnd ncsRx admitRefusal admitOf receiveRefusal receiveOf nextRefusal nextOf sentOf bereaveAt bereaveAll clearAt clearAll unhearAt unhearAll signOff signOffRefusal signOffOf worstOf result step after
+unfolding size units round sum add mul lt le eq ofInt ofBits first fold every any hasBit withBit withoutBit bothOf eitherOf minusOf lowestBit lowestFree slotsOf stop levelBelow totalLt leastFrom backFrom readings worst digit char trimStart trimEnd unpacked shifted fieldDb snrFromQ wordOk payloadOk unpack payload frameOf itemAt framesOf headOk parse pack framesWords chunksOf tally heardAt bestHigh relaySrcFor turnOver isMember newStation onTxDone seatOf findCall leadsTo pollBurst acksBurst beaconRows beaconPayload beyond beaconOf tellAll listSent rxListBurst triedOf sourceFor promoteAt promoteAll moveAt moveAll rerouteOf maskWhere rowsOn leastReach leastDirect pollStage directedTo isDue listFor drawStage rerouteStage roundEnd actOf windowStage againStage missedStage dueOf ncsNext eachEntry kidEntry kidsFrame controlBy readFrame frameStep readFrames idleEnd replyEnd ncsRx admitRefusal admitOf receiveRefusal receiveOf nextRefusal nextOf sentOf bereaveAt bereaveAll clearAt clearAll unhearAt unhearAll signOff signOffRefusal signOffOf worstOf result step after
 worst-run =
     record {
       nobody = refl;

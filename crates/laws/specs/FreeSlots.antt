@@ -7,6 +7,7 @@ use mathlib.Core.List.{List}
 use lib.ListN.{length, getD}
 use Rattle.bits.specs.Mask.{hasBit}
 use Rattle.recent.specs.Readings.{noRecent, empty}
+use Rattle.queue.specs.Queues.{emptyQueue}
 use Rattle.roster.specs.declared.Member.{Member}
 use Rattle.roster.specs.Members.{noMember}
 use Rattle.net.specs.declared.Station.{Station}
@@ -38,9 +39,10 @@ pub record Blank (i : ℕ) (ms : List Member) (hears : List ℕ) (acks news roun
 abbrev pub BlankIn : ℕ → Station → Type 0
 BlankIn i s = Blank i (s .members) (s .hears) (s .round .toack) (s .round .treenews) (s .round .list) (s .wait .turn) (s .busy) (s .owners)
 
--- from a start that is not refused, after any calls, of every slot without a boat; and it has no reading (U13)
+-- from a start that is not refused, after any calls, of every slot without a boat; and it has no reading (U13), and its directed queue is empty (U1)
 abbrev pub FreeSlots : Type 0
 FreeSlots =
     (s : Station) (g : Given) (store : List ℕ) → startRefusal g (length store) ≡ 0 → (cs : List Call) (i : ℕ) → i < 62
     → hasBit (after cs (started s g store) .station .used) i ≡ false
     → BlankIn i (after cs (started s g store) .station) × (getD (after cs (started s g store) .station .recent) i noRecent ≡ empty)
+    × (getD (after cs (started s g store) .station .queues) i emptyQueue ≡ emptyQueue)

@@ -38,7 +38,7 @@ use Rattle.rx.specs.Ending.{busyWait}
 use Rattle.rx.specs.Reception.{airOf, firstReading}
 use Rattle.config.specs.declared.Given.{Given}
 use Rattle.station.specs.Entries.{startRefusal}
-use Rattle.promise.specs.Promise.{Lent, lentTo, Net, ofBurst, InBook, brings, reads, frees, ends, changesNothing, Call, admission, reception, decision, sending, closing, reading, freeing, charging, signing, asking, inBook, isRefused, step, after, started, isBoats, framesBy, LentOk}
+use Rattle.promise.specs.Promise.{Lent, lentTo, Net, ofBurst, InBook, brings, reads, frees, ends, changesNothing, Call, admission, reception, decision, sending, closing, reading, freeing, charging, signing, asking, posting, inBook, isRefused, step, after, started, isBoats, framesBy, LentOk}
 
 -- ---- a smoothed level
 
@@ -123,7 +123,8 @@ unfoldable pub wentWith : Call → Net → InCells → InCells
 wentWith (reception words snr now lent room numbers) n f =
     cond (isRefused (reception words snr now lent room numbers) n) f (ofBurst (parse words) f (λ b. wentRx (n .station) b snr now (lentTo lent (n .store)) f))
 wentWith (admission packed relay now room) n f = f
-wentWith (decision now room) n f = f
+wentWith (decision now queue room) n f = f
+wentWith (posting slot message queue) n f = f
 wentWith (sending now) n f = f
 wentWith (closing count) n f = f
 wentWith (reading cell lent) n f = f

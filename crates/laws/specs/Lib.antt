@@ -8,3 +8,4 @@ pub mod Bars
 pub mod RoundTrip
 pub mod FreeSlots
 pub mod Worst
+pub mod Directed

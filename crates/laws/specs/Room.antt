@@ -26,4 +26,4 @@ pub record Fits (o : Outcome) (room : ℕ) : Type 0 where
 pub record AllFit : Type 0 where
   pub admission : (s : Station) (packed : List ℕ) (relay : ℕ) (now : Float) (room : ℕ) → Fits (admitOf s packed relay now room) room
   pub reception : (s : Station) (words : List ℕ) (snr now : Float) (store : List ℕ) (room : ℕ) → Fits (receiveOf s words snr now store room) room
-  pub decision : (s : Station) (now : Float) (room : ℕ) → Fits (nextOf s now room) room
+  pub decision : (s : Station) (now : Float) (queue : List ℕ) (room : ℕ) → Fits (nextOf s now queue room) room

@@ -45,7 +45,7 @@ use Rattle.config.specs.declared.Given.{Given}
 use Rattle.station.specs.declared.Lowest.the-variants.{Is}
 use Rattle.station.specs.Entries.{startRefusal}
 use Rattle.station.specs.Worst.{worstOf, decibelsOf}
-use Rattle.promise.specs.Promise.{lentTo, Net, ofBurst, Call, admission, reception, decision, sending, closing, reading, freeing, charging, signing, asking, outcome, step, after, started}
+use Rattle.promise.specs.Promise.{lentTo, Net, ofBurst, Call, admission, reception, decision, sending, closing, reading, freeing, charging, signing, asking, outcome, step, after, started, posting}
 
 -- ---- what happens to a boat's window
 
@@ -188,7 +188,8 @@ ofSignOff s slot = emptied slot ∷ ofSlots (λ i. emptiedIf (hasBit (withoutBit
 abbrev pub ofCall : Call → Net → List Update
 ofCall (admission packed relay now room) n = ofSeat (seatOf (n .station) (unpackCall packed))
 ofCall (reception words snr now lent room numbers) n = ofBurst (parse words) [] (ofReception (n .station) snr now (lentTo lent (n .store)))
-ofCall (decision now room) n = ofDecision (n .station) now
+ofCall (decision now queue room) n = ofDecision (n .station) now
+ofCall (posting slot message queue) n = []
 ofCall (sending now) n = []
 ofCall (closing count) n = []
 ofCall (reading cell lent) n = []

@@ -31,7 +31,8 @@ pub fn polled(mut s: Station) -> Station {
 
 // The next decision and the end of its sending.
 pub fn turned(s: Station, time: f64, out: &mut [u32; 8192]) -> Station {
-    let r = station::next(s, time, out);
+    let queue = [0u8; 126976];
+    let r = station::next(s, time, &queue, out);
     let u = r.station;
     let q = station::sent(u, time);
     q.station

@@ -14,7 +14,8 @@ fn main() {
     let a = refused::short(&mut t, 0);
     let b = refused::output(&mut t, a, &lent, &mut out);
     let c = refused::store(&mut t, b, &mut out);
-    let d = refused::clock(&mut t, c, &lent, &mut out);
+    let z = refused::queue(&mut t, c, &lent, &mut out);
+    let d = refused::clock(&mut t, z, &lent, &mut out);
     let e = refused::level(&mut t, d, &mut lent, &mut out);
     let f = count::numbers(&mut t, e, &mut lent, &mut out);
     let g = count::counters(&mut t, f, &lent, &mut out);

@@ -1,4 +1,4 @@
-// Refusals that no script reaches: 7 with a store below a cell, 4, 7 after the start, 1 and 2 with a NaN.
+// Refusals that no script reaches: 7 with a store below a cell, 4, 7 after the start and for the directed queue, 1 and 2 with a NaN.
 use super::burst;
 use super::tell;
 
@@ -17,10 +17,11 @@ pub fn short(t: &mut [u8; 65536], at: usize) -> usize {
 pub fn output(t: &mut [u8; 65536], at: usize, lent: &[u8; 64000], out: &mut [u32; 8192]) -> usize {
     let s = burst::fresh(lent);
     let mut less = [0u32; 8191];
-    let r = station::next(s, 0.0, &mut less);
+    let queue = [0u8; 126976];
+    let r = station::next(s, 0.0, &queue, &mut less);
     let a = r.answer;
     let e = tell::answer(t, at, b"next decision, output of 8,191 words", a);
-    let q = station::next(s, 0.0, out);
+    let q = station::next(s, 0.0, &queue, out);
     let b = q.answer;
     let f = tell::answer(t, e, b"next decision, output of 8,192 words", b);
     let p = station::admit(s, [1, 0, 0, 0, 0], 63, 0.0, &mut less);
@@ -50,6 +51,21 @@ pub fn store(t: &mut [u8; 65536], at: usize, out: &mut [u32; 8192]) -> usize {
     )
 }
 
+pub fn queue(t: &mut [u8; 65536], at: usize, lent: &[u8; 64000], out: &mut [u32; 8192]) -> usize {
+    let s = burst::fresh(lent);
+    let mut less = [0u8; 126975];
+    let mut queue = [0u8; 126976];
+    let r = station::next(s, 0.0, &less, out);
+    let a = r.answer;
+    let e = tell::answer(t, at, b"next decision, queue of 126,975 bytes", a);
+    let q = station::post(s, 0, b"hold off", &mut less);
+    let b = q.answer;
+    let f = tell::answer(t, e, b"posting to nobody, queue of 126,975 bytes", b);
+    let p = station::post(s, 0, b"hold off", &mut queue);
+    let c = p.answer;
+    tell::answer(t, f, b"posting to nobody, queue of 126,976 bytes", c)
+}
+
 fn nan64() -> f64 {
     0.0 / 0.0
 }
@@ -60,7 +76,8 @@ fn nan32() -> f32 {
 
 pub fn clock(t: &mut [u8; 65536], at: usize, lent: &[u8; 64000], out: &mut [u32; 8192]) -> usize {
     let s = burst::fresh(lent);
-    let r = station::next(s, nan64(), out);
+    let queue = [0u8; 126976];
+    let r = station::next(s, nan64(), &queue, out);
     let a = r.answer;
     let e = tell::answer(t, at, b"next decision, clock NaN", a);
     let q = station::sent(s, nan64());

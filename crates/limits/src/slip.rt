@@ -58,7 +58,8 @@ pub fn cap(t: &mut [u8; 65536], at: usize, lent: &[u8; 64000], out: &mut [u32; 8
     );
     let a = burst::turned(s, 0.0, out);
     let b = burst::turned(a, 100.0, out);
-    let r = station::next(b, 200.0, out);
+    let queue = [0u8; 126976];
+    let r = station::next(b, 200.0, &queue, out);
     let h = r.answer;
     let x = burst::extra_in(out, h);
     tell::small(t, e, b"  cap in its poll", x / 64 % 16)

@@ -12,7 +12,7 @@ use Rattle.bits.specs.Mask.{hasBit}
 use Rattle.bits.proofs.Lists.{and-true}
 use Rattle.roster.specs.declared.Member.{Member}
 use Rattle.net.specs.declared.Station.{Station}
-use Rattle.net.specs.State.{indexOf, memberAt, withMember, withMembers, tableOf, withTable}
+use Rattle.net.specs.State.{indexOf, memberAt, withMember, withMembers, queueAt, withQueue, withQueues, tableOf, withTable}
 use Rattle.net.specs.Net.{isMember}
 
 -- ### Slots
@@ -62,6 +62,10 @@ module _ (s : Station) (slot : ℕ) where
 
   pub member-twice : (m n : Member) → withMember (withMember s slot m) slot n ≡ withMember s slot n
   member-twice m n = ap (withMembers s) (set-set (s .members) (indexOf slot) m n)
+
+-- the same for the numbers of a directed queue
+pub queue-again : (s : Station) (slot : ℕ) → withQueue s slot (queueAt s slot) ≡ s
+queue-again s slot = ap (withQueues s) (set-getD (s .queues) (indexOf slot) _)
 
 -- the station's own table, put back
 pub table-again : (s : Station) → withTable s (tableOf s) ≡ s

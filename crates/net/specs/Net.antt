@@ -14,6 +14,7 @@ use Rattle.level.specs.Levels.{levelFor, isHeard}
 use Rattle.level.specs.Consts.{nought, one, two, three, slotSlack}
 use Rattle.inbox.specs.Messages.{emptyCell}
 use Rattle.recent.specs.Readings.{empty}
+use Rattle.queue.specs.Queues.{emptyQueue}
 use Rattle.out.specs.Encode.{Wrote}
 use Rattle.roster.specs.declared.Member.{Member}
 use Rattle.roster.specs.Members.{newMember, downOrUp}
@@ -62,7 +63,7 @@ idleWait = waitOf Idle Never
 -- no boat, no message: every slot and every cell is free
 unfoldable pub newStation : Settings → ℕ → Station
 newStation settings count =
-    record { settings = settings; wait = idleWait; round = firstRound; totals = noTotals; used = 0; busy = 0; landed = 0; count = count; members = replicate 62 (newMember blankCall 63 nought); recent = replicate 62 empty; hears = replicate 3844 63; owners = replicate 64 0; cells = replicate 64 emptyCell }
+    record { settings = settings; wait = idleWait; round = firstRound; totals = noTotals; used = 0; busy = 0; landed = 0; count = count; members = replicate 62 (newMember blankCall 63 nought); recent = replicate 62 empty; queues = replicate 62 emptyQueue; hears = replicate 3844 63; owners = replicate 64 0; cells = replicate 64 emptyCell }
 
 -- ---- waiting
 

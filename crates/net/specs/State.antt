@@ -12,6 +12,8 @@ use Rattle.recent.specs.Readings.{noRecent, empty, noted}
 use Rattle.roster.specs.declared.Member.{Member}
 use Rattle.roster.specs.Members.{noMember, silentAt, tally}
 use Rattle.stream.specs.Table.{Table}
+use Rattle.queue.specs.declared.Queue.{Queue}
+use Rattle.queue.specs.Queues.{emptyQueue}
 use Rattle.net.specs.declared.Station.{Station}
 use Rattle.net.specs.declared.Round.{Round}
 use Rattle.net.specs.declared.Totals.{Totals}
@@ -21,31 +23,35 @@ use Rattle.net.specs.declared.Wait.{Wait}
 
 abbrev pub withWait : Station → Wait → Station
 withWait s w =
-    record { settings = s .settings; wait = w; round = s .round; totals = s .totals; used = s .used; busy = s .busy; landed = s .landed; count = s .count; members = s .members; recent = s .recent; hears = s .hears; owners = s .owners; cells = s .cells }
+    record { settings = s .settings; wait = w; round = s .round; totals = s .totals; used = s .used; busy = s .busy; landed = s .landed; count = s .count; members = s .members; recent = s .recent; queues = s .queues; hears = s .hears; owners = s .owners; cells = s .cells }
 
 abbrev pub withRound : Station → Round → Station
 withRound s r =
-    record { settings = s .settings; wait = s .wait; round = r; totals = s .totals; used = s .used; busy = s .busy; landed = s .landed; count = s .count; members = s .members; recent = s .recent; hears = s .hears; owners = s .owners; cells = s .cells }
+    record { settings = s .settings; wait = s .wait; round = r; totals = s .totals; used = s .used; busy = s .busy; landed = s .landed; count = s .count; members = s .members; recent = s .recent; queues = s .queues; hears = s .hears; owners = s .owners; cells = s .cells }
 
 abbrev pub withTotals : Station → Totals → Station
 withTotals s t =
-    record { settings = s .settings; wait = s .wait; round = s .round; totals = t; used = s .used; busy = s .busy; landed = s .landed; count = s .count; members = s .members; recent = s .recent; hears = s .hears; owners = s .owners; cells = s .cells }
+    record { settings = s .settings; wait = s .wait; round = s .round; totals = t; used = s .used; busy = s .busy; landed = s .landed; count = s .count; members = s .members; recent = s .recent; queues = s .queues; hears = s .hears; owners = s .owners; cells = s .cells }
 
 abbrev pub withUsed : Station → ℕ → Station
 withUsed s m =
-    record { settings = s .settings; wait = s .wait; round = s .round; totals = s .totals; used = m; busy = s .busy; landed = s .landed; count = s .count; members = s .members; recent = s .recent; hears = s .hears; owners = s .owners; cells = s .cells }
+    record { settings = s .settings; wait = s .wait; round = s .round; totals = s .totals; used = m; busy = s .busy; landed = s .landed; count = s .count; members = s .members; recent = s .recent; queues = s .queues; hears = s .hears; owners = s .owners; cells = s .cells }
 
 abbrev pub withMembers : Station → List Member → Station
 withMembers s ms =
-    record { settings = s .settings; wait = s .wait; round = s .round; totals = s .totals; used = s .used; busy = s .busy; landed = s .landed; count = s .count; members = ms; recent = s .recent; hears = s .hears; owners = s .owners; cells = s .cells }
+    record { settings = s .settings; wait = s .wait; round = s .round; totals = s .totals; used = s .used; busy = s .busy; landed = s .landed; count = s .count; members = ms; recent = s .recent; queues = s .queues; hears = s .hears; owners = s .owners; cells = s .cells }
 
 abbrev pub withHears : Station → List ℕ → Station
 withHears s h =
-    record { settings = s .settings; wait = s .wait; round = s .round; totals = s .totals; used = s .used; busy = s .busy; landed = s .landed; count = s .count; members = s .members; recent = s .recent; hears = h; owners = s .owners; cells = s .cells }
+    record { settings = s .settings; wait = s .wait; round = s .round; totals = s .totals; used = s .used; busy = s .busy; landed = s .landed; count = s .count; members = s .members; recent = s .recent; queues = s .queues; hears = h; owners = s .owners; cells = s .cells }
 
 abbrev pub withRecent : Station → List Recent → Station
 withRecent s rs =
-    record { settings = s .settings; wait = s .wait; round = s .round; totals = s .totals; used = s .used; busy = s .busy; landed = s .landed; count = s .count; members = s .members; recent = rs; hears = s .hears; owners = s .owners; cells = s .cells }
+    record { settings = s .settings; wait = s .wait; round = s .round; totals = s .totals; used = s .used; busy = s .busy; landed = s .landed; count = s .count; members = s .members; recent = rs; queues = s .queues; hears = s .hears; owners = s .owners; cells = s .cells }
+
+abbrev pub withQueues : Station → List Queue → Station
+withQueues s qs =
+    record { settings = s .settings; wait = s .wait; round = s .round; totals = s .totals; used = s .used; busy = s .busy; landed = s .landed; count = s .count; members = s .members; recent = s .recent; queues = qs; hears = s .hears; owners = s .owners; cells = s .cells }
 
 -- a number that is no slot reads slot 0; whoever asks has tested it (`isMember`)
 abbrev pub indexOf : ℕ → ℕ
@@ -70,13 +76,20 @@ alsoNoted s i x = withRecent s (set (s .recent) i (noted (recentAt s i) x))
 abbrev pub emptied : Station → ℕ → Station
 emptied s i = withRecent s (set (s .recent) i empty)
 
+-- the numbers of a slot's directed queue
+abbrev pub queueAt : Station → ℕ → Queue
+queueAt s slot = getD (s .queues) (indexOf slot) emptyQueue
+
+abbrev pub withQueue : Station → ℕ → Queue → Station
+withQueue s slot q = withQueues s (set (s .queues) (indexOf slot) q)
+
 -- the station's cells, as stream's table
 abbrev pub tableOf : Station → Table
 tableOf s = record { count = s .count; busy = s .busy; landed = s .landed; owners = s .owners; cells = s .cells }
 
 abbrev pub withTable : Station → Table → Station
 withTable s t =
-    record { settings = s .settings; wait = s .wait; round = s .round; totals = s .totals; used = s .used; busy = t .busy; landed = t .landed; count = t .count; members = s .members; recent = s .recent; hears = s .hears; owners = t .owners; cells = t .cells }
+    record { settings = s .settings; wait = s .wait; round = s .round; totals = s .totals; used = s .used; busy = t .busy; landed = t .landed; count = t .count; members = s .members; recent = s .recent; queues = s .queues; hears = s .hears; owners = t .owners; cells = t .cells }
 
 -- ---- Round
 

@@ -6,6 +6,7 @@ ghost use Rattle.net.specs.Net.{isMember, membersIn, firstRound, noTotal
 use inbox::cell::Cell;
 use level::Clock;
 use level::Level;
+use queue::Queue;
 use recent::Recent;
 use roster::Member;
 
@@ -51,6 +52,9 @@ pub struct Settings {
     pub prime: bool,
     pub lead: f64,
     pub latency: f64,
+    // Of each level: how many frames a burst of data may have, and the largest payload of one (request U1).
+    pub rooms: [u8; 17],
+    pub payloads: [u8; 17],
 }
 
 // Sets are masks of slots, the round's list too: its lowest slot is the front. rxsent: the round whose received list was looked at, 0 for
@@ -95,6 +99,7 @@ pub struct Station {
     pub count: usize,
     pub members: [Member; 62],
     pub recent: [Recent; 62],
+    pub queues: [Queue; 62],
     pub hears: [u8; 3844],
     pub owners: [u64; 64],
     pub cells: [Cell; 64],
@@ -172,6 +177,8 @@ pub fn new(settings: Settings, count: usize) -> Station
     let members = [m; 62];
     let none = recent::empty();
     let recent = [none; 62];
+    let q = queue::empty();
+    let queues = [q; 62];
     let hears = [63u8; 3844];
     let owners = [0u64; 64];
     let cells = [c; 64];
@@ -186,6 +193,7 @@ pub fn new(settings: Settings, count: usize) -> Station
         count: count,
         members: members,
         recent: recent,
+        queues: queues,
         hears: hears,
         owners: owners,
         cells: cells,

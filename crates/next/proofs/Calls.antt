@@ -2,11 +2,14 @@
 use mathlib.Core.Path.{_≡_, refl, sym, ap, _∙_}
 use mathlib.Core.Bool.{Bool, true, false, not, cond, _&&_, _||_}
 use mathlib.Core.List.{List, []}
-use Prim.Native.Nat.{ℕ}
+use Prim.Native.Nat.{ℕ, _<_}
+use native.Mathlib.Omega.{arith}
 use lib.Dec.{eqb, ltb}
 use lib.ListN.{getD, set}
 use lib.Ieee.{Float, lt}
 use borrow.Author.Tests.{eq-eqb, ne-eqb}
+use Rattle.bits.specs.declared.Found.{Found}
+use Rattle.bits.specs.declared.Found.the-variants as found
 use Rattle.bits.proofs.Lists.{cond-true, cond-false}
 use Rattle.out.specs.Encode.{Wrote}
 use Rattle.out.proofs.Laws.{then, wrote-none}
@@ -19,14 +22,16 @@ use Rattle.net.specs.declared.Wait.{Wait}
 use Rattle.net.specs.State.{indexOf, withMembers, withWait, withRound, withTotals, withRxsent}
 use Rattle.net.specs.Net.{isMember, isIdle, Said, said, Did}
 use Rattle.bursts.specs.Bursts.{acksBurst, rxListBurst}
+use Rattle.bursts.specs.Direct.{directedTo, directBurst, slotOr255}
 use Rattle.bursts.specs.Reroute.{rerouteOf}
+use Rattle.bursts.proofs.Directing.{directed-lt}
 use Rattle.bursts.proofs.Saying.{did-then, did-as}
 use Rattle.next.specs.declared.Due.{Due}
 use Rattle.next.specs.declared.Act.{Act}
 use Rattle.next.specs.declared.Act.the-variants as act
 use Rattle.next.specs.declared.Late.{Late}
 use Rattle.next.specs.Next.{dueOf, drawn, ncsNext}
-use Rattle.next.specs.Code.Decision.{saidAfter, lateOf, lateWords, lateMember, lateSource, lateWait, lateTotals, lateRound, lateStation, lateSays, actIn, isSeldom, reroutedThen, reroutingOf, listThen, roundThen, seldomOf, pollIf, nextStraight}
+use Rattle.next.specs.Code.Decision.{saidAfter, lateOf, lateWords, lateMember, lateSource, lateWait, lateTotals, lateRound, lateStation, lateSays, actIn, isSeldom, reroutedThen, reroutingOf, listThen, roundThen, seldomOf, frontOf, pollIf, directTo, directIf, wordThen, nextStraight}
 use Rattle.next.proofs.Stages.{next-is}
 
 -- nothing is written
@@ -94,6 +99,28 @@ not-seldom act.Acks s now e = cc
 not-seldom act.Draw s now e = cc
 not-seldom act.Poll s now e = refl
 
+-- no word is sent
+pub direct-none : (to : ℕ) (s : Station) (queue : List ℕ) → to ≡ 255 → said s [] ≡ directIf to s queue
+direct-none to s queue e = rw (eq-eqb to 255 e)
+
+-- it is sent, to a slot
+pub direct-some : (to : ℕ) (s : Station) (queue : List ℕ) → (to ≡ 255 → ⊥) → directBurst s queue to ≡ directIf to s queue
+direct-some to s queue n = rw (ne-eqb to 255 n)
+
+slot-or : (f : Found) → ((i : ℕ) → f ≡ found.At i → i < 62) → (slotOr255 f ≡ 255 → ⊥) → slotOr255 f < 62
+slot-or found.Nothing h n = absurd (n refl)
+slot-or (found.At i) h n = omega (arith, h i refl)
+
+pub direct-lt : (a : Act) (s : Station) (to : ℕ) → to ≡ directTo a s → (to ≡ 255 → ⊥) → to < 62
+direct-lt a s to e n = by (eqb (frontOf (s .wait) (s .round .list) a) 255) e
+  where
+    slot : ℕ
+    slot = frontOf (s .wait) (s .round .list) a
+
+    by : (b : Bool) → to ≡ cond b 255 (slotOr255 (directedTo s slot)) → to < 62
+    by true q = absurd (n q)
+    by false q = rw q (slot-or (directedTo s slot) (λ i h. directed-lt s slot i h) (λ h. n (q ∙ h)))
+
 -- the station with the parts that the first stages leave
 abbrev pub laid : Station → ℕ → Member → ℕ → Member → Wait → Totals → Round → Station
 laid s a k b c v u r =
@@ -130,13 +157,15 @@ module _ (s : Station) (ok : Bool) (now : Float) {d : Due} {l : Late} {a : ℕ} 
   act-is : x ≡ actIn (lateIn .quiet) (lateStation s lateIn now .round) (s .used) now
   act-is = rw (p .act, p .round, late-is)
 
-  pub next-said : (t : Station) (o₂ : List ℕ) (i₂ : ℕ) {q : Station} {o o₁ o₃ : List ℕ} {i i₁ i₃ : ℕ} → Wrote o i (lateWords l (s .round .closeleft) (s .settings) (getD (s .members) a noMember) here) o₁ i₁
-      → Did (pollIf x t) q o₂ i₂ o₃ i₃ → Did (seldomOf x (laid s a k b c v u r) now) t o₁ i₁ o₂ i₂
-      → Did (cond ok (said (ncsNext s now .station) (ncsNext s now .words)) (said s [])) q o i o₃ i₃
+  pub next-said : (queue : List ℕ) (t : Station) (o₂ : List ℕ) (i₂ to : ℕ) (d : Station) (o₃ : List ℕ) (i₃ : ℕ) {q : Station} {o o₁ o₄ : List ℕ} {i i₁ i₄ : ℕ}
+      → Wrote o i (lateWords l (s .round .closeleft) (s .settings) (getD (s .members) a noMember) here) o₁ i₁
+      → Did (pollIf x d) q o₃ i₃ o₄ i₄ → to ≡ directTo x t → Did (directIf to t queue) d o₂ i₂ o₃ i₃ → Did (seldomOf x (laid s a k b c v u r) now) t o₁ i₁ o₂ i₂
+      → Did (cond ok (said (ncsNext s now queue .station) (ncsNext s now queue .words)) (said s [])) q o i o₄ i₄
   unfolding nextStraight
-  next-said t o₂ i₂ w f e =
+  next-said queue t o₂ i₂ to d o₃ i₃ w f et n e =
       let g = did-as e (ap (λ (y : Station). seldomOf x y now) laid-is) in
-      let z = did-on (pollIf x) g f in
+      let m : Did (wordThen x t queue) _ o₂ i₂ _ _ = did-on (pollIf x) (did-as n (ap (λ (j : ℕ). directIf j t queue) et)) f in
+      let z = did-on (λ y. wordThen x y queue) g m in
       let y = rw act-is at z in
-      let whole : Did (nextStraight s ok now) _ _ _ _ _ = record { station = y .station; wrote = then (rw words-are at w) (y .wrote) } in
-      did-as whole (next-is s ok now)
+      let whole : Did (nextStraight s ok now queue) _ _ _ _ _ = record { station = y .station; wrote = then (rw words-are at w) (y .wrote) } in
+      did-as whole (next-is s ok now queue)

@@ -25,6 +25,7 @@ use Rattle.net.specs.State.{memberAt, withMember, withCounted, withWait, withRo
 use Rattle.net.specs.Net.{plus, isMember, membersIn, waitOf, idleWait, Said, said}
 use Rattle.bursts.specs.Rows.{seated, maskWhere}
 use Rattle.bursts.specs.Bursts.{tinyWords, pollBurst, acksBurst, beaconOf, rxListBurst, listSent}
+use Rattle.bursts.specs.Direct.{directedTo, directBurst}
 use Rattle.bursts.specs.Reroute.{sourceFor, rerouteOf}
 use Rattle.next.specs.declared.Due.{Due}
 use Rattle.next.specs.declared.Due.the-variants.{Free, Quiet, Close, Again, Missed}
@@ -65,8 +66,20 @@ abbrev pub pollBy : Found → Station → Decision
 pollBy found.Nothing s = silent s
 pollBy (found.At slot) s = spoke (pollOf slot (sourceFor s slot) s)
 
-unfoldable pub pollStage : Station → Decision
-pollStage s = pollBy (lowestBit (s .round .list)) s
+abbrev pub pollFront : Station → Decision
+pollFront s = pollBy (lowestBit (s .round .list)) s
+
+-- before it word goes to the front of the list and to the boats relayed by it, a burst in each decision, and the slot stays on the list (U1)
+abbrev pub directedBy : Found → Station → Found
+directedBy found.Nothing s = found.Nothing
+directedBy (found.At slot) s = directedTo s slot
+
+abbrev pub wordBy : Found → Station → List ℕ → Decision
+wordBy found.Nothing s queue = pollFront s
+wordBy (found.At slot) s queue = spoke (directBurst s queue slot)
+
+unfoldable pub pollStage : Station → List ℕ → Decision
+pollStage s queue = wordBy (directedBy (lowestBit (s .round .list)) s) s queue
 
 -- ---- round
 
@@ -86,30 +99,30 @@ drawn s now =
 abbrev pub drewList : ℕ → Decision → Decision
 drewList list d = record { station = d .station; words = d .words; over = d .over; drew = some list }
 
-unfoldable pub drawStage : Station → Float → Decision
-drawStage s now = drewList (listFor s (nextNumber s)) (pollStage (drawn s now))
+unfoldable pub drawStage : Station → Float → List ℕ → Decision
+drawStage s now queue = drewList (listFor s (nextNumber s)) (pollStage (drawn s now) queue)
 
 -- ---- reroute
 
 -- moved boats are announced first, and no round is drawn up then
-abbrev pub reroutedStage : Said → Float → Decision
-reroutedStage x now =
-    after (x .words) (cond (eqb (x .station .round .treenews) 0) (drawStage (x .station) now) (spoke (acksBurst (x .station))))
+abbrev pub reroutedStage : Said → Float → List ℕ → Decision
+reroutedStage x now queue =
+    after (x .words) (cond (eqb (x .station .round .treenews) 0) (drawStage (x .station) now queue) (spoke (acksBurst (x .station))))
 
-unfoldable pub rerouteStage : Station → Float → Decision
-rerouteStage s now =
-    cond (not (s .round .traffic) && ltb 0 (s .round .number) && lt now (s .round .nextround)) (silent s) (reroutedStage (rerouteOf s) now)
+unfoldable pub rerouteStage : Station → Float → List ℕ → Decision
+rerouteStage s now queue =
+    cond (not (s .round .traffic) && ltb 0 (s .round .number) && lt now (s .round .nextround)) (silent s) (reroutedStage (rerouteOf s) now queue)
 
 -- ---- received list
 
 -- the end of a round: what has arrived is said, if that is news
-abbrev pub listStage : Station → Float → Decision
-listStage s now = cond (listSent s) (spoke (rxListBurst s)) (rerouteStage (rxListBurst s .station) now)
+abbrev pub listStage : Station → Float → List ℕ → Decision
+listStage s now queue = cond (listSent s) (spoke (rxListBurst s)) (rerouteStage (rxListBurst s .station) now queue)
 
-unfoldable pub roundEnd : Station → Float → Decision
-roundEnd s now =
-    cond (eqb (s .round .number) 0 || eqb (s .round .rxsent) (s .round .number)) (rerouteStage s now)
-    (listStage (withRound s (withRxsent (s .round) (s .round .number))) now)
+unfoldable pub roundEnd : Station → Float → List ℕ → Decision
+roundEnd s now queue =
+    cond (eqb (s .round .number) 0 || eqb (s .round .rxsent) (s .round .number)) (rerouteStage s now queue)
+    (listStage (withRound s (withRxsent (s .round) (s .round .number))) now queue)
 
 -- ---- window, beacon, acknowledgements
 
@@ -126,18 +139,18 @@ actOf r used now =
     (cond (not (eqb (r .toack) 0) || not (eqb (r .treenews) 0)) act.Acks
     (cond (not (eqb (r .list) 0)) act.Poll (cond (eqb (membersIn used) 0) act.Wait act.Draw)))
 
-abbrev pub actBy : Act → Station → Float → Decision
-actBy act.Wait s now = silent s
-actBy act.Beacon s now = spoke (beaconOf s now)
-actBy act.Acks s now = spoke (acksBurst s)
-actBy act.Draw s now = roundEnd s now
-actBy act.Poll s now = pollStage s
+abbrev pub actBy : Act → Station → Float → List ℕ → Decision
+actBy act.Wait s now queue = silent s
+actBy act.Beacon s now queue = spoke (beaconOf s now)
+actBy act.Acks s now queue = spoke (acksBurst s)
+actBy act.Draw s now queue = roundEnd s now queue
+actBy act.Poll s now queue = pollStage s queue
 
-abbrev pub actStage : Station → Float → Decision
-actStage s now = actBy (actOf (s .round) (s .used) now) s now
+abbrev pub actStage : Station → Float → List ℕ → Decision
+actStage s now queue = actBy (actOf (s .round) (s .used) now) s now queue
 
-unfoldable pub windowStage : Station → Float → Decision
-windowStage s now = cond (lt now (s .round .windowend)) (silent s) (actStage (hurried s now) now)
+unfoldable pub windowStage : Station → Float → List ℕ → Decision
+windowStage s now queue = cond (lt now (s .round .windowend)) (silent s) (actStage (hurried s now) now queue)
 
 -- ---- close and timeout
 
@@ -172,10 +185,10 @@ missedEvent s slot = cond (isMember (s .used) slot) (missedWord slot ∷ []) []
 abbrev pub overBy : ℕ → Decision → Decision
 overBy slot d = record { station = d .station; words = d .words; over = some slot; drew = d .drew }
 
-unfoldable pub missedStage : Reply → Station → Float → Decision
-missedStage r s now =
+unfoldable pub missedStage : Reply → Station → Float → List ℕ → Decision
+missedStage r s now queue =
     overBy (r .slot) (after (missedEvent s (r .slot))
-    (windowStage (turnOverIn (missedIn (withWait s idleWait) (r .slot)) (r .slot) (r .relayfor)) now))
+    (windowStage (turnOverIn (missedIn (withWait s idleWait) (r .slot)) (r .slot) (r .relayfor)) now queue))
 
 abbrev pub overdueOf : Reply → Due
 overdueOf r = cond (eqb (r .tries) 0) (Again r) (Missed r)
@@ -193,12 +206,12 @@ dueTurn (Waiting r) d now = dueBy d r now
 unfoldable pub dueOf : Wait → Bool → Float → Due
 dueOf w closed now = cond closed Close (dueTurn (w .turn) (w .deadline) now)
 
-abbrev pub byDue : Due → Station → Float → Decision
-byDue Free s now = windowStage s now
-byDue Quiet s now = silent s
-byDue Close s now = closeStage s now
-byDue (Again r) s now = againStage r s
-byDue (Missed r) s now = missedStage r s now
+abbrev pub byDue : Due → Station → Float → List ℕ → Decision
+byDue Free s now queue = windowStage s now queue
+byDue Quiet s now queue = silent s
+byDue Close s now queue = closeStage s now
+byDue (Again r) s now queue = againStage r s
+byDue (Missed r) s now queue = missedStage r s now queue
 
-unfoldable pub ncsNext : Station → Float → Decision
-ncsNext s now = byDue (dueOf (s .wait) (s .round .closed) now) s now
+unfoldable pub ncsNext : Station → Float → List ℕ → Decision
+ncsNext s now queue = byDue (dueOf (s .wait) (s .round .closed) now) s now queue

@@ -8,8 +8,9 @@ ghost use Rattle.out.specs.Encode.{Wrote};
 ghost use Rattle.net.specs.State.{withNumber};
 ghost use Rattle.net.specs.Net.{Did, said};
 ghost use Rattle.next.specs.Next.{overdueOf, dueBy, dueOf, listFor, drawn, ncsNext};
-ghost use Rattle.next.specs.Code.Decision.{noLate, lateReply, lateOf, lateWords, lateMember, lateSource, lateWait, lateTotals, closeRound, forwardTo, lateRound, actIn, isSeldom, reroutingOf, roundThen, seldomOf, mayPoll, frontOf, pollWait, pollTotals, pollList, pollSource, pollWords, pollIf};
+ghost use Rattle.next.specs.Code.Decision.{noLate, lateReply, lateOf, lateWords, lateMember, lateSource, lateWait, lateTotals, closeRound, forwardTo, lateRound, actIn, isSeldom, reroutingOf, roundThen, seldomOf, mayPoll, frontOf, directTo, pollWait, pollTotals, pollList, pollSource, pollWords, pollIf};
 use bits::Found;
+use bursts::direct;
 use bursts::reroute;
 use level::Clock;
 use net::Reply;
@@ -23,8 +24,16 @@ use roster::Member;
 use roster::relay;
 
 // Each stage changes parts of the station in place; where not `ok`, nothing changes.
-pub fn ncs_next(mut s: Station, ok: bool, time: f64, o: &mut [u32], at: &mut usize) -> Station
-    ensures { λ r. ⌜ Did (cond ok (said (ncsNext s time .station) (ncsNext s time .words)) (said s [])) r (now (o .entry)) (now (at .entry)) (now (o .exit)) (now (at .exit)) ⌝ }
+// `queue` is the directed queue.
+pub fn ncs_next(
+    mut s: Station,
+    ok: bool,
+    time: f64,
+    queue: &[u8],
+    o: &mut [u32],
+    at: &mut usize,
+) -> Station
+    ensures { λ r. ⌜ Did (cond ok (said (ncsNext s time (now (queue .entry)) .station) (ncsNext s time (now (queue .entry)) .words)) (said s [])) r (now (o .entry)) (now (at .entry)) (now (o .exit)) (now (at .exit)) ⌝ }
 {
     let w = s.wait;
     let q = s.round;
@@ -50,6 +59,10 @@ pub fn ncs_next(mut s: Station, ok: bool, time: f64, o: &mut [u32], at: &mut usi
     let act = act_of(l.quiet, r, s.used, time);
     if is_seldom(act) {
         s = seldom(s, act, time, o, at);
+    }
+    let to = direct_to(s, act);
+    if to != 255 {
+        s = direct::direct_burst(s, to, queue, o, at);
     }
     poll(s, act, o, at)
 }
@@ -440,6 +453,18 @@ fn front(w: Wait, list: u64, a: Act) -> u8
         Found::At(slot) => low(slot),
         Found::Nothing => 255,
     }
+}
+
+// To whom word goes before that poll; 255 for none.
+fn direct_to(s: Station, act: Act) -> u8
+    ensures { λ r. ⌜ r ≡ directTo act s ⌝ }
+{
+    let w = s.wait;
+    let slot = front(w, s.round.list, act);
+    if slot == 255 {
+        return 255;
+    }
+    direct::directed_to(s, slot)
 }
 
 fn poll_wait(w: Wait, slot: u8, relayfor: u8) -> Wait

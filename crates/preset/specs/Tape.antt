@@ -29,6 +29,10 @@ pub ladder-is : ladder ≡
 unfolding ofBits round
 ladder-is = refl
 
+-- the largest payloads are the Rust's: its frames have 32 bytes at levels 0 to 4 and 180 from level 5 on, 10 of them not payload (U1)
+abbrev pub payloads : List ℕ
+payloads = 22 ∷ 22 ∷ 22 ∷ 22 ∷ 22 ∷ 170 ∷ 170 ∷ 170 ∷ 170 ∷ 170 ∷ 170 ∷ 170 ∷ 170 ∷ 170 ∷ 170 ∷ 170 ∷ 170 ∷ []
+
 -- the call is 3010936384, the call `0`, in five bytes; the name is PORT and two spaces
 abbrev pub tapeSettings : Given
 tapeSettings = record {
@@ -52,8 +56,12 @@ tapeSettings = record {
     prime = false;
     lead = ofBits binary64 0x0000_0000_0000_0000;
     latency = ofBits binary64 0x0000_0000_0000_0000;
+    rooms = replicate 17 0;
+    payloads = replicate 17 0;
   };
   call = bytesOf 5 3010936384;
+  times = replicate 1088 (ofBits binary64 0x3ff0_0000_0000_0000);
+  payloads = payloads;
 }
 
 -- the decimals of NetConfig::new

@@ -1,6 +1,6 @@
 // The settings of `tape` (document 01, Words), and a station for a first start.
 ghost use mathlib.Core.Path.{_≡_};
-ghost use Rattle.preset.specs.Tape.{ladder, tapeSettings, blank};
+ghost use Rattle.preset.specs.Tape.{ladder, payloads, tapeSettings, blank};
 use config::Given;
 use net::Settings;
 
@@ -36,6 +36,31 @@ fn ladder() -> [f32; 17]
     ]
 }
 
+// The Rust's largest payloads: 22 bytes for levels 0 to 4, 170 for levels 5 to 16.
+pub fn payloads() -> [u8; 17]
+    ensures { λ r. ⌜ r ≡ payloads ⌝ }
+{
+    [
+        22,
+        22,
+        22,
+        22,
+        22,
+        170,
+        170,
+        170,
+        170,
+        170,
+        170,
+        170,
+        170,
+        170,
+        170,
+        170,
+        170,
+    ]
+}
+
 // The settings of `tape`: call `0`, name `PORT`, `prime` false, the rest of NetConfig::new.
 pub fn tape_settings() -> Given
     ensures { λ r. ⌜ r ≡ tapeSettings ⌝ }
@@ -43,6 +68,7 @@ pub fn tape_settings() -> Given
     let thresholds = ladder();
     let durations = [1.0f64; 4];
     let nobody = [32u8; 7];
+    let none = [0u8; 17];
     let name = [b'P', b'O', b'R', b'T', b' ', b' '];
     let g = Settings {
         turnaround: 0.3,
@@ -64,11 +90,17 @@ pub fn tape_settings() -> Given
         prime: false,
         lead: 0.0,
         latency: 0.0,
+        rooms: none,
+        payloads: none,
     };
     // 3010936384, the call `0`.
     let call = wire::calls::bytes_of(3010936384);
+    let times = [1.0f64; 1088];
+    let payloads = payloads();
     Given {
         settings: g,
         call: call,
+        times: times,
+        payloads: payloads,
     }
 }

@@ -60,6 +60,7 @@ having g w k =
       count = 3;
       members = set (newStation g 3 .members) 0 (withUp (newMember (65 ∷ 32 ∷ 32 ∷ 32 ∷ 32 ∷ 32 ∷ 32 ∷ []) 63 nought) w 0);
       recent = newStation g 3 .recent;
+      queues = newStation g 3 .queues;
       hears = newStation g 3 .hears;
       owners = set (replicate 64 0) 0 k;
       cells = set (replicate 64 emptyCell) 0 (record { joined = 2; offsets = replicate 16 0; lengths = replicate 16 0 });

@@ -16,7 +16,7 @@ use Rattle.rx.specs.Reception.{ncsRx}
 use Rattle.net.specs.declared.Station.{Station}
 use Rattle.config.specs.declared.Given.{Given}
 use Rattle.station.specs.Entries.{startRefusal}
-use Rattle.promise.specs.Promise.{TurnEvent, drew, over, poll, ack, struck, overIf, drewIf, lentTo, ofBurst, outcome, burstBy, Net, Call, admission, reception, decision, sending, closing, reading, freeing, charging, signing, asking, result, inBook, isRefused, step, after, started, LinksHold, burstsIn, turnEvents, trace, has, View, emptyView, begins, view, Spread, OneTurn, TurnsHold, Stays, Sent, Message, Book, emptyBook, Entered, unchanged, alsoHanded, same, answersOf, bookDone, bookCall, CallOk, AtCall, Once, Stayed, stayed, handedIn, alsoStayed, OnceInStay, CallsOk, Holds}
+use Rattle.promise.specs.Promise.{TurnEvent, drew, over, poll, ack, struck, overIf, drewIf, lentTo, ofBurst, outcome, burstBy, Net, Call, admission, reception, decision, sending, closing, reading, freeing, charging, signing, asking, result, inBook, isRefused, step, after, started, LinksHold, burstsIn, turnEvents, trace, has, View, emptyView, begins, view, Spread, OneTurn, TurnsHold, Stays, Sent, Message, Book, emptyBook, Entered, unchanged, alsoHanded, same, answersOf, bookDone, bookCall, CallOk, AtCall, Once, Stayed, stayed, handedIn, alsoStayed, OnceInStay, CallsOk, Holds, posting}
 use Rattle.promise.proofs.Item3.{item-3}
 
 -- ---- the calls
@@ -119,9 +119,10 @@ unfolding result
 none-result (admission packed relay now room) n f = (tt, tt)
 none-result (reception words snr now lent room numbers) n f =
     (tt, none-over (ofBurst (parse words) none (λ b. ncsRx (n .station) b snr now (lentTo lent (n .store)) .over)))
-none-result (decision now room) n f =
-    let d = ncsNext (n .station) now in
+none-result (decision now queue room) n f =
+    let d = ncsNext (n .station) now queue in
     (none-append (overIf (d .over)) (drewIf (d .drew)) (none-over (d .over)) (none-drew (d .drew)), tt)
+none-result (posting slot message queue) n f = (tt, tt)
 none-result (sending now) n f = (tt, tt)
 none-result (closing count) n f = (tt, tt)
 none-result (reading cell lent) n f = (tt, tt)
@@ -176,7 +177,8 @@ holds-before M count (c ∷ cs) n b h = (h .0, holds-before M count cs (step c n
 done-stay : (M : Sent) (c : Call) (n : Net) (b : Book) → ((slot : ℕ) → c ≡ signing slot → ⊥) → bookDone M (inBook c) (answersOf c n) b .left .stay ≡ b .stay
 done-stay M (admission packed relay now room) n b f = refl
 done-stay M (reception words snr now lent room numbers) n b f = refl
-done-stay M (decision now room) n b f = refl
+done-stay M (decision now queue room) n b f = refl
+done-stay M (posting slot message queue) n b f = refl
 done-stay M (sending now) n b f = refl
 done-stay M (closing count) n b f = refl
 done-stay M (reading cell lent) n b f = refl

@@ -27,7 +27,7 @@ use Rattle.roster.specs.Members.{newMember}
 use Rattle.level.specs.Consts.{nought}
 use Rattle.net.specs.declared.Station.{Station}
 use Rattle.net.specs.declared.Settings.{Settings}
-use Rattle.net.specs.State.{tableOf, withTable}
+use Rattle.net.specs.State.{tableOf, withTable, withWait, queueAt}
 use Rattle.net.specs.Net.{isMember, newStation, blankCall, onTxDone}
 use Rattle.net.proofs.Laws.{member-lt}
 use Rattle.admit.specs.Admission.{seatOf, isFull, viaFor}
@@ -35,19 +35,19 @@ use Rattle.next.specs.Next.{ncsNext}
 use Rattle.rx.specs.Reception.{Received, airOf, ncsRx}
 use Rattle.config.specs.declared.Given.{Given}
 use Rattle.config.specs.Checks.{settingsOk, settingsOf}
-use Rattle.station.specs.Entries.{Outcome, refused, done, unless, admitted, receivedAs, receiveOf, admitRefusal, admitOf, nextRefusal, nextOf, sentOf, check1, closeRefusal, closeOf, startRefusal, startOf, cellRefusal, check22, readRefusal, readingOf, freeOf}
+use Rattle.station.specs.Entries.{Outcome, refused, done, unless, admitted, receivedAs, receiveOf, admitRefusal, admitOf, nextRefusal, nextOf, sentOf, check1, closeRefusal, closeOf, startRefusal, startOf, cellRefusal, check22, readRefusal, readingOf, freeOf, receiveBy, receiveRefusal, postRefusal, postOf}
 use Rattle.signoff.specs.SignOff.{signOff}
 use Rattle.station.specs.SignOff.{signOffRefusal, signOffOf}
 use Rattle.station.specs.Worst.{worstOf, refusalIn}
 use Rattle.dues.specs.Dues.{duesRefusal}
-use Rattle.promise.specs.Promise.{Lent, lentTo, Net, net, ofBurst, InBook, Call, admission, reception, decision, sending, closing, reading, freeing, charging, signing, result, inBook, outcome, isRefused, step, started, Stays, Sent, sentNow, Message, Ledger, Book, emptyBook, same, alsoHanded, Entered, unchanged, bookFrames, framesBy, Event2, eventsIn, enter, enterAll, named, answersOf, bookEnds, bookDone, bookCall, FramesOk, CallOk, CallsOk, Once, Paired, ReadsAs, AtCall, Holds, Stayed, stayed, handedIn, alsoStayed, OnceInStay, Messages, handed, another, asking, LentOk}
+use Rattle.promise.specs.Promise.{Lent, lentTo, Net, net, ofBurst, InBook, Call, admission, reception, decision, sending, closing, reading, freeing, charging, signing, result, inBook, outcome, isRefused, step, started, Stays, Sent, sentNow, Message, Ledger, Book, emptyBook, same, alsoHanded, Entered, unchanged, bookFrames, framesBy, Event2, eventsIn, enter, enterAll, named, answersOf, bookEnds, bookDone, bookCall, FramesOk, CallOk, CallsOk, Once, Paired, ReadsAs, AtCall, Holds, Stayed, stayed, handedIn, alsoStayed, OnceInStay, Messages, handed, another, asking, LentOk, posting}
 use Rattle.promise.proofs.Outcomes.{refusedBy, receive-cases, lent-is}
 use Rattle.promise.proofs.Ledgers.{none-below, same-true}
 use Rattle.promise.proofs.Modest.{fresh-free}
 use Rattle.promise.proofs.Ties.{View, Use, Vacant, Comes, useOf, useAt, heldAt, FineAt, entryOf, Tie, not-vacant, not-whole, use-vacant}
 use Rattle.promise.proofs.Quiet.{windowIn, Keeps, kept-self, viewOf, kept-view}
 use Rattle.promise.proofs.QuietWalk.{uncelled, keeps}
-use Rattle.promise.proofs.WalkCalls.{all, admission-walk, decision-walk, sending-walk, closing-walk, step-walk}
+use Rattle.promise.proofs.WalkCalls.{all, admission-walk, decision-walk, sending-walk, closing-walk, step-walk, posting-walk}
 use Rattle.promise.proofs.Readings.{chain-count}
 use Rattle.promise.proofs.Events.{events-none}
 use Rattle.promise.proofs.Short.{short-admit, short-next}
@@ -176,7 +176,7 @@ quiet-unless : (m : ℕ) (s : Station) (store : List ℕ) (o : Outcome) → even
 quiet-unless m s store o h = cond-keeps (λ (x : Outcome). eventsIn (x .words) ≡ []) (eqb m 0) o (refused m s store) (λ _. h) (λ _. events-none)
 
 pub other-events : (c : Call) (n : Net) → NoEvents (inBook c) (answersOf c n .events)
-unfolding result admitOf nextOf sentOf closeOf freeOf signOffOf
+unfolding result admitOf nextOf postOf sentOf closeOf freeOf signOffOf
 other-events (admission packed relay now room) n =
     let s = n .station in
     let call = unpackCall packed in
@@ -184,7 +184,10 @@ other-events (admission packed relay now room) n =
     quiet-unless (admitRefusal room now (s .used) relay (isFull seat)) s [] (done _ [] (admitted s call relay now .words))
     (short-admit seat s call (viaFor s seat relay) now .quiet)
 other-events (reception words snr now lent room numbers) n = tt
-other-events (decision now room) n = quiet-unless (nextRefusal now room) (n .station) [] (done _ [] (ncsNext (n .station) now .words)) (short-next (n .station) now .quiet)
+other-events (decision now queue room) n =
+    quiet-unless (nextRefusal now (length queue) room) (n .station) [] (done _ [] (ncsNext (n .station) now queue .words)) (short-next queue (n .station) now .quiet)
+other-events (posting slot message queue) n =
+    quiet-unless (postRefusal (length queue) (n .station .used) slot (queueAt (n .station) slot) (length message)) (n .station) queue (done _ _ []) events-none
 other-events (sending now) n = quiet-unless (check1 now 0) (n .station) [] (done (onTxDone (n .station) now) [] []) events-none
 other-events (closing count) n = quiet-unless (closeRefusal count) (n .station) [] (done _ [] []) events-none
 other-events (reading cell lent) n =
@@ -202,8 +205,11 @@ KeepsOutcome s o = Keeps s (o .station)
 pub admission-kept : (s : Station) (packed : List ℕ) (relay : ℕ) (now : Float) (room : ℕ) → KeepsOutcome s (admitOf s packed relay now room)
 admission-kept s packed relay now room = keeps (admission-walk uncelled s packed relay now room)
 
-pub decision-kept : (s : Station) (now : Float) (room : ℕ) → KeepsOutcome s (nextOf s now room)
-decision-kept s now room = keeps (decision-walk uncelled tt s now room)
+pub decision-kept : (s : Station) (now : Float) (queue : List ℕ) (room : ℕ) → KeepsOutcome s (nextOf s now queue room)
+decision-kept s now queue room = keeps (decision-walk uncelled tt s now queue room)
+
+pub posting-kept : (s : Station) (slot : ℕ) (message queue : List ℕ) → KeepsOutcome s (postOf s slot message queue)
+posting-kept s slot message queue = keeps (posting-walk uncelled tt s slot message queue)
 
 pub sending-kept : (s : Station) (now : Float) → KeepsOutcome s (sentOf s now)
 sending-kept s now = keeps (sending-walk uncelled tt s now)
@@ -488,7 +494,7 @@ module _ (M : Sent) (small : (s k : ℕ) → M .watched s ≡ true → length (M
 
 call-count : (c : Call) (n : Net) → outcome c n .station .count ≡ n .station .count
 unfolding step
-call-count c n = chain-count (step-walk all tt tt c n (λ words snr now lent room numbers e. tt))
+call-count c n = chain-count (step-walk all tt tt tt c n (λ words snr now lent room numbers e. tt))
 
 -- ---- a sign-off
 
@@ -635,8 +641,12 @@ module _ (M : Stays) (small : (s t k : ℕ) → M .watched s t ≡ true → leng
       (quiet-call (sentNow M b) (admission packed relay now room) n b t (admission-kept (n .station) packed relay now room) refl refl (other-events (admission packed relay now room) n))
   call-good (reception words snr now lent room numbers) n b t ok =
       goes-on M (reception words snr now lent room numbers) n b (reception-good (sentNow M b) (small-now b) n b t numbers snr now words lent room ok)
-  call-good (decision now room) n b t ok =
-      goes-on M (decision now room) n b (quiet-call (sentNow M b) (decision now room) n b t (decision-kept (n .station) now room) refl refl (other-events (decision now room) n))
+  call-good (decision now queue room) n b t ok =
+      goes-on M (decision now queue room) n b
+      (quiet-call (sentNow M b) (decision now queue room) n b t (decision-kept (n .station) now queue room) refl refl (other-events (decision now queue room) n))
+  call-good (posting slot message queue) n b t ok =
+      goes-on M (posting slot message queue) n b
+      (quiet-call (sentNow M b) (posting slot message queue) n b t (posting-kept (n .station) slot message queue) refl refl (other-events (posting slot message queue) n))
   call-good (sending now) n b t ok =
       goes-on M (sending now) n b (quiet-call (sentNow M b) (sending now) n b t (sending-kept (n .station) now) refl refl (other-events (sending now) n))
   call-good (closing count) n b t ok =

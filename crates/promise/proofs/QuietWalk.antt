@@ -8,11 +8,11 @@ use Rattle.roster.specs.Members.{newMember}
 use Rattle.net.specs.declared.Station.{Station}
 use Rattle.net.specs.State.{indexOf, memberAt, tableOf}
 use Rattle.net.proofs.Laws.{index-is}
-use Rattle.promise.proofs.Walk.{Allowed, stays-up, over-keeps, Change, others, turned, over, hears, written, counted, promoted, moved, entered, piece, landed, freed, barred, signsOff, Chain, chain-keeps, readings}
+use Rattle.promise.proofs.Walk.{Allowed, stays-up, over-keeps, Change, others, turned, over, hears, written, counted, promoted, moved, entered, piece, landed, freed, barred, signsOff, Chain, chain-keeps, readings, queued, posted}
 use Rattle.promise.proofs.Quiet.{Kept, Keeps, kept-self, kept-same, kept-new}
 
 abbrev pub uncelled : Allowed
-uncelled = record { level = λ x. Unit {0}; turns = Unit {0}; cells = ⊥ }
+uncelled = record { level = λ x. Unit {0}; turns = Unit {0}; cells = ⊥; host = Unit {0} }
 
 change-kept : (s₀ s t : Station) → Change uncelled s t → Keeps s₀ s → Keeps s₀ t
 change-kept s₀ s t (others r n e m q) k = k
@@ -28,11 +28,13 @@ change-kept s₀ s t (readings i r l here) k = k
 change-kept s₀ s t (entered i call v now l free r) k =
     subst (λ (j : ℕ). Kept s₀ (tableOf s) (withBit (s .used) j) (set (s .members) j (newMember call v now))) (index-is i l)
     (kept-new s₀ (tableOf s) (s .used) (s .members) i (newMember call v now) l free refl k)
+change-kept s₀ s t (queued i q l here f) k = k
+change-kept s₀ s t (posted a i n l here e) k = k
 change-kept s₀ s t (piece a store slot field p m here f l d) k = absurd a
 change-kept s₀ s t (landed a store slot field p m here f l d) k = absurd a
 change-kept s₀ s t (freed a cell) k = absurd a
 change-kept s₀ s t (barred a store slot field p here b) k = absurd a
-change-kept s₀ s t (signsOff a b slot here) k = absurd b
+change-kept s₀ s t (signsOff a b c slot here) k = absurd b
 
 pub keeps : {s t : Station} → Chain uncelled s t → Keeps s t
 keeps {s} c = chain-keeps (Keeps s) (change-kept s) c (kept-self s)

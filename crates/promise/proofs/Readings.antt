@@ -35,7 +35,7 @@ use Rattle.promise.proofs.Pieces.{alsoOne, windowsAfter, viewAfter, win
 use Rattle.promise.proofs.Quiet.{windowIn, windowAt, Keeps, kept-self, viewOf, view-is, kept-view}
 use Rattle.promise.proofs.Events.{events-none, relayed-word, message-word}
 use Rattle.promise.proofs.Signs.{sign-beside, cleared}
-use Rattle.promise.proofs.Walk.{Change, others, turned, over, hears, written, counted, promoted, moved, entered, piece, landed, freed, barred, signsOff, Chain, chain-keeps}
+use Rattle.promise.proofs.Walk.{Change, others, turned, over, hears, written, counted, promoted, moved, entered, piece, landed, freed, barred, signsOff, Chain, chain-keeps, queued, posted}
 use Rattle.promise.proofs.Walk as walk
 use Rattle.promise.proofs.WalkCalls.{all}
 use Rattle.promise.proofs.QuietRx.{Untouched, untouched, control-untouched}
@@ -231,11 +231,13 @@ count-kept n s t (promoted i snr l here d) h = h
 count-kept n s t (moved c r l here there able z) h = h
 count-kept n s t (walk.readings i r l here) h = h
 count-kept n s t (entered i call v now l free r) h = h
+count-kept n s t (queued i q l here f) h = h
+count-kept n s t (posted a i m l here e) h = h
 count-kept n s t (piece a store slot field p m here f l d) h = accept-count (tableOf s) (memberAt s slot .up) store slot field p ∙ h
 count-kept n s t (landed a store slot field p m here f l d) h = accept-count (tableOf s) (memberAt s slot .up) store slot field p ∙ h
 count-kept n s t (freed a cell) h = h
 count-kept n s t (barred a store slot field p here b) h = accept-count (tableOf s) (memberAt s slot .up) store slot field p ∙ h
-count-kept n s t (signsOff a b slot here) h = ap (λ (x : Table). x .count) (sign-beside s slot .table) ∙ cleared slot (tableOf s) .count ∙ h
+count-kept n s t (signsOff a b c slot here) h = ap (λ (x : Table). x .count) (sign-beside s slot .table) ∙ cleared slot (tableOf s) .count ∙ h
 
 pub chain-count : {s t : Station} → Chain all s t → t .count ≡ s .count
 chain-count {s} c = chain-keeps (λ (t : Station). t .count ≡ s .count) (count-kept (s .count)) c refl

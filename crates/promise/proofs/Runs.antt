@@ -30,10 +30,11 @@ use Rattle.frames.specs.Frames.{readFrame, frameStep, readFrames}
 use Rattle.rx.specs.Ending.{replyEnd}
 use Rattle.rx.specs.Reception.{ncsRx}
 use Rattle.config.specs.declared.Given.{Given}
-use Rattle.config.specs.Checks.{settingsOk, settingsOf, thresholdsOk}
+use Rattle.config.specs.Checks.{settingsOk, settingsOf, thresholdsOk, payloadsOk}
 use Rattle.station.specs.Entries.{unless, done, startRefusal, startOf, admitRefusal, admitOf, receiveRefusal, receiveOf, nextRefusal, nextOf, cellRefusal, readRefusal, readingOf, freeOf}
 use Rattle.promise.specs.Promise.{handed, Net, net, Call, admission, reception, decision, reading, freeing, result, outcome, step, after, started, Stays, emptyBook, cover, alsoHanded, allBelow, bookFrame, bookFrames, eventsIn, answersOf, CallsOk, handedIn, Messages}
 use Rattle.promise.proofs.Item3.{item-3}
+use Rattle.config.proofs.Laws.{data-alike}
 
 -- ---- a start
 
@@ -45,13 +46,15 @@ nought = fin false 0 (pos 0)
 abbrev pub plain : Given
 plain =
     record {
-      settings = record { turnaround = nought; maxburst = nought; replyslack = nought; detect = nought; beaconevery = nought; quickbeacon = nought; idleroundgap = nought; durations = replicate 4 nought; thresholds = replicate 17 nought; margin = nought; relaysnr = nought; misslimit = 1; beaconlevel = 0; windowslots = 0; call = replicate 7 32; name = replicate 6 32; prime = false; lead = nought; latency = nought };
+      settings = record { turnaround = nought; maxburst = nought; replyslack = nought; detect = nought; beaconevery = nought; quickbeacon = nought; idleroundgap = nought; durations = replicate 4 nought; thresholds = replicate 17 nought; margin = nought; relaysnr = nought; misslimit = 1; beaconlevel = 0; windowslots = 0; call = replicate 7 32; name = replicate 6 32; prime = false; lead = nought; latency = nought; rooms = replicate 17 1; payloads = replicate 17 1 };
       call = replicate 5 0;
+      times = replicate 1088 nought;
+      payloads = replicate 17 1;
     }
 
 pub plain-starts : startRefusal plain 6400 ≡ 0
-unfolding startRefusal settingsOk thresholdsOk every
-plain-starts = refl
+unfolding startRefusal settingsOk thresholdsOk payloadsOk every
+plain-starts = rw (data-alike nought refl)
 
 -- one cell
 abbrev bytes : List ℕ
@@ -89,7 +92,7 @@ hi = hears (heard 0 0 (framed (104 ∷ 105 ∷ [])) ∷ []) (0 ∷ [])
 
 -- no room for output
 abbrev pub refused : Call
-refused = decision nought 0
+refused = decision nought [] 0
 
 abbrev pub hi-calls : List Call
 hi-calls = joins ∷ hi ∷ refused ∷ reading 0 handed ∷ freeing 0 ∷ reading 0 handed ∷ []

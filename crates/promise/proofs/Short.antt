@@ -1,12 +1,12 @@
 -- How many words an admission and a next decision return at most, whatever the station is, and that none of them is an event 2. Assumes nothing.
 use mathlib.Core.Path.{_≡_, refl, _∙_}
-use Prim.Native.Nat.{ℕ, zero, suc, _+_, _*_, _/_, _≤_}
+use Prim.Native.Nat.{ℕ, zero, suc, _+_, _-_, _*_, _/_, _%_, _≤_}
 use native.Mathlib.Omega.{arith}
 use mathlib.Core.Bool.{Bool, true, false, not, cond, _&&_, _||_}
 use mathlib.Core.List.{List, [], _∷_, _++_}
 use lib.Dec.{eqb, ltb}
 use lib.Ieee.{Float, lt}
-use lib.ListN.{length, take, drop, length-append, length-drop}
+use lib.ListN.{length, take, drop, getD, length-append, length-drop}
 use Rattle.bits.specs.Loop.{fold}
 use Rattle.bits.proofs.Lists.{cond-keeps}
 use Rattle.bits.specs.Mask.{hasBit, lowestBit}
@@ -14,7 +14,7 @@ use Rattle.bits.specs.declared.Found.{Found}
 use Rattle.bits.specs.declared.Found.the-variants as found
 use Rattle.level.specs.declared.Level.{Level}
 use Rattle.level.specs.declared.Level.the-variants.{Unheard, Decibels}
-use Rattle.wire.specs.Kinds.{kClose, cAcks, cTree, cRxlist}
+use Rattle.wire.specs.Kinds.{tDown, kClose, cAcks, cTree, cRxlist}
 use Rattle.out.specs.Encode.{eventWord, missedWord, headWord, waveWord, word12, pack, frameWords, ctrlWords, chunksOf, chunkSize, chunkWords}
 use Rattle.out.proofs.Pack.{length-pack, length-take-most}
 use Rattle.roster.specs.declared.Member.{Member}
@@ -22,12 +22,12 @@ use Rattle.roster.specs.Relays.{promotableAt}
 use Rattle.net.specs.declared.Station.{Station}
 use Rattle.net.specs.declared.Settings.{Settings}
 use Rattle.net.specs.declared.Reply.{Reply}
-use Rattle.net.specs.State.{memberAt, withWait, withRound, withRxsent}
+use Rattle.net.specs.State.{memberAt, withWait, withRound, withRxsent, queueAt}
 use Rattle.net.specs.Net.{isMember, idleWait, Said, said}
 use Rattle.admit.specs.declared.Seat.{Seat}
 use Rattle.admit.specs.declared.Seat.the-variants.{Known, Free, Full}
 use Rattle.admit.specs.Admission.{admitBy}
-use Rattle.bursts.specs.Rows.{seated, ackAt, ackRow, ackRows, treeAt, treeRow, treeRows, listAt, listRow, listRows, leastReach, leastDirect}
+use Rattle.bursts.specs.Rows.{seated, ackAt, ackRow, ackRows, treeAt, treeRow, treeRows, listAt, listRow, listRows, leastReach, leastDirect, reachLevel}
 use Rattle.bursts.specs.Bursts.{headWords, tinyWords, pollBurst, acked, movedIn, ackedOrMoved, acksBurst, namePayload, beaconPayload, beaconRows, beaconAcks, beaconOf, listSent, rxListBurst, acksLevel}
 use Rattle.bursts.specs.Reroute.{floorOf, promoteWith, promoteAt, promoteAll, leavesOf, newRelay, mustMove, moveAt, moveAll, rerouteOf}
 use Rattle.bursts.proofs.Filling.{rows-most}
@@ -36,9 +36,15 @@ use Rattle.next.specs.declared.Due.{Due}
 use Rattle.next.specs.declared.Due.the-variants as due
 use Rattle.next.specs.declared.Act.{Act}
 use Rattle.next.specs.declared.Act.the-variants as act
-use Rattle.next.specs.Next.{Decision, pollBy, pollStage, drawn, drawStage, rerouteStage, listStage, roundEnd, hurried, actOf, actBy, windowStage, closeStage, againStage, turnOverIn, missedIn, missedStage, dueOf, byDue, ncsNext}
+use Rattle.next.specs.Next.{Decision, pollBy, directedBy, wordBy, pollStage, drawn, drawStage, rerouteStage, listStage, roundEnd, hurried, actOf, actBy, windowStage, closeStage, againStage, turnOverIn, missedIn, missedStage, dueOf, byDue, ncsNext}
 use Rattle.promise.specs.Promise.{eventsIn}
 use Rattle.promise.proofs.Events.{events-none, event-other, append-quiet}
+use Rattle.words.specs.Words.{least}
+use Rattle.queue.specs.declared.Queue.{Queue}
+use Rattle.queue.specs.Queues.{firstOf, bytesFrom}
+use Rattle.queue.proofs.Laws.{length-bytes}
+use Rattle.bursts.specs.Direct.{roomAt, payloadAt, downFrames, downBurst, directBurst}
+use Rattle.bursts.proofs.Directing.{least-le, least-fst}
 
 -- n words at most, and no event 2 among them
 pub record Short (n : ℕ) (ws : List ℕ) : Type 0 where
@@ -141,6 +147,25 @@ short-list s =
     (short-less (omega arith) (short-rows cRxlist 21 9 (listRows s) (omega arith) (omega (arith, rows-most (listAt s) (listRow s) 3 (λ i. refl) [])))))
     (λ _. short-none burstRoom)
 
+-- word back: 64 frames at most of 255 bytes each
+short-downs : (k : ℕ) (queue : List ℕ) (slot max last o : ℕ) → max ≤ 255 → Short (k * 87) (downFrames k queue slot max last o)
+unfolding downFrames
+short-downs zero queue slot max last o h = short-none 0
+short-downs (suc k) queue slot max last o h =
+    cond-keeps (Short (suc k * 87)) (ltb o last) _ []
+    (λ _. short-less (omega arith)
+    (short-both
+    (short-frame (64 * tDown + slot % 64) (o % 16777216) (bytesFrom queue slot o (least max (last - o))) (omega (arith, length-bytes queue slot o (least max (last - o)), least-fst max (last - o))))
+    (short-downs k queue slot max last (o + max) h)))
+    (λ _. short-none (suc k * 87))
+
+short-down : (g : Settings) (queue : List ℕ) (slot : ℕ) (q : Queue) (level : ℕ) → Short burstRoom (downBurst g queue slot q level)
+unfolding downBurst
+short-down g queue slot q level =
+    short-burst level 0 0 level (downFrames (roomAt g level) queue slot (payloadAt g level) (q .posted) (firstOf q))
+    (short-less (omega (arith, least-le (getD (g .rooms) level 0) 64))
+    (short-downs (roomAt g level) queue slot (payloadAt g level) (q .posted) (firstOf q) (least-le (getD (g .payloads) level 0) 255)))
+
 -- ---- events
 
 short-one : (w : ℕ) → (w / 268435456 ≡ 2 → ⊥) → Short 1 (w ∷ [])
@@ -199,67 +224,73 @@ poll-by : (f : Found) (s : Station) → ShortNext burstRoom (pollBy f s)
 poll-by found.Nothing s = short-none burstRoom
 poll-by (found.At slot) s = short-poll (s .settings) (isMember (s .used) slot) (memberAt s slot) slot _ false
 
-poll-stage : (s : Station) → ShortNext burstRoom (pollStage s)
-unfolding pollStage
-poll-stage s = poll-by (lowestBit (s .round .list)) s
+module _ (queue : List ℕ) where
+  word-by : (f : Found) (s : Station) → ShortNext burstRoom (wordBy f s queue)
+  unfolding directBurst
+  word-by found.Nothing s = poll-by (lowestBit (s .round .list)) s
+  word-by (found.At slot) s = short-down (s .settings) queue slot (queueAt s slot) (reachLevel s slot)
 
-draw-stage : (s : Station) (now : Float) → ShortNext burstRoom (drawStage s now)
-unfolding drawStage
-draw-stage s now = poll-stage (drawn s now)
+  poll-stage : (s : Station) → ShortNext burstRoom (pollStage s queue)
+  unfolding pollStage
+  poll-stage s = word-by (directedBy (lowestBit (s .round .list)) s) s
 
-reroute-stage : (s : Station) (now : Float) → ShortNext routeRoom (rerouteStage s now)
-unfolding rerouteStage
-reroute-stage s now =
-    let u = rerouteOf s .station in
-    cond-keeps (ShortNext routeRoom) (not (s .round .traffic) && ltb 0 (s .round .number) && lt now (s .round .nextround)) _ _
-    (λ _. short-none routeRoom)
-    (λ _. short-both (short-reroute s)
-    (cond-keeps (ShortNext burstRoom) (eqb (u .round .treenews) 0) _ _ (λ _. draw-stage u now) (λ _. short-acks u)))
+  draw-stage : (s : Station) (now : Float) → ShortNext burstRoom (drawStage s now queue)
+  unfolding drawStage
+  draw-stage s now = poll-stage (drawn s now)
 
-list-stage : (s : Station) (now : Float) → ShortNext routeRoom (listStage s now)
-list-stage s now =
-    cond-keeps (ShortNext routeRoom) (listSent s) _ _ (λ _. short-less (omega arith) (short-list s)) (λ _. reroute-stage (rxListBurst s .station) now)
+  reroute-stage : (s : Station) (now : Float) → ShortNext routeRoom (rerouteStage s now queue)
+  unfolding rerouteStage
+  reroute-stage s now =
+      let u = rerouteOf s .station in
+      cond-keeps (ShortNext routeRoom) (not (s .round .traffic) && ltb 0 (s .round .number) && lt now (s .round .nextround)) _ _
+      (λ _. short-none routeRoom)
+      (λ _. short-both (short-reroute s)
+      (cond-keeps (ShortNext burstRoom) (eqb (u .round .treenews) 0) _ _ (λ _. draw-stage u now) (λ _. short-acks u)))
 
-round-end : (s : Station) (now : Float) → ShortNext routeRoom (roundEnd s now)
-unfolding roundEnd
-round-end s now =
-    cond-keeps (ShortNext routeRoom) (eqb (s .round .number) 0 || eqb (s .round .rxsent) (s .round .number)) _ _
-    (λ _. reroute-stage s now) (λ _. list-stage (withRound s (withRxsent (s .round) (s .round .number))) now)
+  list-stage : (s : Station) (now : Float) → ShortNext routeRoom (listStage s now queue)
+  list-stage s now =
+      cond-keeps (ShortNext routeRoom) (listSent s) _ _ (λ _. short-less (omega arith) (short-list s)) (λ _. reroute-stage (rxListBurst s .station) now)
 
-act-by : (a : Act) (s : Station) (now : Float) → ShortNext routeRoom (actBy a s now)
-act-by act.Wait s now = short-none routeRoom
-act-by act.Beacon s now = short-less (omega arith) (short-beacon s now)
-act-by act.Acks s now = short-less (omega arith) (short-acks s)
-act-by act.Draw s now = round-end s now
-act-by act.Poll s now = short-less (omega arith) (poll-stage s)
+  round-end : (s : Station) (now : Float) → ShortNext routeRoom (roundEnd s now queue)
+  unfolding roundEnd
+  round-end s now =
+      cond-keeps (ShortNext routeRoom) (eqb (s .round .number) 0 || eqb (s .round .rxsent) (s .round .number)) _ _
+      (λ _. reroute-stage s now) (λ _. list-stage (withRound s (withRxsent (s .round) (s .round .number))) now)
 
-window-stage : (s : Station) (now : Float) → ShortNext routeRoom (windowStage s now)
-unfolding windowStage
-window-stage s now =
-    let t = hurried s now in
-    cond-keeps (ShortNext routeRoom) (lt now (s .round .windowend)) _ _ (λ _. short-none routeRoom) (λ _. act-by (actOf (t .round) (t .used) now) t now)
+  act-by : (a : Act) (s : Station) (now : Float) → ShortNext routeRoom (actBy a s now queue)
+  act-by act.Wait s now = short-none routeRoom
+  act-by act.Beacon s now = short-less (omega arith) (short-beacon s now)
+  act-by act.Acks s now = short-less (omega arith) (short-acks s)
+  act-by act.Draw s now = round-end s now
+  act-by act.Poll s now = short-less (omega arith) (poll-stage s)
 
-close-stage : (s : Station) (now : Float) → ShortNext burstRoom (closeStage s now)
-unfolding closeStage
-close-stage s now = cond-keeps (ShortNext burstRoom) (eqb (s .round .closeleft) 0) _ _ (λ _. short-none burstRoom) (λ _. short-tiny kClose 0 (s .settings .beaconlevel))
+  window-stage : (s : Station) (now : Float) → ShortNext routeRoom (windowStage s now queue)
+  unfolding windowStage
+  window-stage s now =
+      let t = hurried s now in
+      cond-keeps (ShortNext routeRoom) (lt now (s .round .windowend)) _ _ (λ _. short-none routeRoom) (λ _. act-by (actOf (t .round) (t .used) now) t now)
 
-again-stage : (r : Reply) (s : Station) → ShortNext burstRoom (againStage r s)
-unfolding againStage
-again-stage r s = short-poll (s .settings) (isMember (s .used) (r .slot)) (memberAt s (r .slot)) (r .slot) (r .relayfor) true
+  close-stage : (s : Station) (now : Float) → ShortNext burstRoom (closeStage s now)
+  unfolding closeStage
+  close-stage s now = cond-keeps (ShortNext burstRoom) (eqb (s .round .closeleft) 0) _ _ (λ _. short-none burstRoom) (λ _. short-tiny kClose 0 (s .settings .beaconlevel))
 
-missed-stage : (r : Reply) (s : Station) (now : Float) → ShortNext nextRoom (missedStage r s now)
-unfolding missedStage
-missed-stage r s now =
-    short-both (short-if (isMember (s .used) (r .slot)) (short-one (missedWord (r .slot)) (λ e. omega arith)) (short-none 1))
-    (window-stage (turnOverIn (missedIn (withWait s idleWait) (r .slot)) (r .slot) (r .relayfor)) now)
+  again-stage : (r : Reply) (s : Station) → ShortNext burstRoom (againStage r s)
+  unfolding againStage
+  again-stage r s = short-poll (s .settings) (isMember (s .used) (r .slot)) (memberAt s (r .slot)) (r .slot) (r .relayfor) true
 
-by-due : (d : Due) (s : Station) (now : Float) → ShortNext nextRoom (byDue d s now)
-by-due due.Free s now = short-less (omega arith) (window-stage s now)
-by-due due.Quiet s now = short-none nextRoom
-by-due due.Close s now = short-less (omega arith) (close-stage s now)
-by-due (due.Again r) s now = short-less (omega arith) (again-stage r s)
-by-due (due.Missed r) s now = missed-stage r s now
+  missed-stage : (r : Reply) (s : Station) (now : Float) → ShortNext nextRoom (missedStage r s now queue)
+  unfolding missedStage
+  missed-stage r s now =
+      short-both (short-if (isMember (s .used) (r .slot)) (short-one (missedWord (r .slot)) (λ e. omega arith)) (short-none 1))
+      (window-stage (turnOverIn (missedIn (withWait s idleWait) (r .slot)) (r .slot) (r .relayfor)) now)
 
-pub short-next : (s : Station) (now : Float) → Short nextRoom (ncsNext s now .words)
-unfolding ncsNext
-short-next s now = by-due (dueOf (s .wait) (s .round .closed) now) s now
+  by-due : (d : Due) (s : Station) (now : Float) → ShortNext nextRoom (byDue d s now queue)
+  by-due due.Free s now = short-less (omega arith) (window-stage s now)
+  by-due due.Quiet s now = short-none nextRoom
+  by-due due.Close s now = short-less (omega arith) (close-stage s now)
+  by-due (due.Again r) s now = short-less (omega arith) (again-stage r s)
+  by-due (due.Missed r) s now = missed-stage r s now
+
+  pub short-next : (s : Station) (now : Float) → Short nextRoom (ncsNext s now queue .words)
+  unfolding ncsNext
+  short-next s now = by-due (dueOf (s .wait) (s .round .closed) now) s now

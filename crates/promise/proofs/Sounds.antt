@@ -25,7 +25,7 @@ use Rattle.frames.specs.Frames.{frameStep, readFrames}
 use Rattle.rx.specs.Reception.{Received, airOf, ncsRx}
 use Rattle.config.specs.declared.Given.{Given}
 use Rattle.station.specs.Entries.{Outcome, receiveOf, startRefusal, cellRefusal, freeOf}
-use Rattle.promise.specs.Promise.{Lent, lentTo, Net, net, Call, admission, reception, decision, sending, closing, reading, freeing, charging, signing, result, outcome, isRefused, step, after, started, framesBy, asking}
+use Rattle.promise.specs.Promise.{Lent, lentTo, Net, net, Call, admission, reception, decision, sending, closing, reading, freeing, charging, signing, result, outcome, isRefused, step, after, started, framesBy, asking, posting}
 use Rattle.signoff.specs.SignOff.{signOff}
 use Rattle.station.specs.SignOff.{signOffRefusal, signOffOf}
 use Rattle.net.proofs.Laws.{member-lt}
@@ -34,7 +34,7 @@ use Rattle.promise.proofs.SignTies.{window-gone, window-still}
 use Rattle.promise.proofs.Fits.{FitView, piece-fit, barred-fit}
 use Rattle.promise.proofs.Quiet.{windowAt, Keeps, viewOf, kept-view}
 use Rattle.promise.proofs.WalkFrames.{viewIn, FrameRead, other, unkept, barred, piece, step-reads, firstIn, rx-end}
-use Rattle.promise.proofs.Messages.{started-tied, admission-kept, decision-kept, sending-kept, closing-kept, reading-kept, charging-kept, asking-kept, same-cond}
+use Rattle.promise.proofs.Messages.{started-tied, admission-kept, decision-kept, sending-kept, closing-kept, reading-kept, charging-kept, asking-kept, same-cond, posting-kept}
 use Rattle.promise.proofs.Outcomes.{refusedBy, receive-cases}
 
 pub record Fit (n : Net) : Type 0 where
@@ -167,7 +167,8 @@ unfolding result
 step-fit (admission packed relay now room) n f =
     quiet-fit (admission packed relay now room) n f (admission-kept (n .station) packed relay now room) refl
 step-fit (reception words snr now lent room numbers) n f = reception-fit words snr now lent room numbers n f
-step-fit (decision now room) n f = quiet-fit (decision now room) n f (decision-kept (n .station) now room) refl
+step-fit (decision now queue room) n f = quiet-fit (decision now queue room) n f (decision-kept (n .station) now queue room) refl
+step-fit (posting slot message queue) n f = quiet-fit (posting slot message queue) n f (posting-kept (n .station) slot message queue) refl
 step-fit (sending now) n f = quiet-fit (sending now) n f (sending-kept (n .station) now) refl
 step-fit (closing count) n f = quiet-fit (closing count) n f (closing-kept (n .station) count) refl
 step-fit (reading cell lent) n f = quiet-fit (reading cell lent) n f (reading-kept cell lent n) refl

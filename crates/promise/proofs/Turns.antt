@@ -1,6 +1,6 @@
 -- Item 3 of document 01, lists and turns: every call is accepted by the monitor, so the promise holds of every list of calls. Assumes nothing.
 use mathlib.Core.Path.{_≡_, refl, sym, ap, _∙_, subst}
-use Prim.Native.Nat.{ℕ, _/_}
+use Prim.Native.Nat.{ℕ, _/_, _+_}
 use mathlib.Core.Bool.{Bool, true, false, cond}
 use mathlib.Core.List.{List, [], _∷_, _++_, append-assoc, append-nil}
 use mathlib.Core.Option.{none}
@@ -20,18 +20,18 @@ use Rattle.net.specs.declared.Turn.{Turn}
 use Rattle.net.specs.declared.Turn.the-variants.{Idle, Sending, Waiting}
 use Rattle.net.specs.declared.Wait.{Wait}
 use Rattle.net.specs.declared.Round.{Round}
-use Rattle.net.specs.State.{withRound, withClosing, withTable, tableOf}
+use Rattle.net.specs.State.{withRound, withClosing, withTable, tableOf, queueAt, withQueue}
 use Rattle.net.specs.Net.{newStation, idleWait, waitOf, doneBy, onTxDone}
 use Rattle.roster.specs.declared.Member.{Member}
 use Rattle.admit.specs.Admission.{seatOf, isFull, viaFor}
 use Rattle.next.specs.Next.{ncsNext}
 use Rattle.rx.specs.Reception.{ncsRx}
-use Rattle.station.specs.Entries.{Outcome, refused, done, unless, startRefusal, startOf, admitted, admitOf, receiveBy, receiveRefusal, receiveOf, nextOf, sentOf, closeOf, freeOf, readRefusal, check1, admitRefusal, nextRefusal, closeRefusal, cellRefusal}
+use Rattle.station.specs.Entries.{Outcome, refused, done, unless, startRefusal, startOf, admitted, admitOf, receiveBy, receiveRefusal, receiveOf, nextOf, sentOf, closeOf, freeOf, readRefusal, check1, admitRefusal, nextRefusal, closeRefusal, cellRefusal, postRefusal, postOf}
 use Rattle.signoff.specs.SignOff.{noSource, strikeBy, signOff}
 use Rattle.station.specs.SignOff.{signOffRefusal, signOffOf}
 use Rattle.station.specs.Worst.{worstOf, refusalIn}
 use Rattle.dues.specs.Dues.{duesRefusal}
-use Rattle.promise.specs.Promise.{lentTo, Net, ofBurst, Call, admission, reception, decision, sending, closing, reading, freeing, charging, signing, result, outcome, step, after, started, TurnEvent, struck, overIf, drewIf, burstsIn, turnEvents, trace, emptyView, TurnsHold, asking}
+use Rattle.promise.specs.Promise.{lentTo, Net, ofBurst, Call, admission, reception, decision, sending, closing, reading, freeing, charging, signing, result, outcome, step, after, started, TurnEvent, struck, overIf, drewIf, burstsIn, turnEvents, trace, emptyView, TurnsHold, asking, posting}
 use Rattle.promise.specs.Waits.{awaited, TurnsMatch}
 use Rattle.promise.proofs.Monitor.{Run, rest, turn, runWithout, Acc, slots, accepted, ends-in}
 use Rattle.promise.proofs.TurnsWords.{Quiet, quiet-none}
@@ -40,6 +40,7 @@ use Rattle.promise.proofs.Signs.{sign-beside}
 use Rattle.promise.proofs.TurnsKeeps.{admit-calm}
 use Rattle.promise.proofs.TurnsNext.{Rel, Fine, fine-none, fine-next}
 use Rattle.promise.proofs.TurnsRx as rx
+use Rattle.queue.specs.Queues.{postedTo}
 
 -- ### Refused or not
 
@@ -117,13 +118,19 @@ module _ (r : Run) (n : Net) (e : Rel r (n .station .wait .turn)) (l : Low (n .s
   unfolding receiveOf
   fine-receive words snr now store room = receive-by (parse words) (receiveRefusal room (length store) (s .count) now snr (parse words)) snr now store
 
-  fine-decide : (now : Float) (room : ℕ)
-      → Fine left r (nextOf s now room .station) (said (nextOf s now room) (overIf (ncsNext s now .over) ++ drewIf (ncsNext s now .drew)) [])
+  fine-decide : (now : Float) (queue : List ℕ) (room : ℕ)
+      → Fine left r (nextOf s now queue room .station) (said (nextOf s now queue room) (overIf (ncsNext s now queue .over) ++ drewIf (ncsNext s now queue .drew)) [])
   unfolding nextOf
-  fine-decide now room =
-      let d = ncsNext s now in
-      fine-unless left r (nextRefusal now room) s [] (done (d .station) [] (d .words)) (overIf (d .over) ++ drewIf (d .drew)) []
-      (subst (λ (es : List TurnEvent). Fine left r (d .station) es) (regroup (overIf (d .over)) (drewIf (d .drew)) (burstsIn (d .words))) (fine-next s now r e l)) same
+  fine-decide now queue room =
+      let d = ncsNext s now queue in
+      fine-unless left r (nextRefusal now (length queue) room) s [] (done (d .station) [] (d .words)) (overIf (d .over) ++ drewIf (d .drew)) []
+      (subst (λ (es : List TurnEvent). Fine left r (d .station) es) (regroup (overIf (d .over)) (drewIf (d .drew)) (burstsIn (d .words))) (fine-next queue s now r e l)) same
+
+  fine-posting : (slot : ℕ) (message queue : List ℕ) → Fine left r (postOf s slot message queue .station) (said (postOf s slot message queue) [] [])
+  unfolding postOf
+  fine-posting slot message queue =
+      let t = withQueue s slot (postedTo (queueAt s slot) (length message + 2)) in
+      fine-quiet left r (postRefusal (length queue) (s .used) slot (queueAt s slot) (length message)) s t queue _ [] quiet-none (fine-none r t e l) same
 
   fine-sending : (now : Float) → Fine left r (sentOf s now .station) (said (sentOf s now) [] [])
   unfolding sentOf onTxDone
@@ -165,7 +172,8 @@ module _ (r : Run) (n : Net) (e : Rel r (n .station .wait .turn)) (l : Low (n .s
   unfolding result turnEvents
   fine-call (admission packed relay now room) = fine-admit packed relay now room
   fine-call (reception words snr now lent room numbers) = fine-receive words snr now (lentTo lent (n .store)) room
-  fine-call (decision now room) = fine-decide now room
+  fine-call (decision now queue room) = fine-decide now queue room
+  fine-call (posting slot message queue) = fine-posting slot message queue
   fine-call (sending now) = fine-sending now
   fine-call (closing count) = fine-closing count
   fine-call (reading cell lent) = fine-reading (readRefusal (length (lentTo lent (n .store))) (s .count) (s .landed) cell) (n .store)

@@ -14,7 +14,7 @@ use Rattle.frames.specs.declared.Air.{Air}
 use Rattle.frames.specs.Reading.{Reading}
 use Rattle.frames.specs.Frames.{readFrames}
 use Rattle.promise.proofs.TurnsWords.{Mute, mute-none, mute-both, mute-event, mute-message, mute-missed}
-use Rattle.promise.proofs.Walk.{Allowed, Change, others, turned, over, hears, written, counted, promoted, moved, entered, piece, landed, freed, barred, signsOff, Chain, start, chain-keeps, readings}
+use Rattle.promise.proofs.Walk.{Allowed, Change, others, turned, over, hears, written, counted, promoted, moved, entered, piece, landed, freed, barred, signsOff, Chain, start, chain-keeps, readings, queued, posted}
 use Rattle.promise.proofs.WalkNext.{reroute-walk}
 use Rattle.promise.proofs.WalkRx.{frames-walk}
 use Rattle.promise.proofs.WalkWords.{Words, reroute-words, admit-words, frames-words}
@@ -32,7 +32,7 @@ calm-start s = record { wait = refl; list = refl; settings = refl; quiet = mute-
 -- ### The changes
 
 abbrev untimed : Allowed
-untimed = record { level = λ x. Unit {0}; turns = ⊥; cells = Unit {0} }
+untimed = record { level = λ x. Unit {0}; turns = ⊥; cells = Unit {0}; host = Unit {0} }
 
 abbrev Still : Station → Station → Type 0
 Still s t = (t .wait ≡ s .wait) × (t .round .list ≡ s .round .list) × (t .settings ≡ s .settings)
@@ -48,11 +48,13 @@ change-still s₀ s t (promoted i snr l here d) h = h
 change-still s₀ s t (moved c r l here there able n) h = h
 change-still s₀ s t (readings i r l here) h = h
 change-still s₀ s t (entered i call v now l free r) h = h
+change-still s₀ s t (queued i q l here f) h = h
+change-still s₀ s t (posted a i n l here e) h = h
 change-still s₀ s t (piece a store slot field p m here f l d) h = h
 change-still s₀ s t (landed a store slot field p m here f l d) h = h
 change-still s₀ s t (freed a cell) h = h
 change-still s₀ s t (barred a store slot field p here b) h = h
-change-still s₀ s t (signsOff a b slot here) h = absurd a
+change-still s₀ s t (signsOff a b c slot here) h = absurd a
 
 -- after a calm beginning
 calm-by : (s t : Station) (ws vs : List ℕ) → Calm s (said t ws) → (u : Station) → Chain untimed t u → Mute vs → Calm s (said u vs)

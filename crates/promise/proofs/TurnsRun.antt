@@ -27,6 +27,8 @@ use Rattle.rx.specs.Ending.{replyEnd}
 use Rattle.rx.specs.Reception.{ncsRx}
 use Rattle.station.specs.Entries.{admitRefusal, admitOf, receiveRefusal, receiveOf, nextRefusal, nextOf, sentOf}
 use Rattle.promise.specs.Promise.{handed, net, Call, admission, reception, decision, sending, result, step, drew, over, poll, ack, burstsIn, turnEvents, trace}
+use Rattle.queue.specs.Queues.{isDue}
+use Rattle.bursts.specs.Direct.{directedTo}
 
 abbrev nil : Float
 nil = fin false 0 (pos 0)
@@ -37,10 +39,10 @@ far = fin false 1000 (pos 0)
 -- every time 0 but the beacon's
 abbrev pub settings : Settings
 settings =
-    record { turnaround = nil; maxburst = nil; replyslack = nil; detect = nil; beaconevery = far; quickbeacon = far; idleroundgap = nil; durations = replicate 4 nil; thresholds = replicate 17 nil; margin = nil; relaysnr = nil; misslimit = 3; beaconlevel = 0; windowslots = 0; call = replicate 7 32; name = replicate 6 32; prime = false; lead = nil; latency = nil }
+    record { turnaround = nil; maxburst = nil; replyslack = nil; detect = nil; beaconevery = far; quickbeacon = far; idleroundgap = nil; durations = replicate 4 nil; thresholds = replicate 17 nil; margin = nil; relaysnr = nil; misslimit = 3; beaconlevel = 0; windowslots = 0; call = replicate 7 32; name = replicate 6 32; prime = false; lead = nil; latency = nil; rooms = replicate 17 1; payloads = replicate 17 1 }
 
 abbrev next : Call
-next = decision nil 8192
+next = decision nil (replicate 126976 0) 8192
 
 abbrev sent : Call
 sent = sending nil
@@ -59,5 +61,5 @@ run = begin ++ (next ∷ sent ∷ next ∷ more ∷ sent ∷ next ∷ more ∷ s
 
 longest : trace run (net (newStation settings 1) (replicate 6400 7))
     ≡ drew (0 ∷ 1 ∷ []) ∷ poll 0 ∷ poll 0 ∷ ack 0 ∷ poll 0 ∷ ack 0 ∷ poll 0 ∷ ack 0 ∷ poll 0 ∷ ack 0 ∷ over 0 ∷ poll 1 ∷ []
-unfolding size units round sum add mul lt le ofInt ofBits first fold every any hasBit withBit withoutBit bothOf eitherOf minusOf lowestBit lowestFree slotsOf stop levelBelow totalLt digit char trimStart trimEnd unpacked shifted itemAt framesOf headOk parse pack framesWords chunksOf heardAt relaySrcFor turnOver isMember newStation onTxDone seatOf findCall leadsTo pollBurst acksBurst beaconRows beaconPayload beyond beaconOf tellAll listSent rxListBurst triedOf sourceFor promoteAt promoteAll moveAt moveAll rerouteOf maskWhere rowsOn leastReach leastDirect pollStage listFor drawStage rerouteStage roundEnd actOf windowStage againStage dueOf ncsNext readFrames replyEnd ncsRx admitRefusal admitOf receiveRefusal receiveOf nextRefusal nextOf sentOf result step burstsIn turnEvents trace
+unfolding size units round sum add mul lt le ofInt ofBits first fold every any hasBit withBit withoutBit bothOf eitherOf minusOf lowestBit lowestFree slotsOf stop levelBelow totalLt digit char trimStart trimEnd unpacked shifted itemAt framesOf headOk parse pack framesWords chunksOf heardAt relaySrcFor turnOver isMember newStation onTxDone seatOf findCall leadsTo pollBurst acksBurst beaconRows beaconPayload beyond beaconOf tellAll listSent rxListBurst triedOf sourceFor promoteAt promoteAll moveAt moveAll rerouteOf maskWhere rowsOn leastReach leastDirect pollStage directedTo isDue listFor drawStage rerouteStage roundEnd actOf windowStage againStage dueOf ncsNext readFrames replyEnd ncsRx admitRefusal admitOf receiveRefusal receiveOf nextRefusal nextOf sentOf result step burstsIn turnEvents trace
 longest = refl

@@ -1,15 +1,15 @@
 -- Which bursts stand in the words returned: a head is a burst, and the words of events, waves and frames are none. Assumes nothing.
 use mathlib.Core.Path.{_≡_, refl, sym, ap, _∙_}
-use Prim.Native.Nat.{ℕ, zero, suc, _+_, _*_, _/_, _%_, _≤_, _<_}
+use Prim.Native.Nat.{ℕ, zero, suc, _+_, _-_, _*_, _/_, _%_, _≤_, _<_}
 use native.Mathlib.Omega.{arith}
 use mathlib.Core.Bool.{Bool, true, false, cond, _||_}
 use mathlib.Core.List.{List, [], _∷_, _++_, append-assoc}
-use lib.Dec.{eqb}
+use lib.Dec.{eqb, ltb}
 use lib.ListN.{length, take, drop}
 use borrow.Author.Tests.{ne-eqb, lt-leb}
-use Rattle.wire.specs.Kinds.{kPollack, kAck, kClose}
-use Rattle.words.specs.Words.{headOf}
-use Rattle.out.specs.Encode.{eventWord, messageWord, missedWord, headWord, waveWord, word12, pack, ctrlWords, chunksOf, chunkSize, chunkWords}
+use Rattle.wire.specs.Kinds.{tDown, kPollack, kAck, kClose}
+use Rattle.words.specs.Words.{headOf, least}
+use Rattle.out.specs.Encode.{eventWord, messageWord, missedWord, headWord, waveWord, word12, pack, ctrlWords, chunksOf, chunkSize, chunkWords, frameWords}
 use Rattle.roster.specs.declared.Member.{Member}
 use Rattle.net.specs.declared.Station.{Station}
 use Rattle.net.specs.declared.Settings.{Settings}
@@ -18,6 +18,10 @@ use Rattle.bursts.specs.Bursts.{headWords, tinyWords, pollExtra, pollBurst}
 use Rattle.rx.specs.Ending.{ackExtra, ackWords}
 use Rattle.promise.specs.Promise.{TurnEvent, poll, ack, burstBy, burstsIn}
 use Rattle.logs.specs.Reading.{isSent, sentIn}
+use Rattle.bits.proofs.Lists.{cond-keeps}
+use Rattle.queue.specs.declared.Queue.{Queue}
+use Rattle.queue.specs.Queues.{firstOf, bytesFrom}
+use Rattle.bursts.specs.Direct.{roomAt, payloadAt, downFrame, downFrames, downBurst}
 
 -- no burst stands in these words
 abbrev pub Quiet : List ℕ → Type 0
@@ -98,10 +102,22 @@ quiet-pack (a ∷ []) = above-head (word12 a 0 0) [] (omega arith) ∙ quiet-non
 quiet-pack (a ∷ b ∷ []) = above-head (word12 a b 0) [] (omega arith) ∙ quiet-none
 quiet-pack (a ∷ b ∷ c ∷ l) = above-head (word12 a b c) (pack l) (omega arith) ∙ quiet-pack l
 
+pub quiet-frame : (flags field : ℕ) (p : List ℕ) → Quiet (frameWords flags field p)
+quiet-frame flags field p =
+    above-head (0xa0000000 + flags * 256 + length p) ((0xb0000000 + field) ∷ pack p) (omega arith)
+    ∙ above-head (0xb0000000 + field) (pack p) (omega arith) ∙ quiet-pack p
+
 pub quiet-ctrl : (p : List ℕ) → Quiet (ctrlWords p)
-quiet-ctrl p =
-    above-head (0xa0000000 + 0xbf * 256 + length p) ((0xb0000000 + 0) ∷ pack p) (omega arith)
-    ∙ above-head (0xb0000000 + 0) (pack p) (omega arith) ∙ quiet-pack p
+quiet-ctrl p = quiet-frame 0xbf 0 p
+
+-- the frames of word back
+quiet-downs : (k : ℕ) (queue : List ℕ) (slot max last o : ℕ) → Quiet (downFrames k queue slot max last o)
+unfolding downFrames
+quiet-downs zero queue slot max last o = quiet-none
+quiet-downs (suc k) queue slot max last o =
+    cond-keeps Quiet (ltb o last) _ []
+    (λ _. quiet-both (downFrame queue slot o (least max (last - o))) (downFrames k queue slot max last (o + max)) (quiet-frame (64 * tDown + slot % 64) (o % 16777216) (bytesFrom queue slot o (least max (last - o)))) (quiet-downs k queue slot max last (o + max)))
+    (λ _. quiet-none)
 
 quiet-chunks : (k kind size : ℕ) (l : List ℕ) → Quiet (chunksOf k kind size l)
 unfolding chunksOf
@@ -120,6 +136,21 @@ quiet-chunk-words kind size l = quiet-chunks (length l) kind (chunkSize size) l
 pub other-burst : (level : ℕ) (ws : List ℕ) → Quiet ws → burstsIn (headWords 0 0 0 level ++ ws) ≡ []
 unfolding burstsIn
 other-burst level ws h = above-head (waveWord level) ws (omega arith) ∙ h
+
+-- a burst whose code is a level of the ladder
+level-head : (level : ℕ) (ws : List ℕ) → level < 17 → Quiet ws → burstsIn (headWords level 0 0 level ++ ws) ≡ []
+unfolding burstsIn
+level-head level ws l h =
+    let w = headWord level 0 0 in
+    let k : w / 268435456 ≡ 8 = omega arith in
+    let c : w / 2097152 % 128 ≡ level = omega arith in
+    rw (k, c, ne-eqb level 62 (λ e. omega arith)) (above-head (waveWord level) ws (omega arith) ∙ h)
+
+-- word back is no poll and no acknowledgement
+pub down-burst : (g : Settings) (queue : List ℕ) (slot : ℕ) (q : Queue) (level : ℕ) → level < 17 → burstsIn (downBurst g queue slot q level) ≡ []
+unfolding downBurst
+down-burst g queue slot q level l =
+    level-head level (downFrames (roomAt g level) queue slot (payloadAt g level) (q .posted) (firstOf q)) l (quiet-downs (roomAt g level) queue slot (payloadAt g level) (q .posted) (firstOf q))
 
 abbrev pub tinyBurst : ℕ → ℕ → List TurnEvent
 tinyBurst kind slot = cond (eqb kind 1 || eqb kind 5) (poll slot ∷ []) (cond (eqb kind 2 || eqb kind 3) (ack slot ∷ []) [])

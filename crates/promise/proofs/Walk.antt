@@ -8,7 +8,7 @@ use mathlib.Core.List.{List}
 use Prim.Native.Nat.{ℕ, _+_, _*_, _%_, _<_}
 use lib.Dec.{eqb}
 use lib.Ieee.{Float}
-use lib.ListN.{set}
+use lib.ListN.{getD, set}
 use Rattle.bits.specs.Mask.{hasBit, withBit, withoutBit, lowestBit}
 use Rattle.bits.specs.declared.Found.the-variants as found
 use Rattle.bits.proofs.Lists.{cond-keeps}
@@ -22,6 +22,8 @@ use Rattle.recent.specs.declared.Recent.{Recent}
 use Rattle.roster.specs.declared.Member.{Member}
 use Rattle.roster.specs.Members.{newMember, withLinks, withMissed, withBurst, withMark, knownCaps, knownVersion, withHeard, withDown, withDirect, receivedAt, promotedAt, reroutedTo, landedOne, barredOne, toldNow}
 use Rattle.roster.specs.Relays.{couldRelay, turnOver}
+use Rattle.queue.specs.declared.Queue.{Queue}
+use Rattle.queue.specs.Queues.{emptyQueue, reportedTo, sentIn, spaceRefusal, postedTo}
 use Rattle.net.specs.declared.Station.{Station}
 use Rattle.net.specs.declared.Round.{Round}
 use Rattle.net.specs.declared.Reply.{Reply}
@@ -29,7 +31,7 @@ use Rattle.net.specs.declared.Totals.{Totals}
 use Rattle.net.specs.declared.Turn.{Turn}
 use Rattle.net.specs.declared.Turn.the-variants.{Idle, Sending, Waiting}
 use Rattle.net.specs.declared.Wait.{Wait}
-use Rattle.net.specs.State.{memberAt, withMember, withMembers, withUsed, withHears, withWait, withRound, withTotals, withTable, withRecent, tableOf}
+use Rattle.net.specs.State.{memberAt, withMember, withMembers, withUsed, withHears, withWait, withRound, withTotals, withTable, withRecent, tableOf, withQueues}
 use Rattle.net.specs.Net.{isMember}
 use Rattle.bursts.specs.Rows.{seated}
 use Rattle.bursts.specs.Reroute.{withSeated, sourceFor}
@@ -37,11 +39,12 @@ use Rattle.next.specs.Next.{listFor}
 use Rattle.frames.specs.Pieces.{sizeOf}
 use Rattle.signoff.specs.SignOff.{signOff}
 
--- which changes a chain may have: those by levels of this kind, those of the waiting and the list, those of the cells
+-- which changes a chain may have: those by levels of this kind, those of the waiting and the list, those of the cells, those that the host alone makes: a posting, a sign-off
 pub record Allowed : Type 1 where
   pub level : Float → Type 0
   pub turns : Type 0
   pub cells : Type 0
+  pub host : Type 0
 
 -- ---- a member: one group of its fields written, of those that any occasion may write. A level handed in is an allowed one
 
@@ -140,6 +143,11 @@ RelayOk used v = (v ≡ 63) ⊎ (isMember used v ≡ true)
 abbrev pub offered : Station → List ℕ → ℕ → ℕ → List ℕ → Accepted
 offered s store slot field p = accept (tableOf s) (memberAt s slot .up) store slot field p
 
+-- the numbers of a boat's directed queue (U1): a report, a burst of word back
+pub data Queued (q : Queue) : Queue → Type 0 where
+  reports : (n : ℕ) → Queued q (reportedTo q n)
+  sent : (round : ℕ) → Queued q (sentIn q round)
+
 -- one change
 pub data Change (A : Allowed) (s : Station) : Station → Type 0 where
   -- the round but for its list, and the totals but for the silent boats; and with them the waiting and the list
@@ -162,7 +170,11 @@ pub data Change (A : Allowed) (s : Station) : Station → Type 0 where
   readings : (i : ℕ) (r : Recent) → i < 62 → isMember (s .used) i ≡ true → Change A s (withRecent s (set (s .recent) i r))
   -- a newcomer takes a free slot
   entered : (i : ℕ) (call : List ℕ) (v : ℕ) (now : Float) → i < 62 → hasBit (s .used) i ≡ false → RelayOk (s .used) v
-      → Change A s (withUsed (withMembers s (set (s .members) i (newMember call v now))) (withBit (s .used) i))
+      → Change A s (withQueues (withUsed (withMembers s (set (s .members) i (newMember call v now))) (withBit (s .used) i)) (set (s .queues) i emptyQueue))
+  -- a boat's directed queue
+  queued : (i : ℕ) (q : Queue) → i < 62 → isMember (s .used) i ≡ true → Queued (getD (s .queues) i emptyQueue) q → Change A s (withQueues s (set (s .queues) i q))
+  posted : A .host → (i n : ℕ) → i < 62 → isMember (s .used) i ≡ true → spaceRefusal (getD (s .queues) i emptyQueue) n ≡ 0
+      → Change A s (withQueues s (set (s .queues) i (postedTo (getD (s .queues) i emptyQueue) (n + 2))))
   -- a boat's piece is kept; a message lands with it; a cell is freed
   piece : A .cells → (store : List ℕ) (slot field : ℕ) (p : List ℕ) (m : Member) → isMember (s .used) slot ≡ true → Fields A (memberAt s slot) m
       → offered s store slot field p .lost ≡ false → hasLanded (offered s store slot field p .landed) ≡ false
@@ -175,7 +187,7 @@ pub data Change (A : Allowed) (s : Station) : Station → Type 0 where
   barred : A .cells → (store : List ℕ) (slot field : ℕ) (p : List ℕ) → isMember (s .used) slot ≡ true → offered s store slot field p .bars ≡ true
       → Change A s (withMember (withTable s (offered s store slot field p .table)) slot (barredOne (memberAt s slot) (offered s store slot field p .number)))
   -- a boat signs off: one change, as no property is asked to hold half-way. Signs says what is left of every part
-  signsOff : A .turns → A .cells → (slot : ℕ) → isMember (s .used) slot ≡ true → Change A s (signOff s slot)
+  signsOff : A .turns → A .cells → A .host → (slot : ℕ) → isMember (s .used) slot ≡ true → Change A s (signOff s slot)
 
 -- ---- chains
 

@@ -19,18 +19,22 @@ use Rattle.net.specs.declared.Station.{Station}
 use Rattle.net.specs.declared.Turn.{Turn}
 use Rattle.net.specs.declared.Turn.the-variants.{Idle, Sending, Waiting}
 use Rattle.net.specs.Net.{isMember, doneBy, newStation, onTxDone}
+use Rattle.net.proofs.Laws.{index-lt}
 use Rattle.admit.specs.Admission.{seatOf, slotOf, isFull, leadsTo, viaFor}
 use Rattle.config.specs.declared.Given.{Given}
 use Rattle.config.specs.Checks.{settingsOf}
-use Rattle.station.specs.Entries.{Outcome, done, refused, unless, check1, checkRelay, startRefusal, startOf, admitRefusal, admitOf, receiveBy, receiveRefusal, receiveOf, nextRefusal, nextOf, sentOf, closeRefusal, closeOf, readRefusal, cellRefusal, freeOf}
+use Rattle.station.specs.Entries.{Outcome, done, refused, unless, check1, checkRelay, startRefusal, startOf, admitRefusal, admitOf, receiveBy, receiveRefusal, receiveOf, nextRefusal, nextOf, sentOf, closeRefusal, closeOf, readRefusal, cellRefusal, freeOf, postRefusal, postOf}
 use Rattle.station.specs.SignOff.{signOffRefusal, signOffOf}
 use Rattle.station.specs.Worst.{worstOf, refusalIn}
 use Rattle.dues.specs.Dues.{duesRefusal}
-use Rattle.promise.specs.Promise.{Lent, lentTo, Net, Call, admission, reception, decision, sending, closing, reading, freeing, charging, signing, asking, result, step, after, started}
-use Rattle.promise.proofs.Walk.{Allowed, RelayOk, Turned, still, ends, Change, freed, signsOff, Chain, start, more, chain-then, chain-keeps}
+use Rattle.promise.specs.Promise.{Lent, lentTo, Net, Call, admission, reception, decision, sending, closing, reading, freeing, charging, signing, asking, result, step, after, started, posting}
+use Rattle.promise.proofs.Walk.{Allowed, RelayOk, Turned, still, ends, Change, freed, signsOff, Chain, start, more, chain-then, chain-keeps, posted}
 use Rattle.promise.proofs.Signs.{sign-member}
-use Rattle.promise.proofs.WalkNext.{calm, turn, next-walk}
+use Rattle.promise.proofs.WalkNext.{index-member, calm, turn, next-walk}
 use Rattle.promise.proofs.WalkRx.{admit-walk, rx-walk}
+use Rattle.net.specs.State.{indexOf, queueAt}
+use Rattle.queue.specs.declared.Queue.{Queue}
+use Rattle.queue.specs.Queues.{spaceRefusal}
 
 -- ---- the relay of a direct admission that is not refused: none, or a member
 
@@ -54,6 +58,19 @@ unfolding admitRefusal
 relay-ok room now used relay full e =
     relay-by used relay (cond full 23 0) (eqb relay 63) (ltb 61 relay) (isMember used relay) refl refl
     (clock-by (upTo 1000000000 now) (checkRelay used relay (cond full 23 0)) (room-by (ltb room 8192) (check1 now (checkRelay used relay (cond full 23 0))) e))
+
+-- ---- a posting that is not refused is to a member, and fits
+
+post-by : (used slot rest : ℕ) (short above member : Bool) → isMember used slot ≡ member → cond short 7 (cond above 8 (cond member rest 21)) ≡ 0
+    → (isMember used slot ≡ true) × (rest ≡ 0)
+post-by used slot rest true above member m e = absurd (omega arith)
+post-by used slot rest false true member m e = absurd (omega arith)
+post-by used slot rest false false true m e = (m, e)
+post-by used slot rest false false false m e = absurd (omega arith)
+
+pub post-member : (size used slot : ℕ) (q : Queue) (n : ℕ) → postRefusal size used slot q n ≡ 0 → (isMember used slot ≡ true) × (spaceRefusal q n ≡ 0)
+unfolding postRefusal
+post-member size used slot q n e = post-by used slot (spaceRefusal q n) (ltb size 126976) (ltb 61 slot) (isMember used slot) refl e
 
 -- ---- each call
 
@@ -99,9 +116,15 @@ module _ (A : Allowed) where
   reception-walk turns cells s words snr now store room ok =
       unless-walk (receiveRefusal room (length store) (s .count) now snr (parse words)) s store _ (λ _. receive-by turns cells (parse words) s snr now store ok)
 
-  pub decision-walk : A .turns → (s : Station) (now : Float) (room : ℕ) → To s (nextOf s now room)
+  pub decision-walk : A .turns → (s : Station) (now : Float) (queue : List ℕ) (room : ℕ) → To s (nextOf s now queue room)
   unfolding nextOf
-  decision-walk turns s now room = unless-walk (nextRefusal now room) s [] _ (λ _. next-walk A turns s now)
+  decision-walk turns s now queue room = unless-walk (nextRefusal now (length queue) room) s [] _ (λ _. next-walk A turns s now queue)
+
+  pub posting-walk : A .host → (s : Station) (slot : ℕ) (message queue : List ℕ) → To s (postOf s slot message queue)
+  unfolding postOf
+  posting-walk host s slot message queue =
+      unless-walk (postRefusal (length queue) (s .used) slot (queueAt s slot) (length message)) s queue _
+      (λ e. let p = post-member (length queue) (s .used) slot (queueAt s slot) (length message) e in more start (posted host (indexOf slot) (length message) (index-lt slot) (index-member (s .used) slot (p .0)) (p .1)))
 
   pub sending-walk : A .turns → (s : Station) (now : Float) → To s (sentOf s now)
   unfolding sentOf onTxDone
@@ -116,30 +139,31 @@ module _ (A : Allowed) where
   unfolding freeOf
   freeing-walk cells s cell = unless-walk (cellRefusal (s .count) (s .landed) cell) s [] _ (λ _. more start (freed cells cell))
 
-  signing-walk : A .turns → A .cells → (s : Station) (slot : ℕ) → To s (signOffOf s slot)
+  signing-walk : A .turns → A .cells → A .host → (s : Station) (slot : ℕ) → To s (signOffOf s slot)
   unfolding signOffOf
-  signing-walk turns cells s slot =
-      unless-walk (signOffRefusal (s .used) slot) s [] _ (λ e. more start (signsOff turns cells slot (sign-member (s .used) slot e)))
+  signing-walk turns cells host s slot =
+      unless-walk (signOffRefusal (s .used) slot) s [] _ (λ e. more start (signsOff turns cells host slot (sign-member (s .used) slot e)))
 
-  pub step-walk : A .turns → A .cells → (c : Call) (n : Net) → LevelIn (A .level) c → Chain A (n .station) (step c n .station)
+  pub step-walk : A .turns → A .cells → A .host → (c : Call) (n : Net) → LevelIn (A .level) c → Chain A (n .station) (step c n .station)
   unfolding step result
-  step-walk turns cells (admission packed relay now room) n ok = admission-walk (n .station) packed relay now room
-  step-walk turns cells (reception words snr now lent room numbers) n ok = reception-walk turns cells (n .station) words snr now (lentTo lent (n .store)) room (ok words snr now lent room numbers refl)
-  step-walk turns cells (decision now room) n ok = decision-walk turns (n .station) now room
-  step-walk turns cells (sending now) n ok = sending-walk turns (n .station) now
-  step-walk turns cells (closing count) n ok = closing-walk (n .station) count
-  step-walk turns cells (reading cell lent) n ok =
+  step-walk turns cells host (admission packed relay now room) n ok = admission-walk (n .station) packed relay now room
+  step-walk turns cells host (reception words snr now lent room numbers) n ok = reception-walk turns cells (n .station) words snr now (lentTo lent (n .store)) room (ok words snr now lent room numbers refl)
+  step-walk turns cells host (decision now queue room) n ok = decision-walk turns (n .station) now queue room
+  step-walk turns cells host (posting slot message queue) n ok = posting-walk host (n .station) slot message queue
+  step-walk turns cells host (sending now) n ok = sending-walk turns (n .station) now
+  step-walk turns cells host (closing count) n ok = closing-walk (n .station) count
+  step-walk turns cells host (reading cell lent) n ok =
       unless-walk (readRefusal (length (lentTo lent (n .store))) (n .station .count) (n .station .landed) cell) (n .station) (n .store) _ (λ _. start)
-  step-walk turns cells (freeing cell) n ok = freeing-walk cells (n .station) cell
-  step-walk turns cells (charging figures) n ok = unless-walk (duesRefusal figures) (n .station) (n .store) _ (λ _. start)
-  step-walk turns cells (signing slot) n ok = signing-walk turns cells (n .station) slot
-  step-walk turns cells (asking slot) n ok = unless-walk (refusalIn (worstOf (n .station) slot)) (n .station) (n .store) _ (λ _. start)
+  step-walk turns cells host (freeing cell) n ok = freeing-walk cells (n .station) cell
+  step-walk turns cells host (charging figures) n ok = unless-walk (duesRefusal figures) (n .station) (n .store) _ (λ _. start)
+  step-walk turns cells host (signing slot) n ok = signing-walk turns cells host (n .station) slot
+  step-walk turns cells host (asking slot) n ok = unless-walk (refusalIn (worstOf (n .station) slot)) (n .station) (n .store) _ (λ _. start)
 
   -- THE WALK: any calls are a chain of single changes
-  pub after-walk : A .turns → A .cells → (cs : List Call) (n : Net) → LevelsIn (A .level) cs → Chain A (n .station) (after cs n .station)
+  pub after-walk : A .turns → A .cells → A .host → (cs : List Call) (n : Net) → LevelsIn (A .level) cs → Chain A (n .station) (after cs n .station)
   unfolding after
-  after-walk turns cells [] n ok = start
-  after-walk turns cells (c ∷ cs) n ok = chain-then (step-walk turns cells c n (ok .0)) (after-walk turns cells cs (step c n) (ok .1))
+  after-walk turns cells host [] n ok = start
+  after-walk turns cells host (c ∷ cs) n ok = chain-then (step-walk turns cells host c n (ok .0)) (after-walk turns cells host cs (step c n) (ok .1))
 
 -- ---- from a start
 
@@ -150,14 +174,14 @@ started-is s g store e = rw e
 
 -- every change is allowed, by levels of a kind
 abbrev pub levels : (Float → Type 0) → Allowed
-levels Ok = record { level = Ok; turns = Unit {0}; cells = Unit {0} }
+levels Ok = record { level = Ok; turns = Unit {0}; cells = Unit {0}; host = Unit {0} }
 
 -- what a new station has and each change keeps holds after any calls, where the levels handed in are such
 pub always-level : (Ok : Float → Type 0) (P : Station → Type 0) → ((x y : Station) → Change (levels Ok) x y → P x → P y) → (s : Station) (g : Given) (store : List ℕ)
     → startRefusal g (length store) ≡ 0 → P (newStation (settingsOf g) (cellCount (length store / 6400)))
     → (cs : List Call) → LevelsIn Ok cs → P (after cs (started s g store) .station)
 always-level Ok P f s g store e p cs ok =
-    chain-keeps P f (after-walk (levels Ok) tt tt cs (started s g store) ok) (subst P (sym (started-is s g store e)) p)
+    chain-keeps P f (after-walk (levels Ok) tt tt tt cs (started s g store) ok) (subst P (sym (started-is s g store e)) p)
 
 -- by any level
 abbrev AnyLevel : Float → Type 0

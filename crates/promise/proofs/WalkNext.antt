@@ -4,7 +4,7 @@ use mathlib.Core.Logic.{inl, inr, ⊎-elim}
 use Prim.Native.Nat.{ℕ, _<_}
 use native.Mathlib.Omega.{arith}
 use mathlib.Core.Bool.{Bool, true, false, cond, not, _&&_, _||_}
-use mathlib.Core.List.{[]}
+use mathlib.Core.List.{List, []}
 use lib.Dec.{eqb, ltb}
 use lib.ListN.{set}
 use lib.Seq.{set-getD}
@@ -33,7 +33,7 @@ use Rattle.net.specs.declared.Totals.{Totals}
 use Rattle.net.specs.declared.Turn.{Turn}
 use Rattle.net.specs.declared.Turn.the-variants.{Idle, Sending, Waiting}
 use Rattle.net.specs.declared.Wait.{Wait}
-use Rattle.net.specs.State.{indexOf, memberAt, withMember, withMembers, withCounted, withWait, withRound, withTotals, withRxsent, withRxdirty, alsoAck, alsoNews, withRecent}
+use Rattle.net.specs.State.{indexOf, memberAt, withMember, withMembers, withCounted, withWait, withRound, withTotals, withRxsent, withRxdirty, alsoAck, alsoNews, withRecent, queueAt, withQueue}
 use Rattle.net.specs.Net.{isMember, idleWait, Said, said, membersIn}
 use Rattle.net.proofs.Laws.{index-lt, index-is, member-lt, member-is}
 use Rattle.bursts.specs.Rows.{seated}
@@ -45,8 +45,11 @@ use Rattle.next.specs.declared.Due.{Due}
 use Rattle.next.specs.declared.Due.the-variants.{Free, Quiet, Close, Again, Missed}
 use Rattle.next.specs.declared.Act.{Act}
 use Rattle.next.specs.declared.Act.the-variants as act
-use Rattle.next.specs.Next.{Decision, pollBy, pollStage, drawn, drawStage, reroutedStage, rerouteStage, listStage, roundEnd, hurried, actOf, actBy, windowStage, closeStage, againStage, turnOverIn, missedIn, missedStage, dueTurn, dueOf, byDue, ncsNext}
-use Rattle.promise.proofs.Walk.{Allowed, told, Fields, none, also, Turned, ends, sends, polls, goes, draws, Within, Marks, others, turned, over, written, counted, promoted, moved, readings, Chain, start, more}
+use Rattle.next.specs.Next.{Decision, pollBy, pollStage, drawn, drawStage, reroutedStage, rerouteStage, listStage, roundEnd, hurried, actOf, actBy, windowStage, closeStage, againStage, turnOverIn, missedIn, missedStage, dueTurn, dueOf, byDue, ncsNext, directedBy, wordBy}
+use Rattle.promise.proofs.Walk.{Allowed, told, Fields, none, also, Turned, ends, sends, polls, goes, draws, Within, Marks, others, turned, over, written, counted, promoted, moved, readings, Chain, start, more, Queued, sent, queued}
+use Rattle.queue.specs.declared.Queue.{Queue}
+use Rattle.bursts.specs.Direct.{directedTo, directBurst}
+use Rattle.bursts.proofs.Directing.{directed-member}
 
 -- ---- what is known where a change is made
 
@@ -163,6 +166,10 @@ module _ (A : Allowed) where
     pub heard-at : (s : Station) (slot : ℕ) (r : Recent) → isMember (s .used) slot ≡ true → Chain A s₀ s → Chain A s₀ (withRecent s (set (s .recent) (indexOf slot) r))
     heard-at s slot r here k = more k (readings (indexOf slot) r (index-lt slot) (index-member (s .used) slot here))
 
+    -- the numbers of a boat's directed queue
+    pub queue : (s : Station) (slot : ℕ) (q : Queue) → isMember (s .used) slot ≡ true → Queued (queueAt s slot) q → Chain A s₀ s → Chain A s₀ (withQueue s slot q)
+    queue s slot q here f k = more k (queued (indexOf slot) q (index-lt slot) (index-member (s .used) slot here) f)
+
     abbrev WalkSaid : Said → Type 0
     WalkSaid x = Chain A s₀ (x .station)
 
@@ -235,7 +242,7 @@ module _ (A : Allowed) where
 
     -- ---- the stages, last first
 
-    module _ (allowed : A .turns) where
+    module _ (allowed : A .turns) (lent : List ℕ) where
       list-walk : (s : Station) → Chain A s₀ s → Chain A s₀ (rxListBurst s .station)
       unfolding rxListBurst
       list-walk s k =
@@ -254,37 +261,50 @@ module _ (A : Allowed) where
       poll-by found.Nothing s e k = k
       poll-by (found.At slot) s e k = turn s _ _ _ allowed (polls slot e) refl refl refl k
 
-      poll-walk : (s : Station) → Chain A s₀ s → WalkNext (pollStage s)
-      unfolding pollStage
-      poll-walk s k = poll-by (lowestBit (s .round .list)) s refl k
+      -- word back before it
+      direct-walk : (s : Station) (slot : ℕ) → isMember (s .used) slot ≡ true → Chain A s₀ s → Chain A s₀ (directBurst s lent slot .station)
+      unfolding directBurst
+      direct-walk s slot here k = queue _ slot _ here (sent (s .round .number)) (turn s _ _ _ allowed sends refl refl refl k)
 
-      draw-walk : (s : Station) (now : Float) → Chain A s₀ s → WalkNext (drawStage s now)
+      word-by : (f : Found) (s : Station) → ((i : ℕ) → f ≡ found.At i → isMember (s .used) i ≡ true) → Chain A s₀ s → WalkNext (wordBy f s lent)
+      word-by found.Nothing s h k = poll-by (lowestBit (s .round .list)) s refl k
+      word-by (found.At i) s h k = direct-walk s i (h i refl) k
+
+      front-by : (f : Found) (s : Station) → Chain A s₀ s → WalkNext (wordBy (directedBy f s) s lent)
+      front-by found.Nothing s k = poll-by (lowestBit (s .round .list)) s refl k
+      front-by (found.At slot) s k = word-by (directedTo s slot) s (λ i e. directed-member s slot i e) k
+
+      poll-walk : (s : Station) → Chain A s₀ s → WalkNext (pollStage s lent)
+      unfolding pollStage
+      poll-walk s k = front-by (lowestBit (s .round .list)) s k
+
+      draw-walk : (s : Station) (now : Float) → Chain A s₀ s → WalkNext (drawStage s now lent)
       unfolding drawStage
       draw-walk s now k = poll-walk (drawn s now) (turn s _ _ _ allowed (draws _) refl refl refl k)
 
-      rerouted-walk : (x : Said) (now : Float) → WalkSaid x → WalkNext (reroutedStage x now)
+      rerouted-walk : (x : Said) (now : Float) → WalkSaid x → WalkNext (reroutedStage x now lent)
       rerouted-walk x now k =
           cond-keeps WalkNext (eqb (x .station .round .treenews) 0) _ _ (λ _. draw-walk (x .station) now k) (λ _. acks-walk (x .station) k)
 
-      reroute-stage : (s : Station) (now : Float) → Chain A s₀ s → WalkNext (rerouteStage s now)
+      reroute-stage : (s : Station) (now : Float) → Chain A s₀ s → WalkNext (rerouteStage s now lent)
       unfolding rerouteStage
       reroute-stage s now k =
           cond-keeps WalkNext (not (s .round .traffic) && ltb 0 (s .round .number) && lt now (s .round .nextround)) _ _
           (λ _. k)
           (λ _. rerouted-walk (rerouteOf s) now (rerouted s k))
 
-      list-stage : (s : Station) (now : Float) → Chain A s₀ s → WalkNext (listStage s now)
+      list-stage : (s : Station) (now : Float) → Chain A s₀ s → WalkNext (listStage s now lent)
       list-stage s now k =
           cond-keeps WalkNext (listSent s) _ _ (λ _. list-walk s k) (λ _. reroute-stage (rxListBurst s .station) now (list-walk s k))
 
-      round-walk : (s : Station) (now : Float) → Chain A s₀ s → WalkNext (roundEnd s now)
+      round-walk : (s : Station) (now : Float) → Chain A s₀ s → WalkNext (roundEnd s now lent)
       unfolding roundEnd
       round-walk s now k =
           cond-keeps WalkNext (eqb (s .round .number) 0 || eqb (s .round .rxsent) (s .round .number)) _ _
           (λ _. reroute-stage s now k)
           (λ _. list-stage (withRound s (withRxsent (s .round) (s .round .number))) now (calm s _ _ refl refl refl refl k))
 
-      act-by : (a : Act) (s : Station) (now : Float) → Chain A s₀ s → WalkNext (actBy a s now)
+      act-by : (a : Act) (s : Station) (now : Float) → Chain A s₀ s → WalkNext (actBy a s now lent)
       act-by act.Wait s now k = k
       act-by act.Beacon s now k = beacon-walk s now k
       act-by act.Acks s now k = acks-walk s k
@@ -294,7 +314,7 @@ module _ (A : Allowed) where
       hurried-walk : (s : Station) (now : Float) → Chain A s₀ s → Chain A s₀ (hurried s now)
       hurried-walk s now k = cond-keeps (Chain A s₀) (s .round .activity) _ s (λ _. calm s _ _ refl refl refl refl k) (λ _. k)
 
-      window-walk : (s : Station) (now : Float) → Chain A s₀ s → WalkNext (windowStage s now)
+      window-walk : (s : Station) (now : Float) → Chain A s₀ s → WalkNext (windowStage s now lent)
       unfolding windowStage
       window-walk s now k =
           cond-keeps WalkNext (lt now (s .round .windowend)) _ _ (λ _. k)
@@ -308,7 +328,7 @@ module _ (A : Allowed) where
       unfolding againStage
       again-walk r s e k = turn s _ _ _ allowed (goes r _ _ e) refl refl refl k
 
-      missed-walk : (r : Reply) (s : Station) (now : Float) → s .wait .turn ≡ Waiting r → Chain A s₀ s → WalkNext (missedStage r s now)
+      missed-walk : (r : Reply) (s : Station) (now : Float) → s .wait .turn ≡ Waiting r → Chain A s₀ s → WalkNext (missedStage r s now lent)
       unfolding missedStage
       missed-walk r s now e k =
           window-walk (turnOverIn (missedIn (withWait s idleWait) (r .slot)) (r .slot) (r .relayfor)) now
@@ -316,14 +336,14 @@ module _ (A : Allowed) where
           (λ here. over-walk _ r idleWait _ allowed e (λ u. ends) refl (count s (r .slot) (memberAt s (r .slot)) _ here none k))
           (λ _. over-walk s r idleWait (s .totals) allowed e (λ u. ends) refl k))
 
-      due-walk : (d : Due) (s : Station) (now : Float) → Runs d (s .wait .turn) → Chain A s₀ s → WalkNext (byDue d s now)
+      due-walk : (d : Due) (s : Station) (now : Float) → Runs d (s .wait .turn) → Chain A s₀ s → WalkNext (byDue d s now lent)
       due-walk Free s now e k = window-walk s now k
       due-walk Quiet s now e k = k
       due-walk Close s now e k = close-walk s now k
       due-walk (Again r) s now e k = again-walk r s e k
       due-walk (Missed r) s now e k = missed-walk r s now e k
 
-      decided : (s : Station) (now : Float) → Chain A s₀ s → WalkNext (ncsNext s now)
+      decided : (s : Station) (now : Float) → Chain A s₀ s → WalkNext (ncsNext s now lent)
       unfolding ncsNext
       decided s now k = due-walk (dueOf (s .wait) (s .round .closed) now) s now (due-runs s now) k
 
@@ -332,5 +352,5 @@ module _ (A : Allowed) where
   reroute-walk s = rerouted s s start
 
   -- the next decision
-  pub next-walk : A .turns → (s : Station) (now : Float) → Chain A s (ncsNext s now .station)
-  next-walk allowed s now = decided s allowed s now start
+  pub next-walk : A .turns → (s : Station) (now : Float) (lent : List ℕ) → Chain A s (ncsNext s now lent .station)
+  next-walk allowed s now lent = decided s allowed lent s now start

@@ -62,13 +62,15 @@ roster (walk.promoted i snr l here d) = promoted i snr l here
 roster (walk.moved c r l here there able n) = moved c r l here there able n
 roster (walk.readings i r l here) = same
 roster (walk.entered i call v now l free r) = entered i call v now l free r
+roster (walk.queued i q l here f) = same
+roster (walk.posted a i n l here e) = same
 roster {s = s} (walk.piece a store slot field p m here f l d) = written (indexOf slot) m (index-lt slot) (index-member (s .used) slot here) (stays f)
 roster {s = s} (walk.landed a store slot field p m here f l d) =
     written (indexOf slot) _ (index-lt slot) (index-member (s .used) slot here) (record { call = stays f .call; via = stays f .via; missed = stays f .missed })
 roster (walk.freed a cell) = same
 roster {s = s} (walk.barred a store slot field p here b) =
     written (indexOf slot) _ (index-lt slot) (index-member (s .used) slot here) (record { call = refl; via = refl; missed = refl })
-roster (walk.signsOff a b slot here) = signsOff slot here
+roster (walk.signsOff a b c slot here) = signsOff slot here
 
 -- ---- every member
 
@@ -122,12 +124,14 @@ module _ (A : Allowed) (Q : Member → Type 0) (e : Each A Q) where
   every s t (walk.moved c r h here there able n) l = set-every Q (s .members) c _ (e .moved (seated s c) r (l c)) l
   every s t (walk.readings i r h here) l = l
   every s t (walk.entered i call v now h free r) l = set-every Q (s .members) i _ (e .entered call v now) l
+  every s t (walk.queued i q h here f) l = l
+  every s t (walk.posted a i n h here q) l = l
   every s t (walk.piece a store slot field p m here f h d) l = set-every Q (s .members) (indexOf slot) m (fields-keep Q (e .field) f (l (indexOf slot))) l
   every s t (walk.landed a store slot field p m here f h d) l =
       set-every Q (s .members) (indexOf slot) _ (e .landed m _ _ (fields-keep Q (e .field) f (l (indexOf slot)))) l
   every s t (walk.freed a cell) l = l
   every s t (walk.barred a store slot field p here b) l = set-every Q (s .members) (indexOf slot) _ (e .barred _ _ (l (indexOf slot))) l
-  every s t (walk.signsOff a b slot here) l = sign-every s slot l
+  every s t (walk.signsOff a b c slot here) l = sign-every s slot l
 
 -- at a start
 pub every-new : (Q : Member → Type 0) (n : ℕ) (m : Member) → Q noMember → Q m → (j : ℕ) → Q (getD (replicate n m) j noMember)

@@ -36,14 +36,14 @@ use Rattle.admit.proofs.Laws.{known-lt, known-used, seat-lt, seat-free}
 use Rattle.frames.specs.declared.Air.{Air}
 use Rattle.frames.specs.Reading.{Reading}
 use Rattle.frames.specs.Pieces.{isAsideLeaf, heardMember, isRelayed, trafficIf, relayIf, unkeptAt, barredPiece, keptPiece, pieceFrame}
-use Rattle.frames.specs.Control.{eachEntry, checkinMember, checkedIn, withActive, callAt, checkinFrame, isForwarded, reportMember, hearPair, reportStation, reportFrame, relayOf, newcomer, hearing, overheardBy, overheardEntry, overheardFrame, isKid, kidEntry, kidsFrame, kidMember}
+use Rattle.frames.specs.Control.{eachEntry, checkinMember, checkedIn, withActive, callAt, checkinFrame, isForwarded, reportMember, hearPair, reportStation, reportFrame, relayOf, newcomer, hearing, overheardBy, overheardEntry, overheardFrame, isKid, kidEntry, kidsFrame, kidMember, hearPairs, u24}
 use Rattle.frames.specs.Frames.{controlBy, readFrame, frameStep, readFrames}
 use Rattle.rx.specs.Ending.{isBusy, putOff, turnOverIn, idleMember, idleHeard, idleBy, idleEnd, replyHeard, answerBy, goesOn, isReply, replyBy, replyEnd, Ended, busyWait}
 use Rattle.rx.specs.Reception.{Received, airOf, firstReading, ncsRx}
 use Rattle.promise.proofs.FrameCases.{control-cases, frame-cases}
 use Rattle.promise.proofs.Walk.{Allowed, Fields, none, also, burst, caps, version, down, received, direct, reached, Turned, still, ends, sends, goes, RelayOk, hears, entered, offered, piece, landed, barred, Chain, start, more, chain-then}
 use Rattle.promise.proofs.Walk as walk
-use Rattle.promise.proofs.WalkNext.{index-member, calm, ack, turn, over-walk, write, count, heard-at}
+use Rattle.promise.proofs.WalkNext.{index-member, calm, ack, turn, over-walk, write, count, heard-at, queue}
 
 -- what each entry keeps, all keep
 pub each-keeps : {A : Type 0} (P : A → Type 0) (f : ℕ → A → A) → ((e : ℕ) (x : A) → P x → P (f e x)) → (w len n e : ℕ) (x : A) → P x → P (eachEntry f w len n e x)
@@ -171,10 +171,10 @@ module _ (A : Allowed) where
       report-walk len p slot s k =
           let m = reportMember a (getD p 2 0) (isForwarded a s slot) (memberAt s slot) in
           cond-keeps (Chain A s₀) (isMember (s .used) slot) _ s
-          (λ here.
-          each-keeps (λ (h : List ℕ). Chain A s₀ (withHears (withMember s slot m) h)) (hearPair p slot)
+          (λ here. queue A s₀ (withHears (withMember s slot m) (hearPairs len p slot (s .hears))) slot _ here (walk.reports (u24 p 9))
+          (each-keeps (λ (h : List ℕ). Chain A s₀ (withHears (withMember s slot m) h)) (hearPair p slot)
           (λ e h w. hear-walk slot (getD p e 0) (getD p (e + 1) 0) (withMember s slot m) h here w) 2 len 128 12 (s .hears)
-          (write A s₀ s slot m here (report-fields (getD p 2 0) (isForwarded a s slot) (memberAt s slot)) k))
+          (write A s₀ s slot m here (report-fields (getD p 2 0) (isForwarded a s slot) (memberAt s slot)) k)))
           (λ _. k)
 
       overheard-by : (p : List ℕ) (slot v e : ℕ) (x : Said) → Sat s₀ v x → (seat : Seat) → seatOf (x .station) (callAt p e) ≡ seat

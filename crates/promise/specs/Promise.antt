@@ -21,7 +21,7 @@ use Rattle.net.specs.Net.{isMember}
 use Rattle.next.specs.Next.{ncsNext}
 use Rattle.rx.specs.Reception.{Received, ncsRx}
 use Rattle.config.specs.declared.Given.{Given}
-use Rattle.station.specs.Entries.{Outcome, done, unless, startRefusal, startOf, admitOf, receiveOf, nextOf, sentOf, closeOf, freeOf, readRefusal, readingOf}
+use Rattle.station.specs.Entries.{Outcome, done, unless, startRefusal, startOf, admitOf, receiveOf, nextOf, postOf, sentOf, closeOf, freeOf, readRefusal, readingOf}
 use Rattle.station.specs.SignOff.{signOffOf}
 use Rattle.station.specs.Worst.{worstOf, refusalIn}
 use Rattle.dues.specs.Dues.{duesRefusal}
@@ -95,11 +95,13 @@ pub data InBook : Type 0 where
   changesNothing : InBook
 
 -- A call with its arguments, as the entry points take them. `room` is the length of the output lent.
+-- `queue` is the directed queue lent to a decision or a posting (U1): item 3 holds whatever its bytes are, as nothing it speaks of comes from them.
 -- `numbers` are no argument: the full numbers of a reception's pieces, frame by frame, of which eight bits are on air.
 pub data Call : Type 0 where
   admission : (packed : List ℕ) (relay : ℕ) (now : Float) (room : ℕ) → Call
   reception : (words : List ℕ) (snr now : Float) (lent : Lent) (room : ℕ) (numbers : List ℕ) → Call
-  decision : (now : Float) (room : ℕ) → Call
+  decision : (now : Float) (queue : List ℕ) (room : ℕ) → Call
+  posting : (slot : ℕ) (message queue : List ℕ) → Call
   sending : (now : Float) → Call
   closing : (count : ℕ) → Call
   reading : (cell : ℕ) (lent : Lent) → Call
@@ -115,9 +117,10 @@ result (reception words snr now lent room numbers) n =
     let o = receiveOf (n .station) words snr now (lentTo lent (n .store)) room in
     let r : Burst → Received = λ b. ncsRx (n .station) b snr now (lentTo lent (n .store)) in
     record { outcome = o; store = o .store; seen = ofBurst (parse words) [] (λ b. r b .seen); before = []; behind = overIf (ofBurst (parse words) none (λ b. r b .over)) }
-result (decision now room) n =
-    let d = ncsNext (n .station) now in
-    record { outcome = nextOf (n .station) now room; store = n .store; seen = []; before = overIf (d .over) ++ drewIf (d .drew); behind = [] }
+result (decision now queue room) n =
+    let d = ncsNext (n .station) now queue in
+    record { outcome = nextOf (n .station) now queue room; store = n .store; seen = []; before = overIf (d .over) ++ drewIf (d .drew); behind = [] }
+result (posting slot message queue) n = plain n (postOf (n .station) slot message queue)
 result (sending now) n = plain n (sentOf (n .station) now)
 result (closing count) n = plain n (closeOf (n .station) count)
 result (reading cell lent) n =
@@ -136,7 +139,8 @@ result (asking slot) n =
 abbrev pub inBook : Call → InBook
 inBook (admission packed relay now room) = changesNothing
 inBook (reception words snr now lent room numbers) = brings words numbers lent
-inBook (decision now room) = changesNothing
+inBook (decision now queue room) = changesNothing
+inBook (posting slot message queue) = changesNothing
 inBook (sending now) = changesNothing
 inBook (closing count) = changesNothing
 inBook (reading cell lent) = reads cell lent

@@ -52,8 +52,9 @@ postedTo q n = record { posted = q .posted + n; kept = q .kept; reported = q .re
 abbrev pub placeOf : ℕ → ℕ → ℕ
 placeOf slot o = 2048 * slot + o % 2048
 
+-- what is sent is a byte, whatever number is lent
 abbrev pub byteAt : List ℕ → ℕ → ℕ → ℕ
-byteAt queue slot o = getD queue (placeOf slot o) 0
+byteAt queue slot o = getD queue (placeOf slot o) 0 % 256
 
 -- n bytes of it from o on
 unfoldable pub bytesFrom : List ℕ → ℕ → ℕ → ℕ → List ℕ

@@ -16,10 +16,12 @@ use Rattle.out.specs.Encode.{Wrote}
 use Rattle.out.proofs.Laws.{wrote-none}
 use Rattle.roster.specs.declared.Member.{Member}
 use Rattle.roster.specs.Members.{noMember}
+use Rattle.queue.specs.declared.Queue.{Queue}
+use Rattle.queue.specs.Queues.{emptyQueue, reportedTo}
 use Rattle.net.specs.declared.Station.{Station}
 use Rattle.net.specs.declared.Round.{Round}
 use Rattle.net.specs.declared.Totals.{Totals}
-use Rattle.net.specs.State.{indexOf, memberAt, withMember, withMembers, withHears}
+use Rattle.net.specs.State.{indexOf, memberAt, withMember, withMembers, withHears, queueAt, withQueue, withQueues}
 use Rattle.net.specs.Net.{isMember, Did}
 use Rattle.frames.specs.declared.Air.{Air}
 use Rattle.frames.specs.declared.Rx.{Rx}
@@ -30,7 +32,7 @@ use Rattle.frames.specs.Reading.{Reading, alsoSaid}
 use Rattle.frames.specs.Code.Reading.{nextRx, reportRx}
 use Rattle.frames.specs.Pieces.{pieceFrame}
 use Rattle.frames.specs.Code.Pieces.{pieceOf, takenOf, ownerAfter, busyAfter, landedAfter, withIf, memberAfter, relayedBy, roundAfter, totalsAfter, landedEvents, storedPiece, RoomIn}
-use Rattle.frames.specs.Control.{payloadIn, forwardedBy, isForwarded, reportMember, reportStation, reportFrame, hearPairs, isPending}
+use Rattle.frames.specs.Control.{payloadIn, forwardedBy, isForwarded, reportMember, reportStation, reportFrame, hearPairs, isPending, u24}
 use Rattle.frames.specs.Code.Control.{controlSays}
 use Rattle.frames.specs.Frames.{readFrame}
 use Rattle.frames.specs.Code.Frames.{readBy, frameOf, kindOf}
@@ -102,19 +104,21 @@ module _ {a : Air} {ws : List ℕ} {n : ℕ} {s₀ : Station} {store₀ o₀ sto
       refl refl (d .wrote) (ap (λ (t : Station). t .count) (d .station) ∙ control-count kind a (f .slot) (f .len) bytes s) refl p
 
   pub turn-report : kind ≡ Report
-      → {slot i q : ℕ} {here forwarded pending : Bool} {k : Member} {hears : List ℕ} {x₁ x′ : Rx}
+      → {slot i q : ℕ} {here forwarded pending : Bool} {k : Member} {hears : List ℕ} {d : Queue} {x₁ x′ : Rx}
       → slot ≡ getD bytes 1 0 → here ≡ isMember (s .used) slot → i ≡ indexOf slot
       → forwarded ≡ forwardedBy a here (getD (s .members) i noMember) → q ≡ getD bytes 2 0
       → k ≡ cond here (reportMember a q forwarded (getD (s .members) i noMember)) (getD (s .members) i noMember)
-      → hears ≡ cond here (hearPairs (f .len) bytes slot (s .hears)) (s .hears) → pending ≡ isPending bytes
+      → hears ≡ cond here (hearPairs (f .len) bytes slot (s .hears)) (s .hears)
+      → d ≡ cond here (reportedTo (getD (s .queues) i emptyQueue) (u24 bytes 9)) (getD (s .queues) i emptyQueue) → pending ≡ isPending bytes
       → x₁ ≡ reportRx x forwarded slot pending → x₁ .word ≡ x .word → x₁ .frame ≡ x .frame → x₁ .at ≡ x .at → x′ ≡ nextRx x₁ f
-      → Going a ws n s₀ store₀ o₀ store o (withHears (withMembers s (set (s .members) i k)) hears) x′
-  turn-report is {slot} {i} {q} {here} {forwarded} {pending} {k} {hears} {x₁} {x′} es eh ei ew eq em er ep e1 pw pf pa p =
+      → Going a ws n s₀ store₀ o₀ store o (withQueues (withHears (withMembers s (set (s .members) i k)) hears) (set (s .queues) i d)) x′
+  turn-report is {slot} {i} {q} {here} {forwarded} {pending} {k} {hears} {d} {x₁} {x′} es eh ei ew eq em er ed ep e1 pw pf pa p =
       goes g h f [] ef
-      (rw (append-nil, e1, er, em, ep, ew, ei, eq, eh, es) (told ∙ sym (rw is at reads)))
+      (rw (append-nil, e1, ed, er, em, ep, ew, ei, eq, eh, es) (told ∙ sym (rw is at reads)))
       pw pf (rw pa (wrote-none o (x .at))) refl refl p
     where
-      told : readingAt (withHears (withMember s (getD bytes 1 0) (cond (isMember (s .used) (getD bytes 1 0)) (reportMember a (getD bytes 2 0) (isForwarded a s (getD bytes 1 0)) (memberAt s (getD bytes 1 0))) (memberAt s (getD bytes 1 0)))) (cond (isMember (s .used) (getD bytes 1 0)) (hearPairs (f .len) bytes (getD bytes 1 0) (s .hears)) (s .hears))) store (g .done) (g .seen) (reportRx x (isForwarded a s (getD bytes 1 0)) (getD bytes 1 0) (isPending bytes))
+      told : readingAt (withQueue (withHears (withMember s (getD bytes 1 0) (cond (isMember (s .used) (getD bytes 1 0)) (reportMember a (getD bytes 2 0) (isForwarded a s (getD bytes 1 0)) (memberAt s (getD bytes 1 0))) (memberAt s (getD bytes 1 0)))) (cond (isMember (s .used) (getD bytes 1 0)) (hearPairs (f .len) bytes (getD bytes 1 0) (s .hears)) (s .hears)))
+          (getD bytes 1 0) (cond (isMember (s .used) (getD bytes 1 0)) (reportedTo (queueAt s (getD bytes 1 0)) (u24 bytes 9)) (queueAt s (getD bytes 1 0)))) store (g .done) (g .seen) (reportRx x (isForwarded a s (getD bytes 1 0)) (getD bytes 1 0) (isPending bytes))
           ≡ reportFrame a (f .len) bytes now
       told =
           ap (λ (t : Station). readingAt t store (g .done) (g .seen) (reportRx x (isForwarded a s (getD bytes 1 0)) (getD bytes 1 0) (isPending bytes))) (report-whole a (f .len) bytes (getD bytes 1 0) s)
@@ -151,7 +155,7 @@ module _ {a : Air} {ws : List ℕ} {n : ℕ} {s₀ : Station} {store₀ o₀ sto
       → length store′ ≡ length store
       → x′ ≡ nextRx (record { word = x .word; frame = x .frame; at = end; sender = x .sender; more = x .more; heard = x .heard; unkept = unkept }) f
       → Going a ws n s₀ store₀ o₀ store′ o′
-      (record { settings = s .settings; wait = s .wait; round = q; totals = u; used = s .used; busy = busy; landed = landed; count = s .count; members = set (s .members) i k; recent = s .recent; hears = s .hears; owners = set (s .owners) c owner; cells = set (s .cells) c (d .cell) })
+      (record { settings = s .settings; wait = s .wait; round = q; totals = u; used = s .used; busy = busy; landed = landed; count = s .count; members = set (s .members) i k; recent = s .recent; queues = s .queues; hears = s .hears; owners = set (s .owners) c owner; cells = set (s .cells) c (d .cell) })
       x′
   turn-piece is {i} {c} {end} {unkept} {busy} {landed} {owner} {here} {relayed} {p} {d} {store′} ei eh ep ec et eo eb el ek′ er eq eu w en es ex =
       goes g h f (landedEvents d p c relayed (a .polled)) ef
@@ -184,17 +188,18 @@ module _ {a : Air} {ws : List ℕ} {n : ℕ} {s₀ : Station} {store₀ o₀ sto
   went-none ek = went-said Nothing ek (rw append-nil) (did-none s o (x .at))
 
   pub went-report : Report ≡ kindOf f (byteAt (drop (x .word) ws) 0)
-      → {slot i q : ℕ} {here forwarded pending : Bool} {k : Member} {hears : List ℕ} {x₁ : Rx}
+      → {slot i q : ℕ} {here forwarded pending : Bool} {k : Member} {hears : List ℕ} {d : Queue} {x₁ : Rx}
       → slot ≡ getD (payloadIn ws (x .word) (f .len)) 1 0 → here ≡ isMember (s .used) slot → i ≡ indexOf slot
       → forwarded ≡ forwardedBy a here (getD (s .members) i noMember) → q ≡ getD (payloadIn ws (x .word) (f .len)) 2 0
       → k ≡ cond here (reportMember a q forwarded (getD (s .members) i noMember)) (getD (s .members) i noMember)
-      → hears ≡ cond here (hearPairs (f .len) (payloadIn ws (x .word) (f .len)) slot (s .hears)) (s .hears) → pending ≡ isPending (payloadIn ws (x .word) (f .len))
+      → hears ≡ cond here (hearPairs (f .len) (payloadIn ws (x .word) (f .len)) slot (s .hears)) (s .hears)
+      → d ≡ cond here (reportedTo (getD (s .queues) i emptyQueue) (u24 (payloadIn ws (x .word) (f .len)) 9)) (getD (s .queues) i emptyQueue) → pending ≡ isPending (payloadIn ws (x .word) (f .len))
       → x₁ ≡ reportRx x forwarded slot pending
-      → Went (withHears (withMembers s (set (s .members) i k)) hears) o x₁ (x .at)
-  went-report ek {slot} {forwarded = forwarded} {pending = pending} es eh ei ew eq em er ep e1 =
+      → Went (withQueues (withHears (withMembers s (set (s .members) i k)) hears) (set (s .queues) i d)) o x₁ (x .at)
+  went-report ek {slot} {forwarded = forwarded} {pending = pending} es eh ei ew eq em er ed ep e1 =
       let r = report-word x forwarded slot pending e1 in
       record {
         word = r .0;
         frame = r .1;
-        on = λ p. turn-report g h f ef Report ek refl es eh ei ew eq em er ep e1 (r .0) (r .1) (r .2) (p ∙ (rw (r .2)));
+        on = λ p. turn-report g h f ef Report ek refl es eh ei ew eq em er ed ep e1 (r .0) (r .1) (r .2) (p ∙ (rw (r .2)));
       }

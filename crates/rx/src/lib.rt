@@ -121,6 +121,9 @@ fn read_burst(
                     let k = control::report_member(m, here, forwarded, a, q);
                     s.members[i] = k;
                     control::report_hears(&mut s.hears, here, slot, words, x.word, f.len);
+                    let b = s.queues[i];
+                    let d = control::report_queue(b, here, words, x.word, f.len);
+                    s.queues[i] = d;
                     let pending = control::is_pending(words, x.word, f.len);
                     x = control::report_rx(x, forwarded, slot, pending);
                 }

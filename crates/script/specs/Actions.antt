@@ -13,7 +13,7 @@ use Rattle.script.specs.declared.action.Action.the-variants.{Push, Bad, 
 abbrev pub isEnd : ℕ → Bool
 isEnd w = eqb (w / 268435456) 7 || eqb (w / 268435456) 14 || eqb (w / 268435456) 15
 
--- such a word ends the command that is open: any, a reception, a clock or a level, the panel's dues
+-- such a word ends the command that is open: any, a reception, a clock, a level or settings of data bursts, a posting, the panel's dues
 abbrev pub endsOpen : ℕ → Control → Bool
 endsOpen w c = isEnd w && not (eqb (c .command) 0)
 
@@ -21,7 +21,10 @@ abbrev pub endsBurst : ℕ → Control → Bool
 endsBurst w c = isEnd w && eqb (c .command) 2
 
 abbrev pub endsSetting : ℕ → Control → Bool
-endsSetting w c = isEnd w && (eqb (c .command) 9 || eqb (c .command) 10)
+endsSetting w c = isEnd w && leb 9 (c .command) && leb (c .command) 12
+
+abbrev pub endsPost : ℕ → Control → Bool
+endsPost w c = isEnd w && eqb (c .command) 13
 
 abbrev pub endsFigures : ℕ → Control → Bool
 endsFigures w c = isEnd w && eqb (c .command) 15
@@ -44,7 +47,7 @@ named w c =
     let command = w % 16 in
     let rest = restOf w in
     (leb command 2 && eqb rest 0)
-    || (c .drive && (eqb command 3 || (leb 7 command && leb command 10)) && eqb rest 0)
+    || (c .drive && (eqb command 3 || (leb 7 command && leb command 13)) && eqb rest 0)
     || (c .drive && (eqb command 4 || eqb command 14) && ltb rest 256)
     || (c .drive && (eqb command 5 || eqb command 6))
     || (c .panel && eqb command 15 && asked rest)

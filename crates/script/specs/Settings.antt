@@ -3,7 +3,7 @@ use Prim.Native.Nat.{ℕ, zero, suc, _+_, _*_}
 use mathlib.Core.Bool.{Bool, not, cond, _||_}
 use mathlib.Core.List.{List, [], _∷_}
 use lib.Dec.{eqb, ltb}
-use lib.ListN.{getD}
+use lib.ListN.{getD, replicate}
 use lib.Ieee.{Float}
 use Rattle.bits.specs.Loop.{any}
 use Rattle.net.specs.declared.Settings.{Settings}
@@ -62,10 +62,13 @@ settingsAt p = record {
   prime = not (eqb (getD p 182 0) 0);
   lead = f64At p 183;
   latency = f64At p 191;
+  rooms = replicate 17 0;
+  payloads = replicate 17 0;
 }
 
-abbrev pub givenAt : List ℕ → Given
-givenAt p = record { settings = settingsAt p; call = callAt p }
+-- with the durations and the largest payloads of bursts of data, which have commands of their own (U1); how many frames fit is found at the start
+abbrev pub givenAt : List ℕ → List Float → List ℕ → Given
+givenAt p times payloads = record { settings = settingsAt p; call = callAt p; times = times; payloads = payloads }
 
 -- the cells lent: byte 181, and at most 64
 abbrev pub cellsOf : ℕ → ℕ

@@ -1,6 +1,6 @@
 // What a word asks for.
 ghost use mathlib.Core.Path.{_≡_};
-ghost use Rattle.script.specs.Actions.{isEnd, endsOpen, endsBurst, endsSetting, endsFigures, restOf, slotOf, asked, named, byNumber, commandOf, levelWord, otherWord, actionOf, isShown, timeOf, levelOf, timed, leveled, opened, closed, firstControl};
+ghost use Rattle.script.specs.Actions.{isEnd, endsOpen, endsBurst, endsSetting, endsPost, endsFigures, restOf, slotOf, asked, named, byNumber, commandOf, levelWord, otherWord, actionOf, isShown, timeOf, levelOf, timed, leveled, opened, closed, firstControl};
 
 // What the program holds beside the station. command: the command whose words are being read, 0 for none; words: how many there are so far;
 // cells: how many are lent; now and level: the clock and the level from here on; end: where the gathered text ends. drive: every command
@@ -74,11 +74,18 @@ pub fn ends_burst(w: u32, c: Control) -> bool
     is_end(w) & (c.command == 2)
 }
 
-// The word ends the words of a clock or a level, which ask nothing of the station.
+// The word ends the words of a clock, a level, or durations or payloads of data bursts, which ask nothing of the station.
 pub fn ends_setting(w: u32, c: Control) -> bool
     ensures { λ r. ⌜ r ≡ endsSetting w c ⌝ }
 {
-    is_end(w) & ((c.command == 9) | (c.command == 10))
+    is_end(w) & (9 <= c.command) & (c.command <= 12)
+}
+
+// The word ends the words of a posting.
+pub fn ends_post(w: u32, c: Control) -> bool
+    ensures { λ r. ⌜ r ≡ endsPost w c ⌝ }
+{
+    is_end(w) & (c.command == 13)
 }
 
 // The word ends the figures of the panel's dues.
@@ -109,7 +116,7 @@ fn is_named(w: u32, c: Control) -> bool
     let command = w % 16;
     let rest = w / 16 % 16777216;
     ((command <= 2) & (rest == 0))
-        | (c.drive & ((command == 3) | ((7 <= command) & (command <= 10))) & (rest == 0))
+        | (c.drive & ((command == 3) | ((7 <= command) & (command <= 13))) & (rest == 0))
         | (c.drive & ((command == 4) | (command == 14)) & (rest < 256))
         | (c.drive & ((command == 5) | (command == 6)))
         | (c.panel & (command == 15) & is_asked(rest))

@@ -1,6 +1,6 @@
 // The settings in the bytes of `drive`: 182, or 199 with those of the beacon's timing (prime, lead, latency) behind them.
 ghost use mathlib.Core.Path.{_≡_};
-ghost use Rattle.script.specs.Settings.{hasNan64, hasNan32, hasNan, thresholdsAt, durationsAt, givenAt, lentCells, cellsOf};
+ghost use Rattle.script.specs.Settings.{hasNan64, hasNan32, hasNan, thresholdsAt, durationsAt, settingsAt, givenAt, lentCells, cellsOf};
 use super::number::f32_at;
 use super::number::f64_at;
 use super::number::nan32_at;
@@ -61,15 +61,16 @@ fn durations(p: &[u8; 255]) -> [f64; 4]
     [f64_at(p, 56), f64_at(p, 64), f64_at(p, 72), f64_at(p, 80)]
 }
 
-pub fn given(p: &[u8; 255]) -> Given
-    ensures { λ r. ⌜ r ≡ givenAt (now (p .entry)) ⌝ }
+// The settings in p, but for the call.
+fn settings(p: &[u8; 255]) -> Settings
+    ensures { λ r. ⌜ r ≡ settingsAt (now (p .entry)) ⌝ }
 {
     let four = durations(p);
     let th = thresholds(p);
     let nobody = [32u8; 7];
+    let none = [0u8; 17];
     let name = [p[175], p[176], p[177], p[178], p[179], p[180]];
-    let call = [p[170], p[171], p[172], p[173], p[174]];
-    let g = Settings {
+    Settings {
         turnaround: f64_at(p, 0),
         maxburst: f64_at(p, 8),
         replyslack: f64_at(p, 16),
@@ -89,10 +90,24 @@ pub fn given(p: &[u8; 255]) -> Given
         prime: p[182] != 0,
         lead: f64_at(p, 183),
         latency: f64_at(p, 191),
-    };
+        rooms: none,
+        payloads: none,
+    }
+}
+
+// The settings in p, with the durations and payloads of data bursts that the program holds.
+pub fn given(p: &[u8; 255], times: &[f64; 1088], payloads: &[u8; 17]) -> Given
+    ensures { λ r. ⌜ r ≡ givenAt (now (p .entry)) (now (times .entry)) (now (payloads .entry)) ⌝ }
+{
+    let g = settings(p);
+    let call = [p[170], p[171], p[172], p[173], p[174]];
+    let held = *times;
+    let largest = *payloads;
     Given {
         settings: g,
         call: call,
+        times: held,
+        payloads: largest,
     }
 }
 

@@ -35,7 +35,7 @@ use Rattle.rx.specs.Ending.{Ended, busyWait, idleHeard, idleBy, idleEnd, ackExt
 use Rattle.rx.specs.Reception.{airOf, firstReading, tinyBurst, fullBurst, ncsRx}
 use Rattle.station.specs.Entries.{Outcome, receivedAs, receiveBy, receiveRefusal, receiveOf}
 use Rattle.promise.specs.Promise.{burstBy, burstsIn, TurnEvent, ofBurst, framesBy}
-use Rattle.promise.proofs.Walk.{Allowed, Change, others, turned, over, hears, written, counted, promoted, moved, entered, piece, landed, freed, barred, readings, signsOff, start, chain-keeps}
+use Rattle.promise.proofs.Walk.{Allowed, Change, others, turned, over, hears, written, counted, promoted, moved, entered, queued, posted, piece, landed, freed, barred, readings, signsOff, start, chain-keeps}
 use Rattle.promise.proofs.WalkRx.{member-with, frames-walk, busy-turn}
 use Rattle.promise.proofs.TurnsKeeps.{calm-start, frames-calm}
 use Rattle.promise.proofs.Readings.{frame-runs}
@@ -76,7 +76,7 @@ frame-heard a (heard flags field p) x =
 -- ---- members stay in a reception
 
 abbrev untimed : Allowed
-untimed = record { level = λ x. Unit {0}; turns = ⊥; cells = Unit {0} }
+untimed = record { level = λ x. Unit {0}; turns = ⊥; cells = Unit {0}; host = Unit {0} }
 
 module _ (slot : ℕ) where
   abbrev Here : Station → Type 0
@@ -92,12 +92,14 @@ module _ (slot : ℕ) where
   change-here s t (promoted i snr l here d) h = h
   change-here s t (moved c r l here there able n) h = h
   change-here s t (entered i call v now l free r) h = member-with (s .used) i slot h
+  change-here s t (queued i q l here f) h = h
+  change-here s t (posted a i n l here e) h = h
   change-here s t (piece a store i field p m here f l d) h = h
   change-here s t (landed a store i field p m here f l d) h = h
   change-here s t (freed a cell) h = h
   change-here s t (barred a store i field p here b) h = h
   change-here s t (readings i r l here) h = h
-  change-here s t (signsOff a b i here) h = absurd a
+  change-here s t (signsOff a b c i here) h = absurd a
 
   -- frame j came, is not marked, and as it was read the slot had a member
   pub record KeptAt (f : Heard) (mask j : ℕ) (seen : List ℕ) : Type 0 where

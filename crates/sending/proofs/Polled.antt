@@ -29,7 +29,7 @@ use Rattle.stream.specs.Table.{cellCount}
 use Rattle.station.specs.Entries.{startRefusal}
 use Rattle.signoff.specs.SignOff.{strikeBy, signOff, bereaveAt, bereaveAll, leave, struckOff}
 use Rattle.promise.specs.Promise.{Call, Net, step, started}
-use Rattle.promise.proofs.Walk.{Turned, still, ends, sends, polls, goes, draws, Change, others, turned, over, hears, written, counted, promoted, moved, entered, piece, landed, freed, barred, readings, signsOff, chain-keeps}
+use Rattle.promise.proofs.Walk.{Turned, still, ends, sends, polls, goes, draws, Change, others, turned, over, hears, written, counted, promoted, moved, entered, queued, posted, piece, landed, freed, barred, readings, signsOff, chain-keeps}
 use Rattle.promise.proofs.WalkCalls.{all, step-walk}
 use Rattle.promise.proofs.WalkRx.{member-with}
 use Rattle.promise.proofs.Signs.{sign-beside}
@@ -141,15 +141,17 @@ change-polled s t (promoted j snr l here d) p = record { turn = p .turn; list = 
 change-polled s t (moved c r l here there able n) p = record { turn = p .turn; list = p .list }
 change-polled s t (entered c call v now l free r) p =
     record { turn = turn-with (s .used) c (s .wait .turn) (p .turn); list = λ i h. member-with (s .used) c i (p .list i h) }
+change-polled s t (queued i q l here f) p = record { turn = p .turn; list = p .list }
+change-polled s t (posted a i n l here e) p = record { turn = p .turn; list = p .list }
 change-polled s t (piece a store slot field b m here f l d) p = record { turn = p .turn; list = p .list }
 change-polled s t (landed a store slot field b m here f l d) p = record { turn = p .turn; list = p .list }
 change-polled s t (freed a cell) p = record { turn = p .turn; list = p .list }
 change-polled s t (barred a store slot field b here z) p = record { turn = p .turn; list = p .list }
 change-polled s t (readings i r l here) p = record { turn = p .turn; list = p .list }
-change-polled s t (signsOff a b slot here) p = sign-polled s slot p
+change-polled s t (signsOff a b c slot here) p = sign-polled s slot p
 
 pub step-polled : (c : Call) (n : Net) → Polled (n .station) → Polled (step c n .station)
-step-polled c n p = chain-keeps Polled change-polled (step-walk all tt tt c n (λ words snr now lent room numbers e. tt)) p
+step-polled c n p = chain-keeps Polled change-polled (step-walk all tt tt tt c n (λ words snr now lent room numbers e. tt)) p
 
 new-polled : (g : Settings) (count : ℕ) → Polled (newStation g count)
 unfolding newStation

@@ -38,7 +38,10 @@ use Rattle.frames.specs.Frames.{readFrame, frameStep, readFrames}
 use Rattle.rx.specs.Ending.{ackExtra, replyEnd}
 use Rattle.rx.specs.Reception.{ncsRx}
 use Rattle.config.specs.declared.Given.{Given}
-use Rattle.config.specs.Checks.{settingsOk, settingsOf, thresholdsOk}
+use Rattle.config.specs.Checks.{settingsOk, settingsOf, thresholdsOk, payloadsOk}
+use Rattle.config.proofs.Laws.{data-alike}
+use Rattle.queue.specs.Queues.{isDue}
+use Rattle.bursts.specs.Direct.{directedTo}
 use Rattle.station.specs.Entries.{startRefusal, admitRefusal, admitOf, receiveRefusal, receiveOf, nextRefusal, nextOf, sentOf, readRefusal, cellRefusal, readingOf}
 use Rattle.signoff.specs.SignOff.{bereaveAt, bereaveAll, clearAt, clearAll, unhearAt, unhearAll, signOff}
 use Rattle.station.specs.SignOff.{signOffRefusal, signOffOf}
@@ -62,13 +65,15 @@ far = fin false 1000 (pos 0)
 abbrev plain : Given
 plain =
     record {
-      settings = record { turnaround = nil; maxburst = nil; replyslack = nil; detect = nil; beaconevery = far; quickbeacon = far; idleroundgap = nil; durations = replicate 4 nil; thresholds = replicate 17 nil; margin = nil; relaysnr = nil; misslimit = 3; beaconlevel = 0; windowslots = 0; call = replicate 7 32; name = replicate 6 32; prime = false; lead = nil; latency = nil };
+      settings = record { turnaround = nil; maxburst = nil; replyslack = nil; detect = nil; beaconevery = far; quickbeacon = far; idleroundgap = nil; durations = replicate 4 nil; thresholds = replicate 17 nil; margin = nil; relaysnr = nil; misslimit = 3; beaconlevel = 0; windowslots = 0; call = replicate 7 32; name = replicate 6 32; prime = false; lead = nil; latency = nil; rooms = replicate 17 0; payloads = replicate 17 0 };
       call = replicate 5 0;
+      times = replicate 1088 nil;
+      payloads = replicate 17 1;
     }
 
 plain-starts : startRefusal plain 6400 ≡ 0
-unfolding startRefusal settingsOk thresholdsOk every size units round sum add mul lt le ofInt ofBits
-plain-starts = refl
+unfolding startRefusal settingsOk thresholdsOk payloadsOk every size units round sum add mul lt le ofInt ofBits
+plain-starts = rw (data-alike nil refl)
 
 abbrev bytes : List ℕ
 bytes = replicate 6400 7
@@ -77,7 +82,7 @@ abbrev hi : List ℕ
 hi = 104 ∷ 105 ∷ []
 
 abbrev next-call : Call
-next-call = decision nil 8192
+next-call = decision nil (replicate 126976 0) 8192
 
 abbrev sent-call : Call
 sent-call = sending nil
@@ -127,7 +132,7 @@ pub record HiRun : Type 0 where
       ≡ record { message = record { slot = 0; number = 0 }; event = record { slot = 0; cell = 0; number = 0 }; bytes = 104 ∷ 105 ∷ [] } ∷ []
 
 pub hi-run : HiRun
-unfolding after size units round sum add mul lt le ofInt ofBits first fold every any hasBit withBit withoutBit bothOf eitherOf minusOf lowestBit lowestFree slotsOf stop levelBelow totalLt digit char trimStart trimEnd unpacked shifted widened widenedAt wordOk payloadOk unpack payload frameOf itemAt framesOf headOk parse pack framesWords chunksOf seek next grow settle store await cells.accept showsOf slideOf markOf ownCell putOf accept heardAt relaySrcFor turnOver isMember newStation onTxDone seatOf findCall leadsTo pollBurst acksBurst beaconRows beaconPayload beyond beaconOf tellAll listSent rxListBurst triedOf sourceFor promoteAt promoteAll moveAt moveAll rerouteOf maskWhere rowsOn leastReach leastDirect pollStage listFor drawStage rerouteStage roundEnd actOf windowStage againStage dueOf ncsNext pieceFrame readFrame frameStep readFrames replyEnd ncsRx admitRefusal admitOf receiveRefusal receiveOf nextRefusal nextOf sentOf readRefusal cellRefusal readingOf cut-up recut picked swept sweep sweep-out fresh fresh-out lens take-out retain remove acked result item3.step cover alsoHanded allBelow bookFrame bookFrames eventsIn acksFrom doneBy runAfter bodiesIn posted stepped runs.step
+unfolding after size units round sum add mul lt le ofInt ofBits first fold every any hasBit withBit withoutBit bothOf eitherOf minusOf lowestBit lowestFree slotsOf stop levelBelow totalLt digit char trimStart trimEnd unpacked shifted widened widenedAt wordOk payloadOk unpack payload frameOf itemAt framesOf headOk parse pack framesWords chunksOf seek next grow settle store await cells.accept showsOf slideOf markOf ownCell putOf accept heardAt relaySrcFor turnOver isMember newStation onTxDone seatOf findCall leadsTo pollBurst acksBurst beaconRows beaconPayload beyond beaconOf tellAll listSent rxListBurst triedOf sourceFor promoteAt promoteAll moveAt moveAll rerouteOf maskWhere rowsOn leastReach leastDirect pollStage directedTo isDue listFor drawStage rerouteStage roundEnd actOf windowStage againStage dueOf ncsNext pieceFrame readFrame frameStep readFrames replyEnd ncsRx admitRefusal admitOf receiveRefusal receiveOf nextRefusal nextOf sentOf readRefusal cellRefusal readingOf cut-up recut picked swept sweep sweep-out fresh fresh-out lens take-out retain remove acked result item3.step cover alsoHanded allBelow bookFrame bookFrames eventsIn acksFrom doneBy runAfter bodiesIn posted stepped runs.step
 hi-run = record { posts = refl; holds = refl; lands = refl }
 
 -- ---- premises that are needed
@@ -146,7 +151,7 @@ pub record Mistaken : Type 0 where
 
 -- so an acknowledgement has to be taken for the burst it was made for
 pub mistaken-run : Mistaken
-unfolding after size units round sum add mul lt le ofInt ofBits first fold every any hasBit withBit withoutBit bothOf eitherOf minusOf lowestBit lowestFree slotsOf stop levelBelow totalLt digit char trimStart trimEnd unpacked shifted widened widenedAt wordOk payloadOk unpack payload frameOf itemAt framesOf headOk parse pack framesWords chunksOf seek next grow settle store await cells.accept showsOf slideOf markOf ownCell putOf accept heardAt relaySrcFor turnOver isMember newStation onTxDone seatOf findCall leadsTo pollBurst acksBurst beaconRows beaconPayload beyond beaconOf tellAll listSent rxListBurst triedOf sourceFor promoteAt promoteAll moveAt moveAll rerouteOf maskWhere rowsOn leastReach leastDirect pollStage listFor drawStage rerouteStage roundEnd actOf windowStage againStage dueOf ncsNext pieceFrame readFrame frameStep readFrames replyEnd ncsRx admitRefusal admitOf receiveRefusal receiveOf nextRefusal nextOf sentOf readRefusal cellRefusal readingOf cut-up recut picked swept sweep sweep-out fresh fresh-out lens take-out retain remove acked result item3.step cover alsoHanded allBelow bookFrame bookFrames eventsIn acksFrom doneBy runAfter bodiesIn posted stepped runs.step
+unfolding after size units round sum add mul lt le ofInt ofBits first fold every any hasBit withBit withoutBit bothOf eitherOf minusOf lowestBit lowestFree slotsOf stop levelBelow totalLt digit char trimStart trimEnd unpacked shifted widened widenedAt wordOk payloadOk unpack payload frameOf itemAt framesOf headOk parse pack framesWords chunksOf seek next grow settle store await cells.accept showsOf slideOf markOf ownCell putOf accept heardAt relaySrcFor turnOver isMember newStation onTxDone seatOf findCall leadsTo pollBurst acksBurst beaconRows beaconPayload beyond beaconOf tellAll listSent rxListBurst triedOf sourceFor promoteAt promoteAll moveAt moveAll rerouteOf maskWhere rowsOn leastReach leastDirect pollStage directedTo isDue listFor drawStage rerouteStage roundEnd actOf windowStage againStage dueOf ncsNext pieceFrame readFrame frameStep readFrames replyEnd ncsRx admitRefusal admitOf receiveRefusal receiveOf nextRefusal nextOf sentOf readRefusal cellRefusal readingOf cut-up recut picked swept sweep sweep-out fresh fresh-out lens take-out retain remove acked result item3.step cover alsoHanded allBelow bookFrame bookFrames eventsIn acksFrom doneBy runAfter bodiesIn posted stepped runs.step
 mistaken-run = record { holds = refl; handed = refl }
 
 -- the boat signs off as its message has landed: the book forgets it, and then the sending end lets it go
@@ -167,7 +172,7 @@ pub record Gone : Type 0 where
 
 -- so the boat may not sign off
 pub gone-run : Gone
-unfolding after signOffRefusal signOffOf signOff bereaveAt bereaveAll clearAll clearAt unhearAll unhearAt bookEnds size units round sum add mul lt le ofInt ofBits first fold every any hasBit withBit withoutBit bothOf eitherOf minusOf lowestBit lowestFree slotsOf stop levelBelow totalLt digit char trimStart trimEnd unpacked shifted widened widenedAt wordOk payloadOk unpack payload frameOf itemAt framesOf headOk parse pack framesWords chunksOf seek next grow settle store await cells.accept showsOf slideOf markOf ownCell putOf accept heardAt relaySrcFor turnOver isMember newStation onTxDone seatOf findCall leadsTo pollBurst acksBurst beaconRows beaconPayload beyond beaconOf tellAll listSent rxListBurst triedOf sourceFor promoteAt promoteAll moveAt moveAll rerouteOf maskWhere rowsOn leastReach leastDirect pollStage listFor drawStage rerouteStage roundEnd actOf windowStage againStage dueOf ncsNext pieceFrame readFrame frameStep readFrames replyEnd ncsRx admitRefusal admitOf receiveRefusal receiveOf nextRefusal nextOf sentOf readRefusal cellRefusal readingOf cut-up recut picked swept sweep sweep-out fresh fresh-out lens take-out retain remove acked result item3.step cover alsoHanded allBelow bookFrame bookFrames eventsIn acksFrom doneBy runAfter bodiesIn posted stepped runs.step
+unfolding after signOffRefusal signOffOf signOff bereaveAt bereaveAll clearAll clearAt unhearAll unhearAt bookEnds size units round sum add mul lt le ofInt ofBits first fold every any hasBit withBit withoutBit bothOf eitherOf minusOf lowestBit lowestFree slotsOf stop levelBelow totalLt digit char trimStart trimEnd unpacked shifted widened widenedAt wordOk payloadOk unpack payload frameOf itemAt framesOf headOk parse pack framesWords chunksOf seek next grow settle store await cells.accept showsOf slideOf markOf ownCell putOf accept heardAt relaySrcFor turnOver isMember newStation onTxDone seatOf findCall leadsTo pollBurst acksBurst beaconRows beaconPayload beyond beaconOf tellAll listSent rxListBurst triedOf sourceFor promoteAt promoteAll moveAt moveAll rerouteOf maskWhere rowsOn leastReach leastDirect pollStage directedTo isDue listFor drawStage rerouteStage roundEnd actOf windowStage againStage dueOf ncsNext pieceFrame readFrame frameStep readFrames replyEnd ncsRx admitRefusal admitOf receiveRefusal receiveOf nextRefusal nextOf sentOf readRefusal cellRefusal readingOf cut-up recut picked swept sweep sweep-out fresh fresh-out lens take-out retain remove acked result item3.step cover alsoHanded allBelow bookFrame bookFrames eventsIn acksFrom doneBy runAfter bodiesIn posted stepped runs.step
 gone-run = record { holds = refl; handed = refl }
 
 some-is : (a b : ℕ) → some a ≡ some b → a ≡ b
@@ -188,7 +193,7 @@ one-case P a (suc i) j q = not-some j q
 
 -- the premises hold: the frames of each reception are pieces sent before, and each acknowledgement is taken for the burst of that reception
 pub hi-ok : StepsOk 0 M steps begin
-unfolding StepsOk size units round sum add mul lt le ofInt ofBits first fold every any hasBit withBit withoutBit bothOf eitherOf minusOf lowestBit lowestFree slotsOf stop levelBelow totalLt digit char trimStart trimEnd unpacked shifted widened widenedAt wordOk payloadOk unpack payload frameOf itemAt framesOf headOk parse pack framesWords chunksOf seek next grow settle store await cells.accept showsOf slideOf markOf ownCell putOf accept heardAt relaySrcFor turnOver isMember newStation onTxDone seatOf findCall leadsTo pollBurst acksBurst beaconRows beaconPayload beyond beaconOf tellAll listSent rxListBurst triedOf sourceFor promoteAt promoteAll moveAt moveAll rerouteOf maskWhere rowsOn leastReach leastDirect pollStage listFor drawStage rerouteStage roundEnd actOf windowStage againStage dueOf ncsNext pieceFrame readFrame frameStep readFrames replyEnd ncsRx admitRefusal admitOf receiveRefusal receiveOf nextRefusal nextOf sentOf readRefusal cellRefusal readingOf cut-up recut picked swept sweep sweep-out fresh fresh-out lens take-out retain remove acked result item3.step cover alsoHanded allBelow bookFrame bookFrames eventsIn acksFrom doneBy runAfter bodiesIn posted stepped runs.step
+unfolding StepsOk size units round sum add mul lt le ofInt ofBits first fold every any hasBit withBit withoutBit bothOf eitherOf minusOf lowestBit lowestFree slotsOf stop levelBelow totalLt digit char trimStart trimEnd unpacked shifted widened widenedAt wordOk payloadOk unpack payload frameOf itemAt framesOf headOk parse pack framesWords chunksOf seek next grow settle store await cells.accept showsOf slideOf markOf ownCell putOf accept heardAt relaySrcFor turnOver isMember newStation onTxDone seatOf findCall leadsTo pollBurst acksBurst beaconRows beaconPayload beyond beaconOf tellAll listSent rxListBurst triedOf sourceFor promoteAt promoteAll moveAt moveAll rerouteOf maskWhere rowsOn leastReach leastDirect pollStage directedTo isDue listFor drawStage rerouteStage roundEnd actOf windowStage againStage dueOf ncsNext pieceFrame readFrame frameStep readFrames replyEnd ncsRx admitRefusal admitOf receiveRefusal receiveOf nextRefusal nextOf sentOf readRefusal cellRefusal readingOf cut-up recut picked swept sweep sweep-out fresh fresh-out lens take-out retain remove acked result item3.step cover alsoHanded allBelow bookFrame bookFrames eventsIn acksFrom doneBy runAfter bodiesIn posted stepped runs.step
 hi-ok = (
   tt,
   (
@@ -268,12 +273,12 @@ pub record NoisyRun : Type 0 where
       ∷ []
 
 pub noisy-run : NoisyRun
-unfolding after size units round sum add mul lt le ofInt ofBits first fold every any hasBit withBit withoutBit bothOf eitherOf minusOf lowestBit lowestFree slotsOf stop levelBelow totalLt digit char trimStart trimEnd unpacked shifted widened widenedAt wordOk payloadOk unpack payload frameOf itemAt framesOf headOk parse pack framesWords chunksOf seek next grow settle store await cells.accept showsOf slideOf markOf ownCell putOf accept heardAt relaySrcFor turnOver isMember newStation onTxDone seatOf findCall leadsTo pollBurst acksBurst beaconRows beaconPayload beyond beaconOf tellAll listSent rxListBurst triedOf sourceFor promoteAt promoteAll moveAt moveAll rerouteOf maskWhere rowsOn leastReach leastDirect pollStage listFor drawStage rerouteStage roundEnd actOf windowStage againStage dueOf ncsNext pieceFrame readFrame frameStep readFrames replyEnd ncsRx admitRefusal admitOf receiveRefusal receiveOf nextRefusal nextOf sentOf readRefusal cellRefusal readingOf cut-up recut picked swept sweep sweep-out fresh fresh-out lens take-out retain remove acked result item3.step cover alsoHanded allBelow bookFrame bookFrames eventsIn acksFrom doneBy runAfter bodiesIn posted stepped runs.step
+unfolding after size units round sum add mul lt le ofInt ofBits first fold every any hasBit withBit withoutBit bothOf eitherOf minusOf lowestBit lowestFree slotsOf stop levelBelow totalLt digit char trimStart trimEnd unpacked shifted widened widenedAt wordOk payloadOk unpack payload frameOf itemAt framesOf headOk parse pack framesWords chunksOf seek next grow settle store await cells.accept showsOf slideOf markOf ownCell putOf accept heardAt relaySrcFor turnOver isMember newStation onTxDone seatOf findCall leadsTo pollBurst acksBurst beaconRows beaconPayload beyond beaconOf tellAll listSent rxListBurst triedOf sourceFor promoteAt promoteAll moveAt moveAll rerouteOf maskWhere rowsOn leastReach leastDirect pollStage directedTo isDue listFor drawStage rerouteStage roundEnd actOf windowStage againStage dueOf ncsNext pieceFrame readFrame frameStep readFrames replyEnd ncsRx admitRefusal admitOf receiveRefusal receiveOf nextRefusal nextOf sentOf readRefusal cellRefusal readingOf cut-up recut picked swept sweep sweep-out fresh fresh-out lens take-out retain remove acked result item3.step cover alsoHanded allBelow bookFrame bookFrames eventsIn acksFrom doneBy runAfter bodiesIn posted stepped runs.step
 noisy-run = record { posts = refl; holds = refl; lands = refl }
 
 -- and the premises hold, which ask nothing of B's pieces
 pub noisy-ok : StepsOk 0 M noisy room
-unfolding StepsOk size units round sum add mul lt le ofInt ofBits first fold every any hasBit withBit withoutBit bothOf eitherOf minusOf lowestBit lowestFree slotsOf stop levelBelow totalLt digit char trimStart trimEnd unpacked shifted widened widenedAt wordOk payloadOk unpack payload frameOf itemAt framesOf headOk parse pack framesWords chunksOf seek next grow settle store await cells.accept showsOf slideOf markOf ownCell putOf accept heardAt relaySrcFor turnOver isMember newStation onTxDone seatOf findCall leadsTo pollBurst acksBurst beaconRows beaconPayload beyond beaconOf tellAll listSent rxListBurst triedOf sourceFor promoteAt promoteAll moveAt moveAll rerouteOf maskWhere rowsOn leastReach leastDirect pollStage listFor drawStage rerouteStage roundEnd actOf windowStage againStage dueOf ncsNext pieceFrame readFrame frameStep readFrames replyEnd ncsRx admitRefusal admitOf receiveRefusal receiveOf nextRefusal nextOf sentOf readRefusal cellRefusal readingOf cut-up recut picked swept sweep sweep-out fresh fresh-out lens take-out retain remove acked result item3.step cover alsoHanded allBelow bookFrame bookFrames eventsIn acksFrom doneBy runAfter bodiesIn posted stepped runs.step
+unfolding StepsOk size units round sum add mul lt le ofInt ofBits first fold every any hasBit withBit withoutBit bothOf eitherOf minusOf lowestBit lowestFree slotsOf stop levelBelow totalLt digit char trimStart trimEnd unpacked shifted widened widenedAt wordOk payloadOk unpack payload frameOf itemAt framesOf headOk parse pack framesWords chunksOf seek next grow settle store await cells.accept showsOf slideOf markOf ownCell putOf accept heardAt relaySrcFor turnOver isMember newStation onTxDone seatOf findCall leadsTo pollBurst acksBurst beaconRows beaconPayload beyond beaconOf tellAll listSent rxListBurst triedOf sourceFor promoteAt promoteAll moveAt moveAll rerouteOf maskWhere rowsOn leastReach leastDirect pollStage directedTo isDue listFor drawStage rerouteStage roundEnd actOf windowStage againStage dueOf ncsNext pieceFrame readFrame frameStep readFrames replyEnd ncsRx admitRefusal admitOf receiveRefusal receiveOf nextRefusal nextOf sentOf readRefusal cellRefusal readingOf cut-up recut picked swept sweep sweep-out fresh fresh-out lens take-out retain remove acked result item3.step cover alsoHanded allBelow bookFrame bookFrames eventsIn acksFrom doneBy runAfter bodiesIn posted stepped runs.step
 noisy-ok = (
   tt,
   (

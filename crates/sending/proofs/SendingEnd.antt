@@ -24,7 +24,7 @@ use Rattle.outbox.specs.Bursts.{msg-field}
 use Rattle.outbox.specs.Senders.{postRefusal, takeRefusal, memoryRefusal, bothRefusal}
 use Rattle.outbox.proofs.Bursting.{take-open}
 use Rattle.promise.specs.Promise as item3
-use Rattle.promise.specs.Promise.{Call, admission, reception, decision, sending, closing, reading, freeing, charging, signing, asking, handed, lentTo, Net, result, InBook, brings, reads, frees, ends, changesNothing, inBook, outcome, isRefused, Answers, answersOf, Stays, sentNow, Ledger, Book, Entered, unchanged, emptyBook, Message, Event2, enter, enterAll, bookFrames, bookEnds, bookDone, bookCall, framesBy, isBoats, isWatched, named, PieceOk, FrameOk, FramesOk, CallOk, Pairs, ReadsAs, AtCall, started}
+use Rattle.promise.specs.Promise.{Call, admission, reception, decision, sending, closing, reading, freeing, charging, signing, asking, handed, lentTo, Net, result, InBook, brings, reads, frees, ends, changesNothing, inBook, outcome, isRefused, Answers, answersOf, Stays, sentNow, Ledger, Book, Entered, unchanged, emptyBook, Message, Event2, enter, enterAll, bookFrames, bookEnds, bookDone, bookCall, framesBy, isBoats, isWatched, named, PieceOk, FrameOk, FramesOk, CallOk, Pairs, ReadsAs, AtCall, started, posting, allBelow}
 use Rattle.promise.proofs.Ledgers.{all-of}
 use Rattle.promise.proofs.Messages.{Tied, started-tied, StayGood, call-good}
 use Rattle.promise.proofs.Readings.{chain-count}
@@ -85,7 +85,7 @@ lands count (e ∷ es) (x ∷ ms) f m n p (inr a) =
 -- ---- one call of the station, in the book
 
 step-count : (c : Call) (n : Net) → item3.step c n .station .count ≡ n .station .count
-step-count c n = chain-count (step-walk all tt tt c n (λ words snr now lent room numbers e. tt))
+step-count c n = chain-count (step-walk all tt tt tt c n (λ words snr now lent room numbers e. tt))
 
 -- only a reception hands messages over
 reception-pairs : (N : item3.Sent) (n : Net) (b : Book) (a : Answers) (k : InBook) (t : Bool) (m : Message)
@@ -236,7 +236,8 @@ module _ (slot : ℕ) (low : slot < 62) (bodies : List (List ℕ)) (small : (k :
   new-acked : (N : item3.Sent) → N .watched slot ≡ true → (c : Call) (n : Net) (b : Book) → Polled (n .station) → NewAcked N c n b
   unfolding result
   new-acked N o (admission packed relay now room) n b p r h = absurd h
-  new-acked N o (decision now room) n b p r h = absurd h
+  new-acked N o (decision now queue room) n b p r h = absurd h
+  new-acked N o (posting to message queue) n b p r h = absurd h
   new-acked N o (sending now) n b p r h = absurd h
   new-acked N o (closing count) n b p r h = absurd h
   new-acked N o (reading cell lent) n b p r h = absurd h

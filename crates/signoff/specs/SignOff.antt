@@ -12,6 +12,7 @@ use Rattle.level.specs.Consts.{nought}
 use Rattle.stream.specs.Table.{Table, freedTable}
 use Rattle.recent.specs.declared.Recent.{Recent}
 use Rattle.recent.specs.Readings.{empty}
+use Rattle.queue.specs.Queues.{emptyQueue}
 use Rattle.roster.specs.declared.Member.{Member}
 use Rattle.roster.specs.Members.{newMember, withLinks, withVia, withMissed, withMark}
 use Rattle.net.specs.declared.Station.{Station}
@@ -20,7 +21,7 @@ use Rattle.net.specs.declared.Reply.{Reply}
 use Rattle.net.specs.declared.Turn.{Turn}
 use Rattle.net.specs.declared.Turn.the-variants.{Idle, Sending, Waiting}
 use Rattle.net.specs.declared.Wait.{Wait}
-use Rattle.net.specs.State.{withWait, withRound, withUsed, withHears, withTable, tableOf, withList, withToack, withTreenews, withRecent, recentAt, emptied}
+use Rattle.net.specs.State.{withWait, withRound, withUsed, withHears, withTable, tableOf, withList, withToack, withTreenews, withRecent, recentAt, emptied, withQueues}
 use Rattle.net.specs.Net.{blankCall, idleWait, waitOf}
 use Rattle.bursts.specs.Rows.{seated}
 use Rattle.bursts.specs.Reroute.{withSeated}
@@ -30,9 +31,9 @@ use Rattle.bursts.specs.Reroute.{withSeated}
 abbrev pub vacant : Member
 vacant = newMember blankCall 63 nought
 
--- its readings go with it (U13), and its barred numbers (U4), which are in the record
+-- its readings go with it (U13), and its barred numbers (U4), which are in the record; 'its directed queue': nothing is posted to the slot's next holder (U1)
 abbrev pub leave : ℕ → Station → Station
-leave slot s = withUsed (emptied (withSeated s slot vacant) slot) (withoutBit (s .used) slot)
+leave slot s = withQueues (withUsed (emptied (withSeated s slot vacant) slot) (withoutBit (s .used) slot)) (set (s .queues) slot emptyQueue)
 
 -- ---- the other boats
 

@@ -191,5 +191,7 @@ pub fn sign_off(mut s: Station, slot: u8) -> Station
     let silent = roster::tally(s.totals.silent, limit <= m.missed, limit <= k.missed);
     s.totals.silent = silent;
     s.used = bits::without(s.used, i);
+    let q = queue::empty();
+    s.queues[i] = q;
     bereave_all(s, slot)
 }

@@ -5,7 +5,7 @@ use mathlib.Core.List.{List, []}
 use Prim.Native.Nat.{ℕ, _+_, _*_, _/_, _≤_, _<_}
 use native.Mathlib.Omega.{arith}
 use lib.Dec.{eqb, ltb, leb}
-use borrow.Author.Tests.{leb-false, ltb-false, eqb-true, le-ltb}
+use borrow.Author.Tests.{leb-false, ltb-false, eqb-true, le-ltb, ne-eqb}
 use lib.Ieee.{Float}
 use lib.ListN.{length, drop}
 use lib.Seq.{sets}
@@ -19,14 +19,17 @@ use Rattle.bits.proofs.Lists.{or-false}
 use Rattle.stream.specs.Table.{freedTable}
 use Rattle.net.specs.declared.Station.{Station}
 use Rattle.net.specs.declared.Round.{Round}
-use Rattle.net.specs.State.{withRound, tableOf, withTable}
-use Rattle.net.specs.Net.{Said, said, Did}
+use Rattle.queue.specs.declared.Queue.{Queue}
+use Rattle.queue.specs.Queues.{spaceRefusal}
+use Rattle.net.specs.State.{withRound, queueAt, withQueue, tableOf, withTable}
+use Rattle.net.proofs.Laws.{queue-again}
+use Rattle.net.specs.Net.{isMember, Said, said, Did}
 use Rattle.station.specs.declared.Answer.{Answer}
 use Rattle.station.specs.declared.Answer.the-variants.{Refused, Words}
 use Rattle.rx.specs.Reception.{RxDid, rxBy, rxOf, unheard}
 use Rattle.station.specs.declared.Answered.{Answered}
 use Rattle.station.specs.declared.Heard.{Heard}
-use Rattle.station.specs.Entries.{answered, unless, done, refused, readRefusal, cellRefusal, receiveRefusal, receiveCheck, framesOr65, check1, check2, check3, receiveBy, receiveOf, heardOf}
+use Rattle.station.specs.Entries.{answered, unless, done, refused, readRefusal, postRefusal, cellRefusal, receiveRefusal, receiveCheck, framesOr65, check1, check2, check3, receiveBy, receiveOf, heardOf}
 
 -- a call that is refused by n unless n is 0: the parts of its answer go by the same test
 pub answered-unless : (n : ℕ) (s t : Station) (store store′ words : List ℕ) (room : ℕ)
@@ -63,7 +66,7 @@ round-if n s r = go (eqb n 0)
 
 abbrev freedBy : Bool → Station → ℕ → Station
 freedBy b s cell =
-    record { settings = s .settings; wait = s .wait; round = s .round; totals = s .totals; used = s .used; busy = cond b (withoutBit (s .busy) cell) (s .busy); landed = cond b (withoutBit (s .landed) cell) (s .landed); count = s .count; members = s .members; recent = s .recent; hears = s .hears; owners = s .owners; cells = s .cells }
+    record { settings = s .settings; wait = s .wait; round = s .round; totals = s .totals; used = s .used; busy = cond b (withoutBit (s .busy) cell) (s .busy); landed = cond b (withoutBit (s .landed) cell) (s .landed); count = s .count; members = s .members; recent = s .recent; queues = s .queues; hears = s .hears; owners = s .owners; cells = s .cells }
 
 pub freed-if : (n : ℕ) (s : Station) (cell : ℕ)
     → _≡_ {A = Answered} (record { station = freedBy (eqb n 0) s cell; answer = cond (eqb n 0) (Words 0) (Refused n) })
@@ -214,3 +217,46 @@ unfolding receiveOf
 receive-all s ws snr now store l n num f r x =
     rw (← receive-no (length l) (length store) (s .count) now snr ws n num f r)
     (receive-with num (parse ws) s snr now store (receive-bad (length l) (length store) (s .count) now snr ws n num f r) x)
+
+-- ### Posting
+
+-- what a posting that is not refused is: the queue is long enough, the slot is one, the message fits
+pub record Posts (size slot : ℕ) (q : Queue) (n : ℕ) : Type 0 where
+  pub long : 126976 ≤ size
+  pub slot-lt : slot < 62
+  pub message : n ≤ 2046
+  pub total : q .posted + n + 2 ≤ 16777215
+
+pub post-ok : (size used slot : ℕ) (q : Queue) (n : ℕ) → postRefusal size used slot q n ≡ 0 → Posts size slot q n
+unfolding postRefusal spaceRefusal
+post-ok size used slot q n e =
+    by (ltb size 126976) (ltb 61 slot) (isMember used slot) (ltb 2046 n) (ltb (q .kept + 2048) (q .posted + n + 2)) (ltb 16777215 (q .posted + n + 2)) refl refl refl refl e
+  where
+    by : (a b c d f g : Bool) → ltb size 126976 ≡ a → ltb 61 slot ≡ b → ltb 2046 n ≡ d → ltb 16777215 (q .posted + n + 2) ≡ g
+        → _≡_ {A = ℕ} (cond a 7 (cond b 8 (cond c (cond d 24 (cond f 24 (cond g 25 0))) 21))) 0 → Posts size slot q n
+    by true b c d f g ea eb ed eg z = absurd (omega arith)
+    by false true c d f g ea eb ed eg z = absurd (omega arith)
+    by false false true true f g ea eb ed eg z = absurd (omega arith)
+    by false false true false true g ea eb ed eg z = absurd (omega arith)
+    by false false true false false true ea eb ed eg z = absurd (omega arith)
+    by false false true false false false ea eb ed eg z =
+        let h = ltb-false 61 slot eb in
+        record { long = ltb-false size 126976 ea; slot-lt = omega arith; message = ltb-false 2046 n ed; total = ltb-false 16777215 (q .posted + n + 2) eg }
+    by false false false d f g ea eb ed eg z = absurd (omega arith)
+
+pub post-if : (n : ℕ) (s : Station) (slot : ℕ) (q : Queue)
+    → _≡_ {A = Answered} (record { station = withQueue s slot (cond (eqb n 0) q (queueAt s slot)); answer = cond (eqb n 0) (Words 0) (Refused n) })
+    (record { station = cond (eqb n 0) (withQueue s slot q) s; answer = cond (eqb n 0) (Words 0) (Refused n) })
+post-if n s slot q = go (eqb n 0)
+  where
+    go : (b : Bool) → _≡_ {A = Answered} (record { station = withQueue s slot (cond b q (queueAt s slot)); answer = cond b (Words 0) (Refused n) })
+        (record { station = cond b (withQueue s slot q) s; answer = cond b (Words 0) (Refused n) })
+    go true = refl
+    go false = ap (λ (t : Station). record { station = t; answer = Refused n }) (queue-again s slot)
+
+-- the queue that it leaves
+pub post-yes : (n : ℕ) (s t : Station) (queue put : List ℕ) → n ≡ 0 → put ≡ unless n s queue (done t put []) .store
+post-yes n s t queue put e = rw e
+
+pub post-no : (n : ℕ) (s t : Station) (queue put : List ℕ) → (n ≡ 0 → ⊥) → queue ≡ unless n s queue (done t put []) .store
+post-no n s t queue put h = rw (ne-eqb n 0 h)

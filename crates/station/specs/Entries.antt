@@ -1,6 +1,6 @@
 -- The entry points, whole: document 01's checks in its order (4, 7, 1, 2, 3, 5, 6, 8, 9, then 21, 22, 23), and what a call that none of them refuses does.
 -- A refusal is its number, and 0 is none; a refused call gives its number alone, and station, store and output keep every value.
-use Prim.Native.Nat.{ℕ, _/_}
+use Prim.Native.Nat.{ℕ, _+_, _/_}
 use mathlib.Core.Bool.{Bool, true, false, not, cond, _&&_, _||_}
 use mathlib.Core.List.{List, []}
 use lib.Dec.{eqb, ltb, leb}
@@ -12,10 +12,13 @@ use Rattle.wire.specs.Call.{unpackCall}
 use Rattle.words.specs.declared.Shape.{Shape}
 use Rattle.words.specs.declared.Shape.the-variants.{Malformed, Frames}
 use Rattle.words.specs.Words.{Burst, Parsed, malformed, parsed, parse}
+use Rattle.inbox.specs.Messages.{framed}
 use Rattle.inbox.specs.Stores.{messageOf}
+use Rattle.queue.specs.declared.Queue.{Queue}
+use Rattle.queue.specs.Queues.{spaceRefusal, postedTo, putBytes}
 use Rattle.stream.specs.Table.{freedTable, cellCount}
 use Rattle.net.specs.declared.Station.{Station}
-use Rattle.net.specs.State.{withRound, withClosing, tableOf, withTable}
+use Rattle.net.specs.State.{queueAt, withQueue, withRound, withClosing, tableOf, withTable}
 use Rattle.net.specs.Net.{isMember, newStation, onTxDone, Said}
 use Rattle.out.specs.Encode.{after}
 use Rattle.station.specs.declared.Answer.{Answer}
@@ -28,7 +31,7 @@ use Rattle.rx.specs.Reception.{Received, ncsRx}
 use Rattle.config.specs.declared.Given.{Given}
 use Rattle.config.specs.Checks.{settingsOk, settingsOf}
 
--- What a call leaves: its refusal, the station, the store that it was lent, the words that it wrote, and of a reception the pieces not kept.
+-- What a call leaves: its refusal, the station, the store or the directed queue that it was lent, the words that it wrote, and of a reception the pieces not kept.
 pub record Outcome : Type 0 where
   pub refusal : ℕ
   pub station : Station
@@ -150,14 +153,34 @@ unfoldable pub receiveOf : Station → List ℕ → Float → Float → List ℕ
 receiveOf s words snr now store room =
     unless (receiveRefusal room (length store) (s .count) now snr (parse words)) s store (receiveBy (parse words) s snr now store)
 
--- ---- next decision: 4, 1; end of a sending: 1; closing: 9 count above 15
+-- ---- next decision: 4, 7 (directed queue below 126,976 bytes), 1; end of a sending: 1; closing: 9 count above 15
 
-unfoldable pub nextRefusal : Float → ℕ → ℕ
-nextRefusal now room = check4 room (check1 now 0)
+-- 2,048 bytes for each of the 62 slots (U1)
+abbrev pub queueSize : ℕ
+queueSize = 126976
 
-unfoldable pub nextOf : Station → Float → ℕ → Outcome
-nextOf s now room =
-    unless (nextRefusal now room) s [] (done (ncsNext s now .station) [] (ncsNext s now .words))
+abbrev pub checkQueue : ℕ → ℕ → ℕ
+checkQueue size rest = cond (ltb size queueSize) 7 rest
+
+unfoldable pub nextRefusal : Float → ℕ → ℕ → ℕ
+nextRefusal now size room = check4 room (checkQueue size (check1 now 0))
+
+-- the directed queue is read, not written
+unfoldable pub nextOf : Station → Float → List ℕ → ℕ → Outcome
+nextOf s now queue room =
+    unless (nextRefusal now (length queue) room) s [] (done (ncsNext s now queue .station) [] (ncsNext s now queue .words))
+
+-- ---- posting a message to a boat (U1): 7, 8 slot above 61, 21 no member in the slot, 24 kept plus new bytes pass 2,048, 25 total posted passes 16,777,215
+
+unfoldable pub postRefusal : ℕ → ℕ → ℕ → Queue → ℕ → ℕ
+postRefusal size used slot q n =
+    checkQueue size (cond (ltb 61 slot) 8 (cond (isMember used slot) (spaceRefusal q n) 21))
+
+-- what it was lent is the directed queue: the message stands in it behind what was posted before
+unfoldable pub postOf : Station → ℕ → List ℕ → List ℕ → Outcome
+postOf s slot message queue =
+    unless (postRefusal (length queue) (s .used) slot (queueAt s slot) (length message)) s queue
+    (done (withQueue s slot (postedTo (queueAt s slot) (length message + 2))) (putBytes queue slot (queueAt s slot .posted) (framed message)) [])
 
 unfoldable pub sentOf : Station → Float → Outcome
 sentOf s now = unless (check1 now 0) s [] (done (onTxDone s now) [] [])

@@ -1,20 +1,22 @@
 // The entry points: the checks in document 01's order, then what the station does. A refusal leaves all as it was.
 ghost use mathlib.Core.Bool.{cond, true};
-ghost use Prim.Native.Nat.{_/_};
+ghost use Prim.Native.Nat.{_+_, _/_, _≤_};
 ghost use lib.Dec.{eqb};
 ghost use Rattle.bits.specs.Mask.{withoutBit};
 ghost use Rattle.stream.specs.Table.{cellCount};
+ghost use Rattle.queue.specs.Queues.{postedTo};
 ghost use Rattle.net.specs.State.{withClosing};
 ghost use mathlib.Core.Path.{_≡_};
 ghost use lib.ListN.{length};
 ghost use lib.Seq.{sets};
 ghost use Rattle.words.specs.Words.{parse, shapeOf};
-ghost use Rattle.station.specs.Entries.{startRefusal, check1, closeRefusal, cellRefusal, checkRelay, admitRefusal, nextRefusal, receiveCheck, framesOr65, answered, heardOf, startOf, admitOf, receiveOf, nextOf, sentOf, closeOf, readRefusal, readingOf, freeOf};
+ghost use Rattle.station.specs.Entries.{startRefusal, check1, closeRefusal, cellRefusal, checkRelay, admitRefusal, nextRefusal, postRefusal, receiveCheck, framesOr65, answered, heardOf, startOf, admitOf, receiveOf, nextOf, postOf, sentOf, closeOf, readRefusal, readingOf, freeOf};
 ghost use Rattle.station.specs.SignOff.{signOffRefusal, signOffOf};
 ghost use Rattle.station.specs.Worst.{worstOf};
 use config::Given;
 use level::Level;
 use net::Station;
+use queue::Queue;
 use words::Shape;
 
 pub mod show;
@@ -211,23 +213,26 @@ fn clock_refusal(time: f64) -> u8
     if level::clock_ok(time) { 0 } else { 1 }
 }
 
-fn next_refusal(room: usize, time: f64) -> u8
-    ensures { λ r. ⌜ r ≡ nextRefusal time room ⌝ }
+fn next_refusal(room: usize, lent: usize, time: f64) -> u8
+    ensures { λ r. ⌜ r ≡ nextRefusal time lent room ⌝ }
 {
     if room < 8192 {
         return 4;
     }
+    if lent < 126976 {
+        return 7;
+    }
     clock_refusal(time)
 }
 
-// The next decision. Where the call is refused, no stage has anything to do.
-pub fn next(s: Station, time: f64, o: &mut [u32]) -> Answered
-    ensures { λ r. ⌜ (r ≡ answered (nextOf s time (length (now (o .entry)))) (length (now (o .entry))))
-        × (now (o .exit) ≡ sets (now (o .entry)) 0 (nextOf s time (length (now (o .entry))) .words)) ⌝ }
+// The next decision; `lent` is the directed queue. Where the call is refused, no stage has anything to do.
+pub fn next(s: Station, time: f64, lent: &[u8], o: &mut [u32]) -> Answered
+    ensures { λ r. ⌜ (r ≡ answered (nextOf s time (now (lent .entry)) (length (now (o .entry)))) (length (now (o .entry))))
+        × (now (o .exit) ≡ sets (now (o .entry)) 0 (nextOf s time (now (lent .entry)) (length (now (o .entry))) .words)) ⌝ }
 {
-    let no = next_refusal(o.len(), time);
+    let no = next_refusal(o.len(), lent.len(), time);
     let mut at: usize = 0;
-    let t = next::ncs_next(s, no == 0, time, o, &mut at);
+    let t = next::ncs_next(s, no == 0, time, lent, o, &mut at);
     Answered {
         station: t,
         answer: answer_of(no, at),
@@ -319,6 +324,54 @@ pub fn free(mut s: Station, cell: usize) -> Answered
     let no = cell_refusal(s.count, s.landed, cell);
     s.landed = signoff::without_if(s.landed, cell, no == 0);
     s.busy = signoff::without_if(s.busy, cell, no == 0);
+    Answered {
+        station: s,
+        answer: answer_of(no, 0),
+    }
+}
+
+// ---- posting
+
+fn post_refusal(lent: usize, used: u64, slot: u8, q: Queue, n: usize) -> u8
+    ensures { λ r. ⌜ r ≡ postRefusal lent used slot q n ⌝ }
+{
+    if lent < 126976 {
+        return 7;
+    }
+    if 61 < slot {
+        return 8;
+    }
+    if net::is_member(used, slot) {
+        return queue::space_refusal(q, n);
+    }
+    21
+}
+
+// The numbers of the slot's queue with n bytes more, where they are posted.
+fn post_queue(q: Queue, no: u8, n: usize) -> Queue
+    requires { ⌜ (no ≡ 0 → q .posted + n + 2 ≤ 16777215) ⌝ }
+    ensures { λ r. ⌜ r ≡ cond (eqb no 0) (postedTo q (n + 2)) q ⌝ }
+{
+    if no == 0 {
+        return queue::posted_to(q, n + 2);
+    }
+    q
+}
+
+// A message is posted to a boat (request U1); `lent` is the directed queue.
+pub fn post(mut s: Station, slot: u8, message: &[u8], lent: &mut [u8]) -> Answered
+    ensures { λ r. ⌜ (r ≡ answered (postOf s slot (now (message .entry)) (now (lent .entry))) 0)
+        × (now (lent .exit) ≡ postOf s slot (now (message .entry)) (now (lent .entry)) .store) ⌝ }
+{
+    let i = net::index(slot);
+    let q = s.queues[i];
+    let n = message.len();
+    let no = post_refusal(lent.len(), s.used, slot, q, n);
+    if no == 0 {
+        queue::put(lent, slot, q.posted, message);
+    }
+    let k = post_queue(q, no, n);
+    s.queues[i] = k;
     Answered {
         station: s,
         answer: answer_of(no, 0),

@@ -202,12 +202,13 @@ fn hears(
     Both { station: v, run: q }
 }
 
-// A next decision, and the end of its sending.
+// A next decision, and the end of its sending. Nothing is posted, so no byte of the queue is sent.
 fn decides(s: Station, r: State) -> Both {
     let mut out = [0u32; 8192];
     let mut q = r;
     q.now = r.now + 10.0;
-    let x = station::next(s, q.now, &mut out);
+    let queue = [0u8; 126976];
+    let x = station::next(s, q.now, &queue, &mut out);
     let u = x.station;
     let a = x.answer;
     let k = words_of(a);

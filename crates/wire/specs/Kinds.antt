@@ -9,6 +9,9 @@ tiny = 62
 abbrev pub tUp : ℕ
 tUp = 0
 
+abbrev pub tDown : ℕ
+tDown = 1
+
 abbrev pub tCtrl : ℕ
 tCtrl = 2
 

@@ -18,6 +18,8 @@ pub const TINY: u32 = 62;
 // Frame types: the top two bits of a frame's flags.
 pub const T_UP: u32 = 0;
 
+pub const T_DOWN: u32 = 1;
+
 pub const T_CTRL: u32 = 2;
 
 // Control frames: their first payload byte.

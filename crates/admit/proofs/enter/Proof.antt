@@ -26,6 +26,15 @@ mul-none c = omega (arith, rw (← c .before .before .index .ensures) at (index-
 element-set-from-none : tie.Need-element-set-from-none
 element-set-from-none c = omega (arith, rw (← c .before .before .index .ensures) at (index-lt (c .before .before .before .args .slot)))
 
+empty-requires-2 : tie.Need-empty-requires-2
+empty-requires-2 c κs = search needs
+
+mul-q : tie.Need-mul-q
+mul-q c = omega (arith, rw (← c .before .before .before .index .ensures) at (index-lt (c .before .before .before .before .args .slot)))
+
+element-set-from-q : tie.Need-element-set-from-q
+element-set-from-q c = omega (arith, rw (← c .before .before .before .index .ensures) at (index-lt (c .before .before .before .before .args .slot)))
+
 with-requires : tie.Need-with-requires
 with-requires c κs = search needs
 
@@ -35,7 +44,8 @@ with-requires-2 c κs = search needs
 returns : tie.Need-returns
 returns c =
     let b = c .before .before in
-    rw (c .before .with2 .ensures, b .with .ensures, b .before .empty .ensures, b .before .before .new-member .ensures, b .before .before .before .index .ensures)
+    let e = b .before .before in
+    rw (c .before .with2 .ensures, b .with .ensures, b .before .empty2 .ensures, e .empty .ensures, e .before .new-member .ensures, e .before .before .index .ensures)
 
 pub enter-spec : {M : Type 1} → statement M
 enter-spec =
@@ -48,6 +58,9 @@ enter-spec =
     empty-requires
     mul-none
     element-set-from-none
+    empty-requires-2
+    mul-q
+    element-set-from-q
     with-requires
     with-requires-2
     returns)

@@ -19,9 +19,18 @@ numbers-ok-requires c κs = search needs
 number-from-requires : tie.Need-number-from-requires
 number-from-requires c κs = search needs
 
+data-ok-requires : tie.Need-data-ok-requires
+data-ok-requires c κs = search needs
+
+payloads-ok-requires : tie.Need-payloads-ok-requires
+payloads-ok-requires c κs = search needs
+
 returns : tie.Need-returns
 unfolding settingsOk
-returns c = rw (c .number-from .ensures, c .before .numbers-ok .ensures, c .before .before .decibels-ok .ensures, c .before .before .before .durations-ok .ensures, c .before .before .before .before .seconds-ok .ensures)
+returns c =
+    let d = c .before .before .before in
+    let n = d .before .before .before in
+    rw (c .payloads-ok .ensures, d .data-ok .ensures, n .number-from .ensures, n .before .numbers-ok .ensures, n .before .before .decibels-ok .ensures, n .before .before .before .durations-ok .ensures, n .before .before .before .before .seconds-ok .ensures)
 
 pub settings-ok-spec : {M : Type 1} → statement M
 settings-ok-spec =
@@ -32,4 +41,6 @@ settings-ok-spec =
     decibels-ok-requires
     numbers-ok-requires
     number-from-requires
+    data-ok-requires
+    payloads-ok-requires
     returns)

@@ -6,10 +6,10 @@ use Rattle.driver.proofs.feed.Statement.{statement}
 use Rattle.driver.proofs.feed.Tie as tie
 
 abbrev Inv-loop : tie.InvT-loop
-Inv-loop b n last lent₀ words₀ out₀ t₀ u₀ k₀ end i₀ lent words out t u k i = Unit
+Inv-loop b n last lent₀ held₀ payloads₀ queue₀ words₀ out₀ t₀ u₀ k₀ end i₀ lent held payloads queue words out t u k i = Unit
 
 abbrev μ-loop : tie.MeasureT-loop
-μ-loop b n last lent₀ words₀ out₀ t₀ u₀ k₀ end i₀ lent words out t u k i = end - i
+μ-loop b n last lent₀ held₀ payloads₀ queue₀ words₀ out₀ t₀ u₀ k₀ end i₀ lent held payloads queue words out t u k i = end - i
 
 end-of-requires : tie.Need-end-of-requires Inv-loop μ-loop
 end-of-requires c κs = tt
@@ -31,6 +31,18 @@ receive-requires c κs = tt
 
 heard-requires : tie.Need-heard-requires Inv-loop μ-loop
 heard-requires c κs = tt
+
+ends-post-requires : tie.Need-ends-post-requires Inv-loop μ-loop
+ends-post-requires c κs = tt
+
+post-requires : tie.Need-post-requires Inv-loop μ-loop
+post-requires c κs = tt
+
+closed-requires : tie.Need-closed-requires Inv-loop μ-loop
+closed-requires c κs = tt
+
+answer-requires : tie.Need-answer-requires Inv-loop μ-loop
+answer-requires c κs = tt
 
 ends-figures-requires : tie.Need-ends-figures-requires Inv-loop μ-loop
 ends-figures-requires c κs = tt
@@ -56,8 +68,8 @@ enum-told c = search needs
 next-requires : tie.Need-next-requires Inv-loop μ-loop
 next-requires c κs = tt
 
-answer-requires : tie.Need-answer-requires Inv-loop μ-loop
-answer-requires c κs = tt
+answer-requires-2 : tie.Need-answer-requires-2 Inv-loop μ-loop
+answer-requires-2 c κs = tt
 
 enum-told-2 : tie.Need-enum-told-2 Inv-loop μ-loop
 enum-told-2 c = search needs
@@ -65,8 +77,8 @@ enum-told-2 c = search needs
 sent-requires : tie.Need-sent-requires Inv-loop μ-loop
 sent-requires c κs = tt
 
-answer-requires-2 : tie.Need-answer-requires-2 Inv-loop μ-loop
-answer-requires-2 c κs = tt
+answer-requires-3 : tie.Need-answer-requires-3 Inv-loop μ-loop
+answer-requires-3 c κs = tt
 
 enum-told-3 : tie.Need-enum-told-3 Inv-loop μ-loop
 enum-told-3 c = search needs
@@ -80,8 +92,8 @@ cast-free c = search needs
 free-requires : tie.Need-free-requires Inv-loop μ-loop
 free-requires c κs = tt
 
-answer-requires-3 : tie.Need-answer-requires-3 Inv-loop μ-loop
-answer-requires-3 c κs = tt
+answer-requires-4 : tie.Need-answer-requires-4 Inv-loop μ-loop
+answer-requires-4 c κs = tt
 
 enum-told-4 : tie.Need-enum-told-4 Inv-loop μ-loop
 enum-told-4 c = search needs
@@ -92,8 +104,8 @@ rest-of-requires-2 c κs = tt
 close-requires : tie.Need-close-requires Inv-loop μ-loop
 close-requires c κs = tt
 
-answer-requires-4 : tie.Need-answer-requires-4 Inv-loop μ-loop
-answer-requires-4 c κs = tt
+answer-requires-5 : tie.Need-answer-requires-5 Inv-loop μ-loop
+answer-requires-5 c κs = tt
 
 enum-told-5 : tie.Need-enum-told-5 Inv-loop μ-loop
 enum-told-5 c = search needs
@@ -104,8 +116,8 @@ slot-of-requires c κs = tt
 sign-off-requires : tie.Need-sign-off-requires Inv-loop μ-loop
 sign-off-requires c κs = tt
 
-answer-requires-5 : tie.Need-answer-requires-5 Inv-loop μ-loop
-answer-requires-5 c κs = tt
+answer-requires-6 : tie.Need-answer-requires-6 Inv-loop μ-loop
+answer-requires-6 c κs = tt
 
 is-shown-requires : tie.Need-is-shown-requires Inv-loop μ-loop
 is-shown-requires c κs = tt
@@ -141,6 +153,10 @@ feed-spec =
     ends-burst-requires
     receive-requires
     heard-requires
+    ends-post-requires
+    post-requires
+    closed-requires
+    answer-requires
     ends-figures-requires
     charged-requires
     ends-requires
@@ -149,23 +165,23 @@ feed-spec =
     action-of-requires
     enum-told
     next-requires
-    answer-requires
+    answer-requires-2
     enum-told-2
     sent-requires
-    answer-requires-2
+    answer-requires-3
     enum-told-3
     rest-of-requires
     cast-free
     free-requires
-    answer-requires-3
+    answer-requires-4
     enum-told-4
     rest-of-requires-2
     close-requires
-    answer-requires-4
+    answer-requires-5
     enum-told-5
     slot-of-requires
     sign-off-requires
-    answer-requires-5
+    answer-requires-6
     is-shown-requires
     shown-requires
     aside-requires

@@ -7,10 +7,13 @@ use Rattle.driver.proofs.read_all.Statement.{statement}
 use Rattle.driver.proofs.read_all.Tie as tie
 
 abbrev Inv-loop : tie.InvT-loop
-Inv-loop lent₀ t₀ words₀ out₀ b₀ u₀ k₀ left₀ lent t words out b u k left = 65536 ≡ length b
+Inv-loop lent₀ t₀ words₀ out₀ queue₀ held₀ payloads₀ b₀ u₀ k₀ left₀ lent t words out queue held payloads b u k left = 65536 ≡ length b
 
 abbrev μ-loop : tie.MeasureT-loop
-μ-loop lent₀ t₀ words₀ out₀ b₀ u₀ k₀ left₀ lent t words out b u k left = left
+μ-loop lent₀ t₀ words₀ out₀ queue₀ held₀ payloads₀ b₀ u₀ k₀ left₀ lent t words out queue held payloads b u k left = left
+
+payloads-requires : tie.Need-payloads-requires Inv-loop μ-loop
+payloads-requires c κs = tt
 
 large-buffer-requires : tie.Need-large-buffer-requires Inv-loop μ-loop
 large-buffer-requires c κs = tt
@@ -37,10 +40,10 @@ returns : tie.Need-returns Inv-loop μ-loop
 returns c = tt
 
 sub-left : tie.Need-sub-left Inv-loop μ-loop
-sub-left c = omega arith
+sub-left c = omega (arith, c .before .before .before .before .before .before .before .before .before .before .before .before .before .before .before .loop-test .taken)
 
 loop-less : tie.Need-loop-less Inv-loop μ-loop
-loop-less c = omega arith
+loop-less c = omega (arith, c .before .before .before .before .before .before .before .before .before .before .before .before .before .before .before .loop-test .taken)
 
 loop-again : tie.Need-loop-again Inv-loop μ-loop
 loop-again c = search needs
@@ -54,6 +57,7 @@ read-all-spec =
     (tie.spec
     Inv-loop
     μ-loop
+    payloads-requires
     large-buffer-requires
     loop-holds
     slice-aggregate-read-full

@@ -114,6 +114,7 @@ storedStation a p d i c relayed s =
       count = s .count;
       members = set (s .members) i (memberAfter (getD (s .members) i noMember) d p a);
       recent = s .recent;
+      queues = s .queues;
       hears = s .hears;
       owners = set (s .owners) c (ownerAfter (getD (s .owners) c 0) d p);
       cells = set (s .cells) c (d .cell);

@@ -19,11 +19,14 @@ no-totals-requires c κs = search needs
 empty-requires : tie.Need-empty-requires
 empty-requires c κs = search needs
 
+empty-requires-2 : tie.Need-empty-requires-2
+empty-requires-2 c κs = search needs
+
 returns : tie.Need-returns
 unfolding newStation
 returns c =
-    let b = c .before .before in
-    rw (c .empty .ensures, c .before .no-totals .ensures, b .first-round .ensures, b .before .empty-cell .ensures, b .before .before .new-member .ensures)
+    let b = c .before .before .before in
+    rw (c .empty2 .ensures, c .before .empty .ensures, c .before .before .no-totals .ensures, b .first-round .ensures, b .before .empty-cell .ensures, b .before .before .new-member .ensures)
 
 pub new-spec : {M : Type 1} → statement M
 new-spec =
@@ -34,4 +37,5 @@ new-spec =
     first-round-requires
     no-totals-requires
     empty-requires
+    empty-requires-2
     returns)

@@ -1,11 +1,11 @@
--- The calls one after the other, put together by `next-said`: `j` is where the ways round `seldom` meet. Assumes nothing.
+-- The calls one after the other, put together by `next-said`: `j` is where the ways round `seldom` meet, `e` where those round word back do. Assumes nothing.
 use mathlib.Core.Path.{sym, _∙_}
 use mathlib.Core.Logic.{⊎-elim}
 use native.Mathlib.Omega.{arith}
 use Rattle.out.proofs.Laws.{wrote-length}
 use Rattle.net.proofs.Laws.{index-lt}
 use Rattle.bursts.proofs.Saying.{did-as}
-use Rattle.next.proofs.Calls.{did-none, not-seldom, next-said}
+use Rattle.next.proofs.Calls.{did-none, not-seldom, direct-some, direct-none, direct-lt, next-said}
 use borrow.Author.Needs.{needs}
 use Rattle.next.proofs.ncs_next.Statement.{statement}
 use Rattle.next.proofs.ncs_next.Tie as tie
@@ -76,18 +76,28 @@ is-seldom-requires c κs = search needs
 seldom-requires : tie.Need-seldom-requires
 seldom-requires c κs = search needs
 
+direct-to-requires : tie.Need-direct-to-requires
+direct-to-requires c κs = search needs
+
+direct-burst-requires : tie.Need-direct-burst-requires
+direct-burst-requires c κs =
+    let d = c .before .before .before in
+    direct-lt (d .before .before .before .act-of .result) (d .before .if1 .s) (d .direct-to .result) (d .direct-to .ensures) (c .before .before .if2 .taken)
+
 poll-requires : tie.Need-poll-requires
 poll-requires c κs = search needs
 
 returns : tie.Need-returns
 returns c =
-    let j = c .before .before .before .before .before in
+    let e = c .before .before .before .before .before in
+    let d = e .before in
+    let j = d .before in
     let r = j .before .before .before in
     let v = r .before .before .before .before .before .before .before in
     let b = v .before .before .before .before .before in
     let p = b .before .before .before .before in
     let i = p .before .before .before .before .before in
-    let a = i .before .before .before .before .before .before .before .args in
+    let a = i .before .before .before .before .before .before .before .before .args in
     next-said
     (a .t1)
     (a .ok)
@@ -105,11 +115,21 @@ returns c =
       round = r .late-round .ensures;
       act = j .before .before .act-of .ensures;
     })
+    (a .queue .now)
     (j .if1 .s)
     (j .if1 .o)
     (j .if1 .at)
+    (d .direct-to .result)
+    (e .if2 .s)
+    (e .if2 .o)
+    (e .if2 .at)
     (p .put-late .ensures)
     (c .before .before .poll .ensures)
+    (d .direct-to .ensures)
+    (⊎-elim
+    (λ w. rw (w .8, w .6, w .7) (did-as (w .3 .ensures) (direct-some (d .direct-to .result) (j .if1 .s) (a .queue .now) (w .0 .taken))))
+    (λ w. rw (w .3, w .1, w .2) (did-as (did-none _ _ _) (direct-none (d .direct-to .result) (j .if1 .s) (a .queue .now) (w .0 .left))))
+    (e .if2 .came))
     (⊎-elim
     (λ w. rw (w .8, w .6, w .7) (w .3 .ensures))
     (λ w. rw (w .3, w .1, w .2) (did-as (did-none _ _ _) (not-seldom (j .before .before .act-of .result) _ (a .time) (sym (j .before .is-seldom .ensures) ∙ w .0 .left))))
@@ -144,6 +164,8 @@ ncs-next-spec =
     act-of-requires
     is-seldom-requires
     seldom-requires
+    direct-to-requires
+    direct-burst-requires
     poll-requires
     same-length
     returns)

@@ -25,13 +25,14 @@ use Rattle.net.specs.declared.Wait.{Wait}
 use Rattle.net.specs.State.{memberAt, withMember, withWait, withRound, withTotals, withList, withTxat, withClosing, withActivity, withNextbeacon, withRxsent, withPolls, withSilent}
 use Rattle.net.specs.Net.{plus, isMember, waitOf, idleWait, isIdle, Said, said}
 use Rattle.bursts.specs.Bursts.{tinyWords, pollBurst, acksBurst, beaconOf, rxListBurst}
+use Rattle.bursts.specs.Direct.{directedTo, directBurst, slotOr255}
 use Rattle.bursts.specs.Reroute.{sourceFor, rerouteOf}
 use Rattle.next.specs.declared.Due.{Due}
 use Rattle.next.specs.declared.Due.the-variants.{Free, Quiet, Close, Again, Missed}
 use Rattle.next.specs.declared.Act.{Act}
 use Rattle.next.specs.declared.Act.the-variants as act
 use Rattle.next.specs.declared.Late.{Late}
-use Rattle.next.specs.Next.{Decision, dueOf, actOf, pollStage, drawn}
+use Rattle.next.specs.Next.{Decision, dueOf, actOf, pollFront, drawn}
 
 -- the station and the words of a decision
 abbrev pub saidOf : Decision → Said
@@ -198,22 +199,41 @@ pollSlot s slot =
 
 -- a poll, where nothing is being sent or waited for
 abbrev pub pollIf : Act → Station → Said
-pollIf a s = cond (isIdle (s .wait .turn) && mayPoll a) (saidOf (pollStage s)) (said s [])
+pollIf a s = cond (isIdle (s .wait .turn) && mayPoll a) (saidOf (pollFront s)) (said s [])
+
+-- ---- word back before the poll (U1)
+
+-- to whom, before the poll of a slot; 255 for none
+abbrev pub directSlot : Station → ℕ → ℕ
+directSlot s slot = cond (eqb slot 255) 255 (slotOr255 (directedTo s slot))
+
+abbrev pub directTo : Act → Station → ℕ
+directTo a s = directSlot s (frontOf (s .wait) (s .round .list) a)
+
+abbrev pub directIf : ℕ → Station → List ℕ → Said
+directIf to s queue = cond (eqb to 255) (said s []) (directBurst s queue to)
+
+-- after a burst of it nobody is polled
+abbrev pub pollAfter : Act → Said → Said
+pollAfter a d = saidAfter (d .words) (pollIf a (d .station))
+
+abbrev pub wordThen : Act → Station → List ℕ → Said
+wordThen a s queue = pollAfter a (directIf (directTo a s) s queue)
 
 -- ---- the decision
 
-abbrev pub pollThen : Act → Said → Said
-pollThen a x = saidAfter (x .words) (pollIf a (x .station))
+abbrev pub pollThen : Act → Said → List ℕ → Said
+pollThen a x queue = saidAfter (x .words) (wordThen a (x .station) queue)
 
--- after the timeout: what is to be done, and then the poll
-abbrev pub restOf : Bool → Station → Float → Said
-restOf quiet s now =
-    pollThen (actIn quiet (s .round) (s .used) now) (seldomOf (actIn quiet (s .round) (s .used) now) s now)
+-- after the timeout: what is to be done, and then word back or the poll
+abbrev pub restOf : Bool → Station → Float → List ℕ → Said
+restOf quiet s now queue =
+    pollThen (actIn quiet (s .round) (s .used) now) (seldomOf (actIn quiet (s .round) (s .used) now) s now) queue
 
 -- by what is late
-abbrev pub lateThen : Station → Late → Float → Said
-lateThen s l now = saidAfter (lateSays s l) (restOf (l .quiet) (lateStation s l now) now)
+abbrev pub lateThen : Station → Late → Float → List ℕ → Said
+lateThen s l now queue = saidAfter (lateSays s l) (restOf (l .quiet) (lateStation s l now) now queue)
 
 -- where not `ok`, nothing is done
-unfoldable pub nextStraight : Station → Bool → Float → Said
-nextStraight s ok now = lateThen s (lateOf (dueOf (s .wait) (s .round .closed) now) ok) now
+unfoldable pub nextStraight : Station → Bool → Float → List ℕ → Said
+nextStraight s ok now queue = lateThen s (lateOf (dueOf (s .wait) (s .round .closed) now) ok) now queue

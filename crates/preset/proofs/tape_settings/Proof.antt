@@ -10,9 +10,12 @@ ladder-requires c κs = search needs
 bytes-of-requires : tie.Need-bytes-of-requires
 bytes-of-requires c κs = search needs
 
+payloads-requires : tie.Need-payloads-requires
+payloads-requires c κs = search needs
+
 returns : tie.Need-returns
 unfolding ofBits neg
-returns c = rw (c .bytes-of .ensures, c .before .ladder .ensures)
+returns c = rw (c .payloads .ensures, c .before .bytes-of .ensures, c .before .before .ladder .ensures)
 
 pub tape-settings-spec : {M : Type 1} → statement M
-tape-settings-spec = tie.close (tie.spec ladder-requires bytes-of-requires returns)
+tape-settings-spec = tie.close (tie.spec ladder-requires bytes-of-requires payloads-requires returns)

@@ -175,6 +175,21 @@ element-set-from-k-2 c = omega (arith, rw (← c .before .before .before .before
 report-hears-requires : tie.Need-report-hears-requires Inv-loop μ-loop
 report-hears-requires c κs = search needs
 
+mul-b : tie.Need-mul-b Inv-loop μ-loop
+mul-b c = omega (arith, rw (← c .before .before .before .before .before .before .index2 .ensures) at (index-lt (c .before .before .before .before .before .before .before .before .byte-in .result)))
+
+element-copy-out-b : tie.Need-element-copy-out-b Inv-loop μ-loop
+element-copy-out-b c = omega (arith, rw (← c .before .before .before .before .before .before .index2 .ensures) at (index-lt (c .before .before .before .before .before .before .before .before .byte-in .result)))
+
+report-queue-requires : tie.Need-report-queue-requires Inv-loop μ-loop
+report-queue-requires c κs = search needs
+
+mul-d : tie.Need-mul-d Inv-loop μ-loop
+mul-d c = omega (arith, rw (← c .before .before .before .before .before .before .before .before .index2 .ensures) at (index-lt (c .before .before .before .before .before .before .before .before .before .before .byte-in .result)))
+
+element-set-from-d : tie.Need-element-set-from-d Inv-loop μ-loop
+element-set-from-d c = omega (arith, rw (← c .before .before .before .before .before .before .before .before .index2 .ensures) at (index-lt (c .before .before .before .before .before .before .before .before .before .before .byte-in .result)))
+
 is-pending-requires : tie.Need-is-pending-requires Inv-loop μ-loop
 is-pending-requires c κs = search needs
 
@@ -197,8 +212,8 @@ went c =
     (⊎-elim
     (λ w. rw (w .3, w .4, w .5, w .6) (went-none (c .before .before .before .before .before .before .before .loop .inv) (c .before .before .before .before .before .if1 .taken) (c .before .before .before .before .frame-at .result) (c .before .before .before .before .frame-at .ensures) (short-checkin len (w .0 .keys1) (w .2 .left) ∙ byte)))
     (⊎-elim
-    (λ w. rw (w .14, w .15, w .16, w .17) (went-report (c .before .before .before .before .before .before .before .loop .inv) (c .before .before .before .before .before .if1 .taken) (c .before .before .before .before .frame-at .result) (c .before .before .before .before .frame-at .ensures) (is-report len (w .0 .keys2) (w .2 .taken) ∙ byte)
-    (w .3 .ensures) (w .4 .ensures) (w .5 .ensures) (w .7 .ensures) (w .8 .ensures) (w .9 .ensures) (w .11 .ensures) (w .12 .ensures) (w .13 .ensures)))
+    (λ w. rw (w .16, w .17, w .18, w .19) (went-report (c .before .before .before .before .before .before .before .loop .inv) (c .before .before .before .before .before .if1 .taken) (c .before .before .before .before .frame-at .result) (c .before .before .before .before .frame-at .ensures) (is-report len (w .0 .keys2) (w .2 .taken) ∙ byte)
+    (w .3 .ensures) (w .4 .ensures) (w .5 .ensures) (w .7 .ensures) (w .8 .ensures) (w .9 .ensures) (w .11 .ensures) (w .13 .ensures) (w .14 .ensures) (w .15 .ensures)))
     (⊎-elim
     (λ w. rw (w .3, w .4, w .5, w .6) (went-none (c .before .before .before .before .before .before .before .loop .inv) (c .before .before .before .before .before .if1 .taken) (c .before .before .before .before .frame-at .result) (c .before .before .before .before .frame-at .ensures) (short-report len (w .0 .keys2) (w .2 .left) ∙ byte)))
     (⊎-elim
@@ -283,6 +298,11 @@ read-burst-spec =
     mul-k-2
     element-set-from-k-2
     report-hears-requires
+    mul-b
+    element-copy-out-b
+    report-queue-requires
+    mul-d
+    element-set-from-d
     is-pending-requires
     report-rx-requires
     overheard-requires

@@ -1,4 +1,5 @@
 -- Assumes nothing.
+use native.Mathlib.Omega.{arith}
 use Rattle.signoff.specs.SignOff.{signOff}
 use borrow.Author.Needs.{needs}
 use Rattle.signoff.proofs.sign_off.Statement.{statement}
@@ -46,19 +47,30 @@ tally-requires c κs = search needs
 without-requires : tie.Need-without-requires
 without-requires c κs = search needs
 
+empty-requires-2 : tie.Need-empty-requires-2
+empty-requires-2 c κs = search needs
+
+mul-q : tie.Need-mul-q
+mul-q c = omega (arith, c .before .before .before .before .before .before .before .before .before .before .before .before .before .before .before .pre)
+
+element-set-from-q : tie.Need-element-set-from-q
+element-set-from-q c = omega (arith, c .before .before .before .before .before .before .before .before .before .before .before .before .before .before .before .pre)
+
 bereave-all-requires : tie.Need-bereave-all-requires
 bereave-all-requires c κs = search needs
 
 returns : tie.Need-returns
 unfolding signOff
 returns c =
-    let e = c .before .before .before .before .before .before in
+    let w = c .before .before in
+    let e = w .before .before .before .before .before in
     let v = e .before in
     let u = v .before .before in
     rw (
       c .bereave-all .ensures,
-      c .before .without .ensures,
-      c .before .before .before .tally .ensures,
+      c .before .empty2 .ensures,
+      w .without .ensures,
+      w .before .before .tally .ensures,
       e .empty .ensures,
       v .vacant .ensures,
       u .unhear-all .ensures,
@@ -85,5 +97,8 @@ sign-off-spec =
     element-set-from-none
     tally-requires
     without-requires
+    empty-requires-2
+    mul-q
+    element-set-from-q
     bereave-all-requires
     returns)

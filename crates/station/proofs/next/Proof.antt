@@ -23,9 +23,9 @@ returns : tie.Need-returns
 unfolding nextOf
 returns c =
     let n = c .before .before .before .before .before .before .next-refusal in
-    let a = c .before .before .before .before .before .before .before .before .args in
+    let a = c .before .before .before .before .before .before .before .before .before .args in
     rw (c .answer-of .ensures, ← n .ensures)
-    (next-with (n .result) (a .s) (said (ncsNext (a .s) (a .time) .station) (ncsNext (a .s) (a .time) .words)) (c .before .before .before .ncs-next .ensures))
+    (next-with (n .result) (a .s) (said (ncsNext (a .s) (a .time) (a .lent .now) .station) (ncsNext (a .s) (a .time) (a .lent .now) .words)) (c .before .before .before .ncs-next .ensures))
 
 pub next-spec : {M : Type 1} → statement M
 next-spec =

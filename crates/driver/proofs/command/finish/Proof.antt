@@ -26,10 +26,4 @@ returns-2 c = search needs
 pub finish-spec : {M : Type 1} → statement M
 finish-spec =
     tie.close
-    (tie.spec
-    least-requires
-    slice-aggregate-mine
-    admit-requires
-    returns
-    start-requires
-    returns-2)
+    (tie.spec least-requires slice-aggregate-mine admit-requires returns start-requires returns-2)

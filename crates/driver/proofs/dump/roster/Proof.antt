@@ -1,6 +1,7 @@
 -- Assumes nothing.
 use Prim.Native.Nat.{_-_}
 use native.Mathlib.Omega.{arith}
+use borrow.Author.Needs.{needs}
 use Rattle.driver.proofs.dump.roster.Statement.{statement}
 use Rattle.driver.proofs.dump.roster.Tie as tie
 
@@ -14,7 +15,7 @@ loop-holds : tie.Need-loop-holds Inv-loop μ-loop
 loop-holds c = tt
 
 has-requires : tie.Need-has-requires Inv-loop μ-loop
-has-requires c κs = tt
+has-requires c κs = search needs
 
 mul-m : tie.Need-mul-m Inv-loop μ-loop
 mul-m c = omega arith
@@ -23,16 +24,25 @@ element-copy-out-m : tie.Need-element-copy-out-m Inv-loop μ-loop
 element-copy-out-m c = omega arith
 
 room-requires : tie.Need-room-requires Inv-loop μ-loop
-room-requires c κs = tt
+room-requires c κs = search needs
 
 put-member-requires : tie.Need-put-member-requires Inv-loop μ-loop
-put-member-requires c κs = tt
+put-member-requires c κs = search needs
 
 put-hears-requires : tie.Need-put-hears-requires Inv-loop μ-loop
-put-hears-requires c κs = tt
+put-hears-requires c κs = search needs
+
+mul-q : tie.Need-mul-q Inv-loop μ-loop
+mul-q c = omega arith
+
+element-copy-out-q : tie.Need-element-copy-out-q Inv-loop μ-loop
+element-copy-out-q c = omega arith
+
+put-queue-requires : tie.Need-put-queue-requires Inv-loop μ-loop
+put-queue-requires c κs = search needs
 
 put-requires : tie.Need-put-requires Inv-loop μ-loop
-put-requires c κs = tt
+put-requires c κs = search needs
 
 add-i : tie.Need-add-i Inv-loop μ-loop
 add-i c = omega arith
@@ -44,7 +54,7 @@ loop-again : tie.Need-loop-again Inv-loop μ-loop
 loop-again c = tt
 
 put-totals-requires : tie.Need-put-totals-requires Inv-loop μ-loop
-put-totals-requires c κs = tt
+put-totals-requires c κs = search needs
 
 returns : tie.Need-returns Inv-loop μ-loop
 returns c = tt
@@ -62,6 +72,9 @@ roster-spec =
     room-requires
     put-member-requires
     put-hears-requires
+    mul-q
+    element-copy-out-q
+    put-queue-requires
     put-requires
     add-i
     loop-less
