@@ -2,8 +2,8 @@
 use mathlib.Core.Path.{_≡_, sym, ap, _∙_, subst}
 use mathlib.Core.Logic.{⊎-elim}
 use mathlib.Core.Bool.{true, false}
-use mathlib.Core.List.{List, [], _∷_}
-use Prim.Native.Nat.{ℕ, zero, suc, _+_, _*_, _/_, _%_, _^_, _<_}
+use mathlib.Core.List.{List}
+use Prim.Native.Nat.{ℕ, _+_, _*_, _/_, _%_, _^_, _<_}
 use native.Mathlib.Omega.{arith}
 use lib.ListN.{length, getD, set, length-set}
 use lib.Seq.{getD-set-same, getD-set-other}
@@ -28,6 +28,7 @@ use Rattle.net.specs.declared.Wait.{Wait}
 use Rattle.net.specs.State.{indexOf, memberAt, withMembers, withMember, withUsed, withWait, withHears, withTable, tableOf}
 use Rattle.net.specs.Net.{isMember}
 use Rattle.net.proofs.Laws.{index-is, member-lt, member-has}
+use Rattle.promise.proofs.WalkRoster.{set-every}
 use Rattle.laws.specs.FreeSlots.{Apart, Blank, BlankIn}
 
 -- where the slot has no boat; and the arrays are as long as they are, and no cell behind the 64 is taken
@@ -47,15 +48,6 @@ differ used i j h f e = never-both (hasBit used i) (subst (λ (y : ℕ). hasBit 
 
 pub index-has : (used slot : ℕ) → isMember used slot ≡ true → hasBit used (indexOf slot) ≡ true
 index-has used slot h = ap (hasBit used) (index-is slot (member-lt used slot h)) ∙ member-has used slot h
-
--- a tried list among others
-set-tried : (i : ℕ) (ms : List Member) (m : Member) (c x : ℕ) → hasBit (m .tried) i ≡ false → ((y : ℕ) → hasBit (getD ms y noMember .tried) i ≡ false)
-    → hasBit (getD (set ms c m) x noMember .tried) i ≡ false
-set-tried i [] m c x q h = h x
-set-tried i (y ∷ ms) m zero zero q h = q
-set-tried i (y ∷ ms) m zero (suc x) q h = h (suc x)
-set-tried i (y ∷ ms) m (suc c) zero q h = h zero
-set-tried i (y ∷ ms) m (suc c) (suc x) q h = set-tried i ms m c x q (λ z. h (suc z))
 
 module _ (i : ℕ) (low : i < 62) where
   -- a boat written, whose tried list does not name the slot
@@ -78,7 +70,7 @@ module _ (i : ℕ) (low : i < 62) where
               list = b .list;
               turn = b .turn;
               cells = b .cells;
-              tried = λ x. set-tried i (s .members) m j x (t f b) (b .tried);
+              tried = set-every (λ (x : Member). hasBit (x .tried) i ≡ false) (s .members) j m (t f b) (b .tried);
             };
       }
 
@@ -109,7 +101,7 @@ module _ (i : ℕ) (low : i < 62) where
               list = b .list;
               turn = b .turn;
               cells = b .cells;
-              tried = λ x. set-tried i (s .members) m c x (ap (λ (t : ℕ). hasBit t i) none ∙ has-none i) (b .tried);
+              tried = set-every (λ (x : Member). hasBit (x .tried) i ≡ false) (s .members) c m (ap (λ (t : ℕ). hasBit t i) none ∙ has-none i) (b .tried);
             };
       }
 

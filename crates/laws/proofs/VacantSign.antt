@@ -27,6 +27,7 @@ use Rattle.net.specs.Net.{isMember, idleWait, waitOf}
 use Rattle.net.proofs.Laws.{member-lt, member-is}
 use Rattle.signoff.specs.SignOff.{bereft, isCellOf, unhearAt, unhearAll, noSource, strikeBy, signOff}
 use Rattle.promise.proofs.Signs.{Signed, signed, cleared}
+use Rattle.promise.proofs.Walk.{without-false}
 use Rattle.laws.specs.FreeSlots.{Apart, BlankIn}
 use Rattle.laws.proofs.Vacant.{Keeps}
 
@@ -118,10 +119,6 @@ apart-there i slot low (Waiting r) w e a =
 -- every slot
 abbrev pub AllKeep : Station → Type 0
 AllKeep s = (i : ℕ) → i < 62 → Keeps i s
-
-pub without-false : (m i j : ℕ) → hasBit m i ≡ false → hasBit (withoutBit m j) i ≡ false
-without-false m i j f =
-    ⊎-elim (λ e. subst (λ (y : ℕ). hasBit (withoutBit m y) i ≡ false) (sym e) (without-same m i)) (λ z. without-other m j i z ∙ f) (eq-or-not j i)
 
 bereft-tried : (slot limit : ℕ) (m : Member) → bereft slot limit m .tried ≡ withoutBit (m .tried) slot
 bereft-tried slot limit m = cond-keeps (λ (x : Member). x .tried ≡ withoutBit (m .tried) slot) (eqb (m .via) slot) _ _ (λ _. refl) (λ _. refl)

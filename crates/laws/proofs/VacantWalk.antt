@@ -1,23 +1,22 @@
 -- Every change leaves a slot without a boat as at a start, and nothing names it: so it is after any calls (an instance of the walk). Assumes nothing.
 use mathlib.Core.Path.{_≡_, refl, ap, _∙_, subst}
-use mathlib.Core.Logic.{_⊎_, inl, inr, ⊎-elim}
+use mathlib.Core.Logic.{_⊎_, inl, inr}
 use Prim.Native.Nat.{ℕ, zero, suc, _+_, _*_, _%_, _≤_, _<_}
 use native.Mathlib.Omega.{arith}
-use mathlib.Core.Bool.{Bool, true, false, not, cond, _&&_, _||_}
+use mathlib.Core.Bool.{Bool, true, false, cond, _&&_, _||_}
 use mathlib.Core.List.{List, [], _∷_}
 use lib.Dec.{eqb, ltb}
 use lib.ListN.{length, getD, replicate, length-replicate, getD-replicate}
 use Rattle.bits.specs.Loop.{first}
-use Rattle.bits.specs.Mask.{hasBit, withBit, withoutBit, lowestBit}
+use Rattle.bits.specs.Mask.{hasBit, withoutBit}
 use Rattle.bits.specs.declared.Found.{Found}
 use Rattle.bits.specs.declared.Found.the-variants as found
-use Rattle.bits.proofs.Lists.{cond-keeps, and-true, cases, lt-or-le, never-both}
-use Rattle.bits.proofs.Laws.{has-none, with-other}
+use Rattle.bits.proofs.Lists.{and-true, lt-or-le, never-both}
+use Rattle.bits.proofs.Laws.{has-none}
 use Rattle.bits.proofs.Loops.{first-found}
-use Rattle.stream.specs.Window.{bitmapOf}
 use Rattle.roster.specs.declared.Member.{Member}
 use Rattle.roster.specs.Members.{noMember, newMember, promotedAt, reroutedTo}
-use Rattle.roster.specs.Relays.{anyHears, triedWith, turnOver, needsRelay, isSource, slotOr63, relaySrcFor}
+use Rattle.roster.specs.Relays.{needsRelay, isSource, slotOr63, relaySrcFor}
 use Rattle.net.specs.declared.Station.{Station}
 use Rattle.net.specs.declared.Settings.{Settings}
 use Rattle.net.specs.declared.Turn.{Turn}
@@ -33,45 +32,13 @@ use Rattle.config.specs.declared.Given.{Given}
 use Rattle.station.specs.Entries.{startRefusal}
 use Rattle.signoff.specs.SignOff.{vacant}
 use Rattle.promise.specs.Promise.{Call, after, started}
-use Rattle.promise.proofs.Walk.{Allowed, Field, burst, told, caps, version, heard, down, received, direct, reached, Fields, fields-keep, Turned, still, ends, sends, polls, goes, draws, Within, Change, others, turned, over, hears, written, counted, promoted, moved, entered, piece, landed, freed, barred, signsOff, offered, readings, queued, posted}
+use Rattle.promise.proofs.Walk.{stays-tried, turn-tried, Turned, still, ends, sends, polls, goes, draws, turned-list, without-false, lowest-in, Within, not-within, Change, others, turned, over, hears, written, counted, promoted, moved, entered, piece, landed, freed, barred, signsOff, offered, readings, queued, posted}
 use Rattle.promise.proofs.WalkCalls.{all, always}
 use Rattle.laws.specs.FreeSlots.{Apart}
 use Rattle.laws.proofs.Vacant.{index-has, put-kept, seat-kept, member-kept, enter-kept, lists-kept, wait-kept, hears-kept, table-kept, freed-kept}
-use Rattle.laws.proofs.VacantSign.{AllKeep, without-false, sign-keeps}
-
--- ---- what a change writes of a boat leaves its tried list alone, turn_over apart
-
-tried-field : {A : Allowed} (t : ℕ) (m k : Member) → Field A m k → m .tried ≡ t → k .tried ≡ t
-tried-field t m k (burst n) h = h
-tried-field t m k told h = h
-tried-field t m k (caps n) h = h
-tried-field t m k (version n) h = h
-tried-field t m k (heard now) h = h
-tried-field t m k (down q) h = h
-tried-field t m k (received x d now ok) h = h
-tried-field t m k (direct x ok) h = h
-tried-field t m k (reached q now) h = h
-
-tried-same : {A : Allowed} {m k : Member} → Fields A m k → k .tried ≡ m .tried
-tried-same {m = m} f = fields-keep (λ (x : Member). x .tried ≡ m .tried) (tried-field (m .tried)) f refl
-
-listed : (m slot : ℕ) → lowestBit m ≡ found.At slot → hasBit m slot ≡ true
-unfolding lowestBit
-listed m slot e = first-found (hasBit m) 64 0 slot e .1
+use Rattle.laws.proofs.VacantSign.{AllKeep, sign-keeps}
 
 module _ (i : ℕ) (low : i < 62) where
-  -- ---- turn_over: the slot that had the turn is tried; it is not this one
-
-  tried-by : (h₀ : List ℕ) (used tried a slot : ℕ) → (slot ≡ i → ⊥) → hasBit tried i ≡ false → hasBit (triedWith h₀ used tried a slot) i ≡ false
-  tried-by h₀ used tried a slot n f =
-      cond-keeps (λ (t : ℕ). hasBit t i ≡ false) (anyHears h₀ _ a) (withBit tried slot) 0 (λ _. with-other tried slot i n ∙ f) (λ _. has-none i)
-
-  turn-tried : (h₀ : List ℕ) (used : ℕ) (m : Member) (a slot : ℕ) → (slot ≡ i → ⊥) → hasBit (m .tried) i ≡ false → hasBit (turnOver h₀ used m a slot .tried) i ≡ false
-  unfolding turnOver
-  turn-tried h₀ used m a slot n f =
-      cond-keeps (λ (x : Member). hasBit (x .tried) i ≡ false) (not (eqb (m .up .next) (m .marknext)) || not (eqb (bitmapOf (m .up)) (m .markbits))) _ _
-      (λ _. has-none i) (λ _. tried-by h₀ used (m .tried) a slot n f)
-
   -- the source of a poll is a boat, or none
   source-by : (s : Station) (slot : ℕ) (f : hasBit (s .used) i ≡ false) (x : Found)
       → first (isSource (s .hears) (withoutBit (needsOf s) slot) (ableOf s) (triedOf s) slot (s .settings .relaysnr)) 62 0 ≡ x → slotOr63 x ≡ i → ⊥
@@ -100,23 +67,14 @@ module _ (i : ℕ) (low : i < 62) where
   -- ---- the round, the list and the turn
 
   marked : (s : Station) (old new : ℕ) → Within s old new → hasBit (s .used) i ≡ false → hasBit old i ≡ false → hasBit new i ≡ false
-  marked s old new w f o =
-      ⊎-elim (λ e. absurd (⊎-elim (λ a. never-both (hasBit old i) a o) (λ a. never-both (hasBit (s .used) i) (member-has (s .used) i a) f) (w i low e))) (λ e. e) (cases (hasBit new i))
-
-  turned-list : {s : Station} {y : Turn} {m : ℕ} → Turned s y m → hasBit (s .used) i ≡ false → hasBit (s .round .list) i ≡ false → hasBit m i ≡ false
-  turned-list still f o = o
-  turned-list ends f o = o
-  turned-list sends f o = o
-  turned-list {s} (polls slot e) f o = without-false (s .round .list) i slot o
-  turned-list (goes r a b e) f o = o
-  turned-list {s} (draws number) f o = unlisted s number f
+  marked s old new w f o = not-within s old new i w (λ a. never-both (hasBit (s .used) i) (member-has (s .used) i a) f) o
 
   turned-apart : {s : Station} {y : Turn} {m : ℕ} → Turned s y m → hasBit (s .used) i ≡ false → hasBit (s .round .list) i ≡ false → Apart i (s .wait .turn) → Apart i y
   turned-apart still f o t = t
   turned-apart ends f o t = tt
   turned-apart sends f o t = tt
   turned-apart {s} (polls slot e) f o t =
-      (λ q. never-both (hasBit (s .round .list) i) (subst (λ (y : ℕ). hasBit (s .round .list) y ≡ true) q (listed (s .round .list) slot e)) o, source-not s slot f)
+      (λ q. never-both (hasBit (s .round .list) i) (subst (λ (y : ℕ). hasBit (s .round .list) y ≡ true) q (lowest-in (s .round .list) slot e)) o, source-not s slot f)
   turned-apart (goes r a b e) f o t = subst (Apart i) e t
   turned-apart (draws number) f o t = t
 
@@ -128,14 +86,14 @@ change-kept s t (others r n e m q) k i low =
     (λ f b. (marked i low s (s .round .toack) (r .toack) (m .toack) f (b .toack), marked i low s (s .round .treenews) (r .treenews) (m .treenews) f (b .treenews), ap (λ (x : ℕ). hasBit x i) e ∙ b .list)) (k i low)
 change-kept s t (turned a w r n y m q) k i low =
     lists-kept i low (withWait s w) (r .toack) (r .treenews) (r .list)
-    (λ f b. (marked i low s (s .round .toack) (r .toack) (m .toack) f (b .toack), marked i low s (s .round .treenews) (r .treenews) (m .treenews) f (b .treenews), turned-list i low y f (b .list)))
+    (λ f b. (marked i low s (s .round .toack) (r .toack) (m .toack) f (b .toack), marked i low s (s .round .treenews) (r .treenews) (m .treenews) f (b .treenews), turned-list i y (λ n. unlisted i low s n f) (b .list)))
     (wait-kept i low s w (λ f b. turned-apart i low y f (b .list) (b .turn)) (k i low))
 change-kept s t (over a r e here) k i low =
     put-kept i low s (indexOf (r .relayfor)) _ (index-has (s .used) (r .relayfor) here)
-    (λ f b. let x : Apart i (Waiting r) = subst (Apart i) e (b .turn) in turn-tried i low (s .hears) (s .used) (memberAt s (r .relayfor)) (r .relayfor) (r .slot) (x .0) (b .tried (indexOf (r .relayfor)))) (k i low)
+    (λ f b. let x : Apart i (Waiting r) = subst (Apart i) e (b .turn) in turn-tried i (s .hears) (s .used) (memberAt s (r .relayfor)) (r .relayfor) (r .slot) (x .0) (b .tried (indexOf (r .relayfor)))) (k i low)
 change-kept s t (hears r c q l h) k i low = hears-kept i low s r c (q % 64) (member-has (s .used) r l) h (k i low)
-change-kept s t (written j m l here f) k i low = seat-kept i low s j m (member-has (s .used) j here) (tried-same f) (k i low)
-change-kept s t (counted j m n l here f) k i low = seat-kept i low s j _ (member-has (s .used) j here) (tried-same f) (k i low)
+change-kept s t (written j m l here f) k i low = seat-kept i low s j m (member-has (s .used) j here) (stays-tried f) (k i low)
+change-kept s t (counted j m n l here f) k i low = seat-kept i low s j _ (member-has (s .used) j here) (stays-tried f) (k i low)
 change-kept s t (promoted j snr l here d) k i low = seat-kept i low s j (promotedAt (seated s j) snr) (member-has (s .used) j here) refl (k i low)
 change-kept s t (moved c r l here there able n) k i low = seat-kept i low s c (reroutedTo (seated s c) r) (member-has (s .used) c here) refl (k i low)
 change-kept s t (readings j r l here) k i low = k i low
@@ -143,9 +101,9 @@ change-kept s t (entered c call v now l free r) k i low = enter-kept i low s c (
 change-kept s t (queued j q l here f) k i low = k i low
 change-kept s t (posted a j n l here e) k i low = k i low
 change-kept s t (piece a store slot field p m here f l d) k i low =
-    member-kept i low (withTable s (offered s store slot field p .table)) slot m here (tried-same f) (table-kept i low s slot field (memberAt s slot .up) store p here (k i low))
+    member-kept i low (withTable s (offered s store slot field p .table)) slot m here (stays-tried f) (table-kept i low s slot field (memberAt s slot .up) store p here (k i low))
 change-kept s t (landed a store slot field p m here f l d) k i low =
-    member-kept i low (withTable s (offered s store slot field p .table)) slot _ here (tried-same f) (table-kept i low s slot field (memberAt s slot .up) store p here (k i low))
+    member-kept i low (withTable s (offered s store slot field p .table)) slot _ here (stays-tried f) (table-kept i low s slot field (memberAt s slot .up) store p here (k i low))
 change-kept s t (freed a cell) k i low = freed-kept i low s cell (k i low)
 change-kept s t (barred a store slot field p here b) k i low =
     member-kept i low (withTable s (offered s store slot field p .table)) slot _ here refl (table-kept i low s slot field (memberAt s slot .up) store p here (k i low))

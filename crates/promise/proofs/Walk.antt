@@ -1,8 +1,8 @@
 -- What the definitions change of a station, taken apart into single changes, each with what is known where it is made; and chains of them. Every call is such a
 -- chain (WalkNext, WalkRx, WalkCalls): what each single change keeps, any calls keep. WalkRoster has the shorter forms for the roster and for every member. Assumes
 -- nothing.
-use mathlib.Core.Path.{_≡_, refl, _∙_}
-use mathlib.Core.Logic.{_⊎_}
+use mathlib.Core.Path.{_≡_, refl, _∙_, subst}
+use mathlib.Core.Logic.{_⊎_, ⊎-elim}
 use mathlib.Core.Bool.{true, false, not, _||_}
 use mathlib.Core.List.{List}
 use Prim.Native.Nat.{ℕ, _+_, _*_, _%_, _<_}
@@ -11,7 +11,9 @@ use lib.Ieee.{Float}
 use lib.ListN.{getD, set}
 use Rattle.bits.specs.Mask.{hasBit, withBit, withoutBit, lowestBit}
 use Rattle.bits.specs.declared.Found.the-variants as found
-use Rattle.bits.proofs.Lists.{cond-keeps}
+use Rattle.bits.proofs.Lists.{cond-keeps, cases, eq-or-not, never-both}
+use Rattle.bits.proofs.Laws.{has-none, with-other, without-same, without-other}
+use Rattle.bits.proofs.Loops.{first-found}
 use Rattle.level.specs.declared.Level.{Level}
 use Rattle.level.specs.declared.Level.the-variants.{Decibels}
 use Rattle.level.specs.declared.Clock.the-variants.{At}
@@ -21,7 +23,7 @@ use Rattle.stream.specs.Table.{Accepted, accept, freedTable, hasLanded}
 use Rattle.recent.specs.declared.Recent.{Recent}
 use Rattle.roster.specs.declared.Member.{Member}
 use Rattle.roster.specs.Members.{newMember, withLinks, withMissed, withBurst, withMark, knownCaps, knownVersion, withHeard, withDown, withDirect, receivedAt, promotedAt, reroutedTo, landedOne, barredOne, toldNow}
-use Rattle.roster.specs.Relays.{couldRelay, turnOver}
+use Rattle.roster.specs.Relays.{couldRelay, anyHears, turnOver}
 use Rattle.queue.specs.declared.Queue.{Queue}
 use Rattle.queue.specs.Queues.{emptyQueue, reportedTo, sentIn, spaceRefusal, postedTo}
 use Rattle.net.specs.declared.Station.{Station}
@@ -70,33 +72,36 @@ pub record Stays (m k : Member) : Type 0 where
   pub via : k .via ≡ m .via
   pub missed : k .missed ≡ m .missed
 
--- and the window
+-- and the window, and the relayers tried
 abbrev pub StaysUp : Member → Member → Type 0
-StaysUp m k = Stays m k × (k .up ≡ m .up)
+StaysUp m k = Stays m k × (k .up ≡ m .up) × (k .tried ≡ m .tried)
 
 field-stays : {A : Allowed} {m k : Member} → Field A m k → StaysUp m k
-field-stays (burst n) = (record { call = refl; via = refl; missed = refl }, refl)
-field-stays told = (record { call = refl; via = refl; missed = refl }, refl)
-field-stays (caps n) = (record { call = refl; via = refl; missed = refl }, refl)
-field-stays (version n) = (record { call = refl; via = refl; missed = refl }, refl)
-field-stays (heard now) = (record { call = refl; via = refl; missed = refl }, refl)
-field-stays (down q) = (record { call = refl; via = refl; missed = refl }, refl)
-field-stays (received x l now ok) = (record { call = refl; via = refl; missed = refl }, refl)
-field-stays (direct x ok) = (record { call = refl; via = refl; missed = refl }, refl)
-field-stays (reached q now) = (record { call = refl; via = refl; missed = refl }, refl)
+field-stays (burst n) = (record { call = refl; via = refl; missed = refl }, refl, refl)
+field-stays told = (record { call = refl; via = refl; missed = refl }, refl, refl)
+field-stays (caps n) = (record { call = refl; via = refl; missed = refl }, refl, refl)
+field-stays (version n) = (record { call = refl; via = refl; missed = refl }, refl, refl)
+field-stays (heard now) = (record { call = refl; via = refl; missed = refl }, refl, refl)
+field-stays (down q) = (record { call = refl; via = refl; missed = refl }, refl, refl)
+field-stays (received x l now ok) = (record { call = refl; via = refl; missed = refl }, refl, refl)
+field-stays (direct x ok) = (record { call = refl; via = refl; missed = refl }, refl, refl)
+field-stays (reached q now) = (record { call = refl; via = refl; missed = refl }, refl, refl)
 
 both-stay : {A : Allowed} {m k : Member} → Fields A m k → StaysUp m k
-both-stay none = (record { call = refl; via = refl; missed = refl }, refl)
+both-stay none = (record { call = refl; via = refl; missed = refl }, refl, refl)
 both-stay (also c f) =
     let a = both-stay c in
     let b = field-stays f in
-    (record { call = b .0 .call ∙ a .0 .call; via = b .0 .via ∙ a .0 .via; missed = b .0 .missed ∙ a .0 .missed }, b .1 ∙ a .1)
+    (record { call = b .0 .call ∙ a .0 .call; via = b .0 .via ∙ a .0 .via; missed = b .0 .missed ∙ a .0 .missed }, b .1 ∙ a .1, b .2 ∙ a .2)
 
 pub stays : {A : Allowed} {m k : Member} → Fields A m k → Stays m k
 stays f = both-stay f .0
 
 pub stays-up : {A : Allowed} {m k : Member} → Fields A m k → k .up ≡ m .up
 stays-up f = both-stay f .1
+
+pub stays-tried : {A : Allowed} {m k : Member} → Fields A m k → k .tried ≡ m .tried
+stays-tried f = both-stay f .2
 
 -- what came of a turn is a mark and the relayers tried
 pub over-keeps : (Q : Member → Type 0) (hears : List ℕ) (used : ℕ) (m : Member) (a slot : ℕ) → ((next marks tried : ℕ) → Q (withMark m next marks tried))
@@ -107,6 +112,13 @@ over-keeps Q hears used m a slot q =
 
 pub over-stays : (hears : List ℕ) (used : ℕ) (m : Member) (a slot : ℕ) → Stays m (turnOver hears used m a slot)
 over-stays hears used m a slot = over-keeps (Stays m) hears used m a slot (λ next marks tried. record { call = refl; via = refl; missed = refl })
+
+-- of the relayers tried, the slot that had the turn apart, none is new
+pub turn-tried : (i : ℕ) (hears : List ℕ) (used : ℕ) (m : Member) (a slot : ℕ) → (slot ≡ i → ⊥) → hasBit (m .tried) i ≡ false → hasBit (turnOver hears used m a slot .tried) i ≡ false
+unfolding turnOver
+turn-tried i hears used m a slot n f =
+    cond-keeps (λ (x : Member). hasBit (x .tried) i ≡ false) (not (eqb (m .up .next) (m .marknext)) || not (eqb (bitmapOf (m .up)) (m .markbits))) _ _ (λ _. has-none i)
+    (λ _. cond-keeps (λ (t : ℕ). hasBit t i ≡ false) (anyHears hears _ a) (withBit (m .tried) slot) 0 (λ _. with-other (m .tried) slot i n ∙ f) (λ _. has-none i))
 
 -- what each field written keeps, any number of them keep
 pub fields-keep : {A : Allowed} {m k : Member} (Q : Member → Type 0) → ((x y : Member) → Field A x y → Q x → Q y) → Fields A m k → Q m → Q k
@@ -126,9 +138,29 @@ pub data Turned (s : Station) : Turn → ℕ → Type 0 where
       → Turned s (Waiting (record { slot = r .slot; relayfor = r .relayfor; tries = tries; turnbursts = bursts })) (s .round .list)
   draws : (number : ℕ) → Turned s (s .wait .turn) (listFor s number)
 
+-- a mask with a slot struck has none that it had not; its lowest slot is in it
+pub without-false : (m i j : ℕ) → hasBit m i ≡ false → hasBit (withoutBit m j) i ≡ false
+without-false m i j f = ⊎-elim (λ e. subst (λ (y : ℕ). hasBit (withoutBit m j) y ≡ false) e (without-same m j)) (λ z. without-other m j i z ∙ f) (eq-or-not j i)
+
+pub lowest-in : (m slot : ℕ) → lowestBit m ≡ found.At slot → hasBit m slot ≡ true
+unfolding lowestBit
+lowest-in m slot e = first-found (hasBit m) 64 0 slot e .1
+
+-- a slot that is not on the list, nor on one drawn up, is not on the list after it
+pub turned-list : {s : Station} {y : Turn} {m : ℕ} (i : ℕ) → Turned s y m → ((n : ℕ) → hasBit (listFor s n) i ≡ false) → hasBit (s .round .list) i ≡ false → hasBit m i ≡ false
+turned-list i still f o = o
+turned-list i ends f o = o
+turned-list i sends f o = o
+turned-list {s} i (polls slot e) f o = without-false (s .round .list) i slot o
+turned-list i (goes r tries bursts e) f o = o
+turned-list i (draws number) f o = f number
+
 -- a mask of slots has none that it had not, members apart
 abbrev pub Within : Station → ℕ → ℕ → Type 0
-Within s old new = (i : ℕ) → i < 62 → hasBit new i ≡ true → (hasBit old i ≡ true) ⊎ (isMember (s .used) i ≡ true)
+Within s old new = (i : ℕ) → hasBit new i ≡ true → (hasBit old i ≡ true) ⊎ (isMember (s .used) i ≡ true)
+
+pub not-within : (s : Station) (old new i : ℕ) → Within s old new → (isMember (s .used) i ≡ true → ⊥) → hasBit old i ≡ false → hasBit new i ≡ false
+not-within s old new i w n o = ⊎-elim (λ e. absurd (⊎-elim (λ a. never-both (hasBit old i) a o) n (w i e))) (λ e. e) (cases (hasBit new i))
 
 -- those to be acknowledged, and those whose place in the relay tree is news
 pub record Marks (s : Station) (r : Round) : Type 0 where

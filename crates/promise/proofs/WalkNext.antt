@@ -1,7 +1,7 @@
 -- The next decision is a chain of single changes, stage by stage. Assumes nothing.
 use mathlib.Core.Path.{_≡_, refl, sym, ap, _∙_, subst}
 use mathlib.Core.Logic.{inl, inr, ⊎-elim}
-use Prim.Native.Nat.{ℕ, _<_}
+use Prim.Native.Nat.{ℕ, zero, suc, _<_}
 use native.Mathlib.Omega.{arith}
 use mathlib.Core.Bool.{Bool, true, false, cond, not, _&&_, _||_}
 use mathlib.Core.List.{List, []}
@@ -37,10 +37,9 @@ use Rattle.net.specs.State.{indexOf, memberAt, withMember, withMembers, withCou
 use Rattle.net.specs.Net.{isMember, idleWait, Said, said, membersIn}
 use Rattle.net.proofs.Laws.{index-lt, index-is, member-lt, member-is}
 use Rattle.bursts.specs.Rows.{seated}
-use Rattle.bursts.specs.Bursts.{acked, beyond, acksBurst, beaconOf, tellAt, tellAll, listSent, listTold, rxListBurst}
+use Rattle.bursts.specs.Bursts.{acked, withoutFound, beyond, acksBurst, beaconOf, tellAt, tellAll, listSent, listTold, rxListBurst}
 use Rattle.bursts.specs.Reroute.{ableAt, ableOf, floorOf, promoteWith, promoteAt, promoteAll, leafAt, leavesOf, newRelay, mustMove, moveAt, moveAll, rerouteOf}
 use Rattle.bursts.proofs.Masks.{mask-where}
-use Rattle.bursts.proofs.Listed.{beyond-has}
 use Rattle.next.specs.declared.Due.{Due}
 use Rattle.next.specs.declared.Due.the-variants.{Free, Quiet, Close, Again, Missed}
 use Rattle.next.specs.declared.Act.{Act}
@@ -59,18 +58,27 @@ index-member used slot here = ap (isMember used) (index-is slot (member-lt used 
 
 -- masks of slots
 same-marks : (s : Station) (r : Round) → r .toack ≡ s .round .toack → r .treenews ≡ s .round .treenews → Marks s r
-same-marks s r p q = record { toack = λ i l h. inl (ap (λ (m : ℕ). hasBit m i) (sym p) ∙ h); treenews = λ i l h. inl (ap (λ (m : ℕ). hasBit m i) (sym q) ∙ h) }
+same-marks s r p q = record { toack = λ i h. inl (ap (λ (m : ℕ). hasBit m i) (sym p) ∙ h); treenews = λ i h. inl (ap (λ (m : ℕ). hasBit m i) (sym q) ∙ h) }
 
 none-left : (s : Station) (old : ℕ) → Within s old 0
-none-left s old i l h = absurd (never-both (hasBit 0 i) h (has-none i))
+none-left s old i h = absurd (never-both (hasBit 0 i) h (has-none i))
 
 one-more : (s : Station) (old c : ℕ) → isMember (s .used) c ≡ true → Within s old (withBit old c)
-one-more s old c here i l h =
+one-more s old c here i h =
     ⊎-elim (λ e. inr (subst (λ (j : ℕ). isMember (s .used) j ≡ true) e here)) (λ n. inl (sym (with-other old c i n) ∙ h)) (eq-or-not c i)
 
+beyond-in : (k m i : ℕ) → hasBit (beyond k m) i ≡ true → hasBit m i ≡ true
+unfolding beyond
+beyond-in zero m i h = h
+beyond-in (suc k) m i h = by (lowestBit m) (beyond-in k (withoutFound (lowestBit m) m) i h)
+  where
+    by : (f : Found) → hasBit (withoutFound f m) i ≡ true → hasBit m i ≡ true
+    by (found.At j) e = without-in m j i e .0
+    by found.Nothing e = e
+
 fewer : (s : Station) → Within s (s .round .toack) (beyond 9 (acked s))
-fewer s i l h =
-    let b = and-true (hasBit (acked s) i) _ (sym (beyond-has 9 (acked s) i (omega arith)) ∙ h) .0 in
+fewer s i h =
+    let b = beyond-in 9 (acked s) i h in
     inl (and-true (hasBit (s .round .toack) i) (hasBit (membersIn (s .used)) i) (sym (has-both (s .round .toack) (membersIn (s .used)) i) ∙ b) .0)
 
 -- what is due of a reply is due of the running turn's
@@ -136,10 +144,10 @@ module _ (A : Allowed) where
     calm s r t e p q n k = more k (others r t e (same-marks s r p q) n)
 
     pub ack : (s : Station) (i : ℕ) → isMember (s .used) i ≡ true → Chain A s₀ s → Chain A s₀ (alsoAck s i)
-    ack s i here k = more k (others _ _ refl (record { toack = one-more s (s .round .toack) i here; treenews = λ j l h. inl h }) refl)
+    ack s i here k = more k (others _ _ refl (record { toack = one-more s (s .round .toack) i here; treenews = λ j h. inl h }) refl)
 
     news : (s : Station) (i : ℕ) → isMember (s .used) i ≡ true → Chain A s₀ s → Chain A s₀ (alsoNews s i)
-    news s i here k = more k (others _ _ refl (record { toack = λ j l h. inl h; treenews = one-more s (s .round .treenews) i here }) refl)
+    news s i here k = more k (others _ _ refl (record { toack = λ j h. inl h; treenews = one-more s (s .round .treenews) i here }) refl)
 
     -- the turn, and the list
     pub turn : (s : Station) (w : Wait) (r : Round) (t : Totals) → A .turns → Turned s (w .turn) (r .list) → r .toack ≡ s .round .toack
@@ -255,7 +263,7 @@ module _ (A : Allowed) where
 
       beacon-walk : (s : Station) (now : Float) → Chain A s₀ s → Chain A s₀ (beaconOf s now .station)
       unfolding beaconOf
-      beacon-walk s now k = more k (turned allowed _ _ _ sends (record { toack = fewer s; treenews = λ i l h. inl h }) refl)
+      beacon-walk s now k = more k (turned allowed _ _ _ sends (record { toack = fewer s; treenews = λ i h. inl h }) refl)
 
       poll-by : (f : Found) (s : Station) → lowestBit (s .round .list) ≡ f → Chain A s₀ s → WalkNext (pollBy f s)
       poll-by found.Nothing s e k = k

@@ -1,17 +1,16 @@
 -- The slot whose reply is waited for has a member, and so has each slot of the round's list: an instance of the walk. Assumes nothing.
 use mathlib.Core.Path.{_≡_, refl, sym, _∙_, subst}
-use mathlib.Core.Logic.{_⊎_, ⊎-elim}
+use mathlib.Core.Logic.{⊎-elim}
 use Prim.Native.Nat.{ℕ, _%_, _/_}
 use mathlib.Core.Bool.{true, false, _&&_, _||_}
 use mathlib.Core.List.{List}
 use lib.Dec.{eqb, ltb}
 use lib.ListN.{length}
 use borrow.Author.Tests.{eqb-false}
-use Rattle.bits.specs.Mask.{hasBit, withBit, withoutBit, lowestBit}
-use Rattle.bits.specs.declared.Found.the-variants as found
+use Rattle.bits.specs.Mask.{hasBit, withBit, withoutBit}
 use Rattle.bits.proofs.Laws.{has-none, without-same, without-other}
 use Rattle.bits.proofs.Lists.{cond-keeps, and-true, lt-or-le, eq-or-not, never-both}
-use Rattle.bits.proofs.Loops.{first-found, fold-keeps}
+use Rattle.bits.proofs.Loops.{fold-keeps}
 use Rattle.net.specs.declared.Station.{Station}
 use Rattle.net.specs.declared.Settings.{Settings}
 use Rattle.net.specs.declared.Turn.{Turn}
@@ -29,7 +28,7 @@ use Rattle.stream.specs.Table.{cellCount}
 use Rattle.station.specs.Entries.{startRefusal}
 use Rattle.signoff.specs.SignOff.{strikeBy, signOff, bereaveAt, bereaveAll, leave, struckOff}
 use Rattle.promise.specs.Promise.{Call, Net, step, started}
-use Rattle.promise.proofs.Walk.{Turned, still, ends, sends, polls, goes, draws, Change, others, turned, over, hears, written, counted, promoted, moved, entered, queued, posted, piece, landed, freed, barred, readings, signsOff, chain-keeps}
+use Rattle.promise.proofs.Walk.{lowest-in, Turned, still, ends, sends, polls, goes, draws, Change, others, turned, over, hears, written, counted, promoted, moved, entered, queued, posted, piece, landed, freed, barred, readings, signsOff, chain-keeps}
 use Rattle.promise.proofs.WalkCalls.{all, step-walk}
 use Rattle.promise.proofs.WalkRx.{member-with}
 use Rattle.promise.proofs.Signs.{sign-beside}
@@ -48,10 +47,6 @@ pub record Polled (s : Station) : Type 0 where
   pub list : ListIn (s .used) (s .round .list)
 
 -- ---- the list and the turn
-
-listed : (m slot : ℕ) → lowestBit m ≡ found.At slot → hasBit m slot ≡ true
-unfolding lowestBit
-listed m slot e = first-found (hasBit m) 64 0 slot e .1
 
 list-without : (used list slot : ℕ) → ListIn used list → ListIn used (withoutBit list slot)
 list-without used list slot h i t =
@@ -79,7 +74,7 @@ turned-turn : {s : Station} {y : Turn} {m : ℕ} → Turned s y m → Polled s �
 turned-turn still p = p .turn
 turned-turn ends p = tt
 turned-turn sends p = tt
-turned-turn {s} (polls slot e) p = p .list slot (listed (s .round .list) slot e)
+turned-turn {s} (polls slot e) p = p .list slot (lowest-in (s .round .list) slot e)
 turned-turn {s} (goes r a b e) p = subst (TurnIn (s .used)) e (p .turn)
 turned-turn (draws number) p = p .turn
 
