@@ -5,9 +5,8 @@ use mathlib.Core.Bool.{false}
 use mathlib.Core.List.{List, [], _∷_, _++_}
 use Prim.Native.Nat.{ℕ}
 use native.Mathlib.Omega.{arith}
-use lib.IntN.{pos}
 use lib.ListN.{replicate}
-use lib.Ieee.{Float, fin, size, units, round, sum, add, sub, mul, lt, le, eq, ofInt, ofBits}
+use lib.Ieee.{size, units, round, sum, add, sub, mul, lt, le, eq, ofInt, ofBits}
 use Rattle.bits.specs.Loop.{first, fold, every, any}
 use Rattle.bits.specs.Mask.{hasBit, withBit, withoutBit, bothOf, eitherOf, minusOf, lowestBit, lowestFree, slotsOf}
 use Rattle.bits.specs.Stop.{stop}
@@ -38,13 +37,8 @@ use Rattle.signoff.specs.SignOff.{bereaveAt, bereaveAll, clearAt, clearAll, unh
 use Rattle.station.specs.SignOff.{signOffRefusal, signOffOf}
 use Rattle.station.specs.Entries.{admitRefusal, admitOf, receiveRefusal, receiveOf, nextRefusal, nextOf, postRefusal, postOf, sentOf}
 use Rattle.promise.specs.Promise.{handed, net, Call, admission, reception, decision, posting, sending, signing, result, outcome, step}
+use Rattle.promise.proofs.TurnsRun.{nil, far}
 use Rattle.laws.specs.Directed.{Desk, opened, alsoTold, toldBy, deskAfter, QueuesLent}
-
-abbrev nil : Float
-nil = fin false 0 (pos 0)
-
-abbrev far : Float
-far = fin false 1000 (pos 0)
 
 -- every time 0 but the beacon's; two frames a burst, of two bytes each
 abbrev settings : Settings

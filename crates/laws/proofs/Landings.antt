@@ -4,7 +4,7 @@ use mathlib.Core.Bool.{Bool, true, false, cond, _&&_, _||_}
 use mathlib.Core.Option.{none, some}
 use mathlib.Core.List.{List, [], _∷_, _++_, append-nil}
 use mathlib.Core.Logic.{⊎-elim}
-use Prim.Native.Nat.{ℕ, _*_, _/_, _%_, _≤_, _<_}
+use Prim.Native.Nat.{ℕ, _%_, _≤_, _<_}
 use native.Mathlib.Omega.{arith}
 use lib.ListN.{length, getD}
 use lib.Seq.{getD-set-same}
@@ -38,7 +38,7 @@ use Rattle.rx.specs.Reception.{airOf, ncsRx}
 use Rattle.station.specs.Entries.{Outcome, receiveOf, cellRefusal, freeOf}
 use Rattle.promise.specs.Promise.{lentTo, Net, net, Call, admission, reception, decision, sending, closing, reading, freeing, charging, signing, result, inBook, outcome, step, after, alsoHanded, framesBy, Event2, eventsIn, answersOf, asking, posting}
 use Rattle.laws.specs.Marks.{alsoLanded, landedBy, landedIn}
-use Rattle.promise.proofs.Ledgers.{handed-other}
+use Rattle.promise.proofs.Ledgers.{handed-other, one-or}
 use Rattle.promise.proofs.Ties.{View}
 use Rattle.promise.proofs.Pieces.{alsoOne, windowsAfter, viewAfter, viewBarred, eventFor}
 use Rattle.promise.proofs.Quiet.{windowAt, Keeps, viewOf}
@@ -159,19 +159,7 @@ module _ (t : Table) (x : Accepted) (l : Landing t x) where
 
 handed-by : (s k : ℕ) (f : ℕ → ℕ → Bool) (i j : ℕ) → s ≡ i → alsoHanded s k f i j ≡ f i j || eqb j k
 unfolding alsoHanded
-handed-by s k f i j e = ap (λ (t : Bool). cond (t && eqb k j) true (f i j)) (eq-eqb s i e) ∙ ⊎-elim yes no (eq-or-not k j)
-  where
-    at : (t u : Bool) → cond t true u ≡ u || t
-    at true true = refl
-    at true false = refl
-    at false true = refl
-    at false false = refl
-
-    yes : k ≡ j → cond (eqb k j) true (f i j) ≡ f i j || eqb j k
-    yes q = ap (λ (t : Bool). cond t true (f i j)) (eq-eqb k j q ∙ sym (eq-eqb j k (sym q))) ∙ at (eqb j k) (f i j)
-
-    no : (k ≡ j → ⊥) → cond (eqb k j) true (f i j) ≡ f i j || eqb j k
-    no q = ap (λ (t : Bool). cond t true (f i j)) (ne-eqb k j q ∙ sym (ne-eqb j k (λ z. q (sym z)))) ∙ at (eqb j k) (f i j)
+handed-by s k f i j e = ap (λ (t : Bool). cond (t && eqb k j) true (f i j)) (eq-eqb s i e) ∙ one-or k j (f i j)
 
 -- ---- a piece
 

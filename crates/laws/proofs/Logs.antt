@@ -31,7 +31,8 @@ use Rattle.promise.proofs.TurnsLists.{list-once}
 use Rattle.promise.proofs.Turns.{start-is, followed}
 use Rattle.laws.proofs.LogsWords.{Good, good-none, good-mark, Agree}
 use Rattle.laws.proofs.LogsRows.{Sendable}
-use Rattle.laws.proofs.LogsCalls.{Spoken, Reports, overOf, drewOf, behindOf, events-are, reports}
+use Rattle.laws.proofs.LogsCalls.{Spoken, Reports, reports}
+use Rattle.promise.proofs.CallEvents.{overOf, drewOf, behindOf, events-are}
 
 -- ---- the check beside the monitor
 

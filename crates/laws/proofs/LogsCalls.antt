@@ -30,7 +30,7 @@ use Rattle.net.specs.declared.Wait.{Wait}
 use Rattle.net.specs.State.{memberAt, withWait, withRound, withRxsent, withRxdirty, oneList, oneReply, queueAt}
 use Rattle.net.specs.Net.{isMember, idleWait, Said, said, onTxDone}
 use Rattle.admit.specs.Admission.{seatOf, isFull, viaFor}
-use Rattle.bursts.specs.Rows.{ackRows, treeRows, listRows, leastReach, leastDirect, reachLevel, seated}
+use Rattle.bursts.specs.Rows.{ackRows, treeRows, listRows, leastDirect, reachLevel, seated}
 use Rattle.bursts.specs.Bursts.{tinyWords, pollBurst, acked, movedIn, ackedOrMoved, acksBurst, beaconPayload, beaconRows, beaconAcks, beaconOf, listSent, rxListBurst, sends, tellAt, tellAll, listTold, listWords, acksLevel}
 use Rattle.bursts.specs.Reroute.{sourceFor, rerouteOf}
 use Rattle.next.specs.declared.Act.{Act}
@@ -47,12 +47,13 @@ use Rattle.rx.specs.Reception.{Received, airOf, firstReading, receivedOf, ncsRx
 use Rattle.station.specs.Entries.{Outcome, refused, done, unless, admitOf, receiveBy, receiveRefusal, receiveOf, nextOf, sentOf, closeOf, freeOf, readRefusal, check1, admitRefusal, nextRefusal, closeRefusal, cellRefusal, postRefusal, postOf}
 use Rattle.station.specs.Worst.{worstOf, refusalIn}
 use Rattle.dues.specs.Dues.{duesRefusal}
-use Rattle.promise.specs.Promise.{lentTo, Net, ofBurst, Call, admission, reception, decision, sending, closing, reading, freeing, charging, signing, asking, result, outcome, overIf, drewIf, leads, LinksHold, posting}
+use Rattle.promise.specs.Promise.{lentTo, Net, ofBurst, Call, admission, reception, decision, sending, closing, reading, freeing, charging, signing, asking, result, outcome, leads, LinksHold, posting}
+use Rattle.promise.proofs.CallEvents.{behindOf}
 use Rattle.promise.proofs.TurnsWords.{Mute, mute-none, mute-both, mute-missed, other-burst, quiet-both, quiet-ctrl, quiet-chunk-words, down-burst}
 use Rattle.promise.proofs.TurnsKeeps.{reroute-calm, admit-calm, CalmIn, calm-start, frames-calm}
 use Rattle.laws.proofs.LogsWords.{Burst, burst-none, burst-other, burst-poll, burst-pollack, burst-ack, burst-close, Frames, frames-none, frames-less, frames-both, frames-one, burst-level}
 use Rattle.laws.proofs.LogsRows.{Sendable, acks-frames, list-frames, beacon-frames}
-use Rattle.bursts.specs.Direct.{roomAt, payloadAt, downFrame, downFrames, downBurst, directedTo, directBurst}
+use Rattle.bursts.specs.Direct.{roomAt, payloadAt, downFrame, downFrames, downBurst, directBurst}
 use Rattle.bursts.proofs.Directing.{reach-lt, least-le, least-fst}
 use Rattle.queue.specs.declared.Queue.{Queue}
 use Rattle.queue.specs.Queues.{firstOf, byteAt, bytesFrom}
@@ -374,61 +375,6 @@ reports-receive malformed n s snr now store =
 reports-receive (parsed b) n s snr now store =
     reports-unless n s store (receiveBy (parsed b) s snr now store) (ncsRx s b snr now store .over)
     (λ l. let f = heard-rx s b snr now store in record { spoken = f .spoken; settings = f .settings })
-
--- what ends or is drawn up in a call, as the definitions have it; a sign-off apart
-abbrev pub overOf : Call → Net → Option ℕ
-overOf (admission packed relay now room) n = none
-overOf (reception words snr now lent room numbers) n = none
-overOf (decision now queue room) n = ncsNext (n .station) now queue .over
-overOf (posting slot message queue) n = none
-overOf (sending now) n = none
-overOf (closing count) n = none
-overOf (reading cell lent) n = none
-overOf (freeing cell) n = none
-overOf (charging figures) n = none
-overOf (signing slot) n = none
-overOf (asking slot) n = none
-
-abbrev pub drewOf : Call → Net → Option ℕ
-drewOf (admission packed relay now room) n = none
-drewOf (reception words snr now lent room numbers) n = none
-drewOf (decision now queue room) n = ncsNext (n .station) now queue .drew
-drewOf (posting slot message queue) n = none
-drewOf (sending now) n = none
-drewOf (closing count) n = none
-drewOf (reading cell lent) n = none
-drewOf (freeing cell) n = none
-drewOf (charging figures) n = none
-drewOf (signing slot) n = none
-drewOf (asking slot) n = none
-
-abbrev pub behindOf : Call → Net → Option ℕ
-behindOf (admission packed relay now room) n = none
-behindOf (reception words snr now lent room numbers) n = ofBurst (parse words) none (λ b. ncsRx (n .station) b snr now (lentTo lent (n .store)) .over)
-behindOf (decision now queue room) n = none
-behindOf (posting slot message queue) n = none
-behindOf (sending now) n = none
-behindOf (closing count) n = none
-behindOf (reading cell lent) n = none
-behindOf (freeing cell) n = none
-behindOf (charging figures) n = none
-behindOf (signing slot) n = none
-behindOf (asking slot) n = none
-
-pub events-are : (c : Call) (n : Net) → ((slot : ℕ) → c ≡ signing slot → ⊥)
-    → (result c n .before ≡ overIf (overOf c n) ++ drewIf (drewOf c n)) × (result c n .behind ≡ overIf (behindOf c n))
-unfolding result
-events-are (admission packed relay now room) n f = (refl, refl)
-events-are (reception words snr now lent room numbers) n f = (refl, refl)
-events-are (decision now queue room) n f = (refl, refl)
-events-are (posting slot message queue) n f = (refl, refl)
-events-are (sending now) n f = (refl, refl)
-events-are (closing count) n f = (refl, refl)
-events-are (reading cell lent) n f = (refl, refl)
-events-are (freeing cell) n f = (refl, refl)
-events-are (charging figures) n f = (refl, refl)
-events-are (signing slot) n f = absurd (f slot refl)
-events-are (asking slot) n f = (refl, refl)
 
 pub reports : (c : Call) (n : Net) → ((slot : ℕ) → c ≡ signing slot → ⊥) → Sendable (n .station .settings) → LinksHold (outcome c n .station) → Reports (n .station) (outcome c n) (behindOf c n)
 unfolding result admitOf receiveOf nextOf postOf sentOf closeOf freeOf onTxDone

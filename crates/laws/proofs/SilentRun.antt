@@ -3,9 +3,8 @@
 use mathlib.Core.Path.{_≡_, refl}
 use mathlib.Core.Bool.{false}
 use mathlib.Core.List.{List, [], _∷_, _++_}
-use lib.IntN.{pos}
 use lib.ListN.{replicate}
-use lib.Ieee.{Float, fin, size, units, round, sum, add, mul, lt, le, ofInt, ofBits}
+use lib.Ieee.{size, units, round, sum, add, mul, lt, le, ofInt, ofBits}
 use Rattle.bits.specs.Loop.{first, fold, every, any}
 use Rattle.bits.specs.Mask.{hasBit, withBit, withoutBit, bothOf, eitherOf, minusOf, lowestBit, lowestFree, slotsOf}
 use Rattle.bits.specs.Stop.{stop}
@@ -29,26 +28,15 @@ use Rattle.frames.specs.Frames.{readFrames}
 use Rattle.rx.specs.Ending.{idleEnd, replyEnd}
 use Rattle.rx.specs.Reception.{ncsRx}
 use Rattle.station.specs.Entries.{admitRefusal, admitOf, receiveRefusal, receiveOf, nextRefusal, nextOf, sentOf}
-use Rattle.promise.specs.Promise.{handed, Net, net, Call, admission, reception, decision, sending, result, step, after}
+use Rattle.promise.specs.Promise.{handed, Net, net, Call, admission, reception, result, step, after}
+use Rattle.promise.proofs.TurnsRun.{nil, far, next, sent}
 use Rattle.queue.specs.Queues.{isDue}
 use Rattle.bursts.specs.Direct.{directedTo}
-
-abbrev nil : Float
-nil = fin false 0 (pos 0)
-
-abbrev far : Float
-far = fin false 1000 (pos 0)
 
 -- every time 0 but the beacon's
 abbrev settings : Settings
 settings =
     record { turnaround = nil; maxburst = nil; replyslack = nil; detect = nil; beaconevery = far; quickbeacon = far; idleroundgap = nil; durations = replicate 4 nil; thresholds = replicate 17 nil; margin = nil; relaysnr = nil; misslimit = 2; beaconlevel = 0; windowslots = 0; call = replicate 7 32; name = replicate 6 32; prime = false; lead = nil; latency = nil; rooms = replicate 17 1; payloads = replicate 17 1 }
-
-abbrev next : Call
-next = decision nil (replicate 126976 0) 8192
-
-abbrev sent : Call
-sent = sending nil
 
 -- K_IDLE from slot 0
 abbrev idle : Call
@@ -61,7 +49,7 @@ once = admission (0 ∷ 0 ∷ 0 ∷ 0 ∷ 1 ∷ []) 63 nil 8192 ∷ next ∷ sen
 abbrev twice : List Call
 twice = once ++ (sent ∷ next ∷ sent ∷ next ∷ [])
 
-abbrev from : Net
+abbrev pub from : Net
 from = net (newStation settings 1) (replicate 6400 7)
 
 -- the missed count and the total

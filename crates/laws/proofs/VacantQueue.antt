@@ -1,27 +1,29 @@
 -- The directed queue of a slot without a boat is as at a start, after any calls: no change but three touches it. Assumes nothing.
-use mathlib.Core.Path.{_≡_, refl, sym, ap, _∙_, subst}
+use mathlib.Core.Path.{_≡_, refl, sym, _∙_, subst}
 use mathlib.Core.Logic.{⊎-elim}
 use Prim.Native.Nat.{ℕ, _<_}
 use native.Mathlib.Omega.{arith}
-use mathlib.Core.Bool.{true, false}
+use mathlib.Core.Bool.{false}
 use mathlib.Core.List.{List}
-use lib.ListN.{length, getD, set, replicate, length-set, length-replicate, getD-replicate}
+use lib.ListN.{length, getD, set, length-set, length-replicate, getD-replicate}
 use lib.Seq.{getD-set-same, getD-set-other}
 use Rattle.bits.specs.Mask.{hasBit, withBit, withoutBit}
 use Rattle.bits.proofs.Lists.{cond-keeps, never-both, eq-or-not}
 use Rattle.bits.proofs.Loops.{fold-keeps}
-use Rattle.bits.proofs.Laws.{with-same, with-other, without-other}
+use Rattle.bits.proofs.Laws.{with-other, without-other}
+use Rattle.recent.specs.declared.Recent.{Recent}
 use Rattle.queue.specs.declared.Queue.{Queue}
 use Rattle.queue.specs.Queues.{emptyQueue}
 use Rattle.net.specs.declared.Station.{Station}
 use Rattle.net.specs.declared.Settings.{Settings}
-use Rattle.net.specs.Net.{isMember, newStation}
+use Rattle.net.specs.Net.{newStation}
 use Rattle.net.proofs.Laws.{member-lt, member-has}
 use Rattle.config.specs.declared.Given.{Given}
 use Rattle.station.specs.Entries.{startRefusal}
 use Rattle.signoff.specs.SignOff.{leave, bereaveAt, bereaveAll, struckOff, signOff}
 use Rattle.promise.specs.Promise.{Call, after, started}
-use Rattle.promise.proofs.Walk.{Allowed, Change, others, turned, over, hears, written, counted, promoted, moved, readings, entered, queued, posted, piece, landed, freed, barred, signsOff}
+use Rattle.promise.proofs.Walk.{Allowed, Change}
+use Rattle.promise.proofs.WalkRoster.{Beside, kept, ring, queue, joins, leaves, beside}
 use Rattle.promise.proofs.WalkCalls.{always}
 
 -- 62 queues, and nothing posted where there is no boat
@@ -65,33 +67,23 @@ put-there used used′ qs j q k f g =
 
 -- ---- each change
 
-pub change-unposted : {A : Allowed} (s t : Station) → Change A s t → UnpostedIn s → UnpostedIn t
-change-unposted s t (others r n e m q) k = k
-change-unposted s t (turned a w r n y m q) k = k
-change-unposted s t (over a r e here) k = k
-change-unposted s t (hears r c q l h) k = k
-change-unposted s t (written j m l here f) k = k
-change-unposted s t (counted j m n l here f) k = k
-change-unposted s t (promoted j snr l here d) k = k
-change-unposted s t (moved c r l here there able n) k = k
-change-unposted s t (readings i r l here) k = k
-change-unposted s t (entered c call v now l free r) k =
+beside-unposted : {s : Station} {u : ℕ} {rs : List Recent} {qs : List Queue} → Beside s u rs qs → UnpostedIn s → Unposted u qs
+beside-unposted kept k = k
+beside-unposted (ring i r here) k = k
+beside-unposted {s} (queue j q here) k =
+    put-there (s .used) (s .used) (s .queues) j q k (λ i h e z. e) (λ e. absurd (never-both (hasBit (s .used) j) (member-has (s .used) j here) e))
+beside-unposted {s} (joins c l) k =
     put-there (s .used) (withBit (s .used) c) (s .queues) c emptyQueue k (λ i h e z. sym (with-other (s .used) c i (λ y. z (sym y))) ∙ e)
     (λ e. put-same (s .queues) c (k .many) l)
-change-unposted s t (queued j q l here f) k =
-    put-there (s .used) (s .used) (s .queues) j q k (λ i h e z. e) (λ e. absurd (never-both (hasBit (s .used) j) (member-has (s .used) j here) e))
-change-unposted s t (posted a j n l here e) k =
-    put-there (s .used) (s .used) (s .queues) j _ k (λ i h q z. q) (λ q. absurd (never-both (hasBit (s .used) j) (member-has (s .used) j here) q))
-change-unposted s t (piece a store slot field p m here f l d) k = k
-change-unposted s t (landed a store slot field p m here f l d) k = k
-change-unposted s t (freed a cell) k = k
-change-unposted s t (barred a store slot field p here b) k = k
-change-unposted s t (signsOff a b c slot here) k =
+beside-unposted {s} (leaves slot here) k =
     let p = sign-parts s slot in
     subst (λ (qs : List Queue). Unposted (signOff s slot .used) qs) (sym (p .0))
     (subst (λ (u : ℕ). Unposted u (set (s .queues) slot emptyQueue)) (sym (p .1))
     (put-there (s .used) (withoutBit (s .used) slot) (s .queues) slot emptyQueue k (λ i h e z. sym (without-other (s .used) slot i (λ y. z (sym y))) ∙ e)
     (λ e. put-same (s .queues) slot (k .many) (member-lt (s .used) slot here))))
+
+pub change-unposted : {A : Allowed} (s t : Station) → Change A s t → UnpostedIn s → UnpostedIn t
+change-unposted s t c k = beside-unposted (beside c) k
 
 new-kept : (g : Settings) (count : ℕ) → UnpostedIn (newStation g count)
 unfolding newStation

@@ -13,6 +13,7 @@ use Rattle.bits.proofs.Lists.{cond-keeps, eq-or-not, never-both}
 use Rattle.bits.proofs.Loops.{fold-keeps}
 use Rattle.recent.specs.declared.Recent.{Recent}
 use Rattle.recent.specs.Readings.{noRecent, empty}
+use Rattle.queue.specs.declared.Queue.{Queue}
 use Rattle.net.specs.declared.Station.{Station}
 use Rattle.net.specs.declared.Settings.{Settings}
 use Rattle.net.specs.Net.{isMember, newStation}
@@ -21,8 +22,8 @@ use Rattle.config.specs.declared.Given.{Given}
 use Rattle.station.specs.Entries.{startRefusal}
 use Rattle.signoff.specs.SignOff.{bereaveAt, bereaveAll, leave, struckOff, signOff}
 use Rattle.promise.specs.Promise.{Call, after, started}
-use Rattle.promise.proofs.Walk.{Change, others, turned, over, hears, written, counted, promoted, moved, readings, entered, queued, posted, piece, landed, freed, barred, signsOff}
-use Rattle.promise.proofs.WalkCalls.{all, always}
+use Rattle.promise.proofs.WalkRoster.{Beside, kept, ring, queue, joins, leaves, beside}
+use Rattle.promise.proofs.WalkCalls.{always}
 use Rattle.laws.specs.FreeSlots.{FreeSlots}
 use Rattle.laws.proofs.VacantWalk.{runs-kept}
 use Rattle.laws.proofs.VacantQueue.{runs-unposted}
@@ -71,31 +72,19 @@ unfolding signOff bereaveAll
 sign-unread s slot here k =
     fold-keeps UnreadIn (bereaveAt slot) (bereave-unread slot) 62 0 (leave slot (struckOff slot s)) (leave-unread (s .used) (s .recent) slot (member-lt (s .used) slot here) k)
 
-change-unread : (s t : Station) → Change all s t → UnreadIn s → UnreadIn t
-change-unread s t (others r n e m q) k = k
-change-unread s t (turned a w r n y m q) k = k
-change-unread s t (over a r e here) k = k
-change-unread s t (hears r c q l h) k = k
-change-unread s t (written i m l here f) k = k
-change-unread s t (counted i m n l here f) k = k
-change-unread s t (promoted i snr l here d) k = k
-change-unread s t (moved c r l here there able n) k = k
-change-unread s t (readings i r l here) k = put-unread (s .used) (s .recent) i r (member-has (s .used) i here) k
-change-unread s t (entered i call v now l free r) k = enter-unread (s .used) (s .recent) i l k
-change-unread s t (queued j q l here f) k = k
-change-unread s t (posted a j n l here e) k = k
-change-unread s t (piece a store slot field p m here f l d) k = k
-change-unread s t (landed a store slot field p m here f l d) k = k
-change-unread s t (freed a cell) k = k
-change-unread s t (barred a store slot field p here b) k = k
-change-unread s t (signsOff a b c slot here) k = sign-unread s slot here k
+beside-unread : {s : Station} {u : ℕ} {rs : List Recent} {qs : List Queue} → Beside s u rs qs → UnreadIn s → Unread u rs
+beside-unread kept k = k
+beside-unread {s} (ring i r here) k = put-unread (s .used) (s .recent) i r (member-has (s .used) i here) k
+beside-unread (queue j q here) k = k
+beside-unread {s} (joins i l) k = enter-unread (s .used) (s .recent) i l k
+beside-unread {s} (leaves slot here) k = sign-unread s slot here k
 
 new-unread : (g : Settings) (count : ℕ) → UnreadIn (newStation g count)
 unfolding newStation
 new-unread g count = record { long = length-replicate {A = Recent} 62 empty; none = λ i l f. getD-replicate 62 i empty noRecent l }
 
 pub runs-unread : (s : Station) (g : Given) (store : List ℕ) → startRefusal g (length store) ≡ 0 → (cs : List Call) → UnreadIn (after cs (started s g store) .station)
-runs-unread s g store e cs = always UnreadIn change-unread s g store e (new-unread _ _) cs
+runs-unread s g store e cs = always UnreadIn (λ x y c k. beside-unread (beside c) k) s g store e (new-unread _ _) cs
 
 -- with what VacantWalk shows of the other fields
 pub free-slots : FreeSlots

@@ -1,16 +1,14 @@
 -- The definitions run from a start on: boat B in slot 1, relayed by A in slot 0, is heard once, 32 and 33 times, the lowest falling out, at -0 and +0; its window is
 -- emptied by promotion, by a children entry of 63, and by the sign-off of its relay. By computation; assumes nothing.
 use mathlib.Core.Path.{_≡_, refl}
-use mathlib.Core.Bool.{Bool, true, false}
+use mathlib.Core.Bool.{true, false}
 use mathlib.Core.List.{List, [], _∷_, _++_}
-use Prim.Native.Nat.{ℕ, zero, suc, _*_, _+_}
+use Prim.Native.Nat.{ℕ, zero, suc, _+_}
 use lib.IntN.{pos}
-use lib.ListN.{replicate}
 use lib.Ieee.{Float, fin, size, units, round, sum, add, mul, lt, le, eq, ofInt, ofBits}
 use Rattle.bits.specs.Loop.{first, fold, every, any}
 use Rattle.bits.specs.Mask.{hasBit, withBit, withoutBit, bothOf, eitherOf, minusOf, lowestBit, lowestFree, slotsOf}
 use Rattle.bits.specs.Stop.{stop}
-use Rattle.level.specs.declared.Level.{Level}
 use Rattle.level.specs.declared.Level.the-variants.{Unheard, Decibels}
 use Rattle.level.specs.Levels.{levelBelow}
 use Rattle.level.specs.Order.{totalLt}
@@ -18,12 +16,10 @@ use Rattle.recent.specs.Readings.{leastFrom, backFrom, readings, worst}
 use Rattle.wire.specs.Call.{digit, char, trimStart, trimEnd, unpacked, shifted}
 use Rattle.wire.specs.Fields.{fieldDb, snrFromQ}
 use Rattle.wire.specs.Kinds.{tiny, kIdle, cKids}
-use Rattle.words.specs.declared.Head.{Head}
 use Rattle.words.specs.Words.{heard, wordOk, payloadOk, unpack, payload, frameOf, itemAt, framesOf, headOk, parse}
 use Rattle.out.specs.Encode.{pack, framesWords, chunksOf, burstWords}
 use Rattle.roster.specs.Members.{tally}
 use Rattle.roster.specs.Relays.{heardAt, bestHigh, relaySrcFor, turnOver}
-use Rattle.net.specs.declared.Settings.{Settings}
 use Rattle.net.specs.State.{memberAt}
 use Rattle.net.specs.Net.{isMember, newStation, onTxDone}
 use Rattle.admit.specs.Admission.{seatOf, findCall, leadsTo}
@@ -43,30 +39,18 @@ use Rattle.station.specs.Entries.{admitRefusal, admitOf, receiveRefusal, receiv
 use Rattle.signoff.specs.SignOff.{bereaveAt, bereaveAll, clearAt, clearAll, unhearAt, unhearAll, signOff}
 use Rattle.station.specs.SignOff.{signOffRefusal, signOffOf}
 use Rattle.station.specs.Worst.{worstOf}
-use Rattle.promise.specs.Promise.{handed, Net, net, Call, admission, reception, decision, sending, signing, result, step, after}
-
-abbrev nil : Float
-nil = fin false 0 (pos 0)
+use Rattle.promise.proofs.TurnsRun.{nil, next}
+use Rattle.laws.proofs.SilentRun.{from}
+use Rattle.promise.specs.Promise.{handed, Call, admission, reception, sending, signing, result, step, after}
 
 abbrev minus : Float
 minus = fin true 0 (pos 0)
-
-abbrev far : Float
-far = fin false 1000 (pos 0)
 
 abbrev high : Float
 high = fin false 10 (pos 0)
 
 abbrev low : Float
 low = fin true 10 (pos 0)
-
--- every time 0 but the beacon's; 0 decibels are enough
-abbrev settings : Settings
-settings =
-    record { turnaround = nil; maxburst = nil; replyslack = nil; detect = nil; beaconevery = far; quickbeacon = far; idleroundgap = nil; durations = replicate 4 nil; thresholds = replicate 17 nil; margin = nil; relaysnr = nil; misslimit = 2; beaconlevel = 0; windowslots = 0; call = replicate 7 32; name = replicate 6 32; prime = false; lead = nil; latency = nil; rooms = replicate 17 1; payloads = replicate 17 1 }
-
-abbrev from : Net
-from = net (newStation settings 1) (replicate 6400 7)
 
 abbrev both : List Call
 both = admission (0 ∷ 0 ∷ 0 ∷ 0 ∷ 1 ∷ []) 63 nil 8192 ∷ admission (0 ∷ 0 ∷ 0 ∷ 0 ∷ 2 ∷ []) 0 nil 8192 ∷ []
@@ -82,9 +66,6 @@ again (suc n) x = idle x ∷ again n x
 -- A's children: B reached, with this level field
 abbrev kids : ℕ → Call
 kids q = reception (burstWords (record { head = record { code = 0; hi = 0; extra = 0 }; frames = heard 128 0 (cKids ∷ 1 ∷ (128 + q) ∷ []) ∷ [] })) nil nil handed 8192 (0 ∷ [])
-
-abbrev next : Call
-next = decision nil (replicate 126976 0) 8192
 
 -- the first beacon, and the decision that reroutes
 abbrev promotes : List Call

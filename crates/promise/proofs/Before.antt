@@ -1,6 +1,6 @@
 -- Of calls without sign-offs item 3 says what it said before sign-offs were there: `Before` is that statement, by its own definitions of turns and of messages, and
 -- follows. Assumes nothing.
-use mathlib.Core.Path.{_≡_, refl, _∙_, subst}
+use mathlib.Core.Path.{_≡_, refl, sym, _∙_, subst}
 use mathlib.Core.Bool.{Bool, true, false, cond, _&&_, _||_}
 use mathlib.Core.List.{List, [], _∷_, _++_}
 use mathlib.Core.Option.{Option, none, some}
@@ -9,14 +9,13 @@ use lib.Dec.{T, eqb}
 use lib.ListN.{length}
 use Rattle.bits.proofs.Lists.{cond-keeps}
 use Rattle.wire.specs.Kinds.{tiny, kPoll, kPollack, kAck, kRelay}
-use Rattle.words.specs.Words.{parse, headOf}
+use Rattle.words.specs.Words.{headOf}
 use Rattle.words.specs.declared.Head.{Head}
-use Rattle.next.specs.Next.{ncsNext}
-use Rattle.rx.specs.Reception.{ncsRx}
 use Rattle.net.specs.declared.Station.{Station}
 use Rattle.config.specs.declared.Given.{Given}
 use Rattle.station.specs.Entries.{startRefusal}
-use Rattle.promise.specs.Promise.{TurnEvent, drew, over, poll, ack, struck, overIf, drewIf, lentTo, ofBurst, outcome, burstBy, Net, Call, admission, reception, decision, sending, closing, reading, freeing, charging, signing, asking, result, inBook, isRefused, step, after, started, LinksHold, burstsIn, turnEvents, trace, has, View, emptyView, begins, view, Spread, OneTurn, TurnsHold, Stays, Sent, Message, Book, emptyBook, Entered, unchanged, alsoHanded, same, answersOf, bookDone, bookCall, CallOk, AtCall, Once, Stayed, stayed, handedIn, alsoStayed, OnceInStay, CallsOk, Holds, posting}
+use Rattle.promise.specs.Promise.{TurnEvent, drew, over, poll, ack, struck, overIf, drewIf, outcome, burstBy, Net, Call, admission, reception, decision, sending, closing, reading, freeing, charging, signing, asking, result, inBook, isRefused, step, after, started, LinksHold, burstsIn, turnEvents, trace, has, View, emptyView, begins, view, Spread, OneTurn, TurnsHold, Stays, Sent, Message, Book, emptyBook, Entered, unchanged, alsoHanded, same, answersOf, bookDone, bookCall, CallOk, AtCall, Once, Stayed, stayed, handedIn, alsoStayed, OnceInStay, CallsOk, Holds, posting}
+use Rattle.promise.proofs.CallEvents.{overOf, drewOf, behindOf, events-are}
 use Rattle.promise.proofs.Item3.{item-3}
 
 -- ---- the calls
@@ -115,21 +114,9 @@ none-bursts (w ∷ ws) =
     (λ _. none-append (burstBy (headOf w)) (burstsIn ws) (none-burst (headOf w)) (none-bursts ws)) (λ _. none-bursts ws)
 
 none-result : (c : Call) (n : Net) → ((slot : ℕ) → c ≡ signing slot → ⊥) → NoStruck (result c n .before) × NoStruck (result c n .behind)
-unfolding result
-none-result (admission packed relay now room) n f = (tt, tt)
-none-result (reception words snr now lent room numbers) n f =
-    (tt, none-over (ofBurst (parse words) none (λ b. ncsRx (n .station) b snr now (lentTo lent (n .store)) .over)))
-none-result (decision now queue room) n f =
-    let d = ncsNext (n .station) now queue in
-    (none-append (overIf (d .over)) (drewIf (d .drew)) (none-over (d .over)) (none-drew (d .drew)), tt)
-none-result (posting slot message queue) n f = (tt, tt)
-none-result (sending now) n f = (tt, tt)
-none-result (closing count) n f = (tt, tt)
-none-result (reading cell lent) n f = (tt, tt)
-none-result (freeing cell) n f = (tt, tt)
-none-result (charging figures) n f = (tt, tt)
-none-result (signing slot) n f = absurd (f slot refl)
-none-result (asking slot) n f = (tt, tt)
+none-result c n f =
+    let e = events-are c n f in
+    (subst NoStruck (sym (e .0)) (none-append (overIf (overOf c n)) (drewIf (drewOf c n)) (none-over (overOf c n)) (none-drew (drewOf c n))), subst NoStruck (sym (e .1)) (none-over (behindOf c n)))
 
 none-call : (c : Call) (n : Net) → ((slot : ℕ) → c ≡ signing slot → ⊥) → NoStruck (turnEvents c n)
 unfolding turnEvents

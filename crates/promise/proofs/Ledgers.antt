@@ -1,14 +1,14 @@
 -- The book alone: what a piece covers, what is covered whole; and of one cell, that it lands exactly where all is covered. Assumes nothing.
 use mathlib.Core.Path.{_≡_, refl, sym, ap, _∙_, subst}
-use mathlib.Core.Bool.{Bool, true, false, cond, _&&_}
+use mathlib.Core.Bool.{Bool, true, false, cond, _&&_, _||_}
 use mathlib.Core.List.{List}
-use mathlib.Core.Logic.{_⊎_, inr, ⊎-elim}
+use mathlib.Core.Logic.{inr, ⊎-elim}
 use Prim.Native.Nat.{ℕ, zero, suc, _+_, _≤_, _<_, zero-le}
 use native.Mathlib.Omega.{arith}
 use lib.ListN.{length, getD, take, drop, length-drop, getD-replicate}
 use lib.Seq.{getD-take, getD-drop, length-take-le, ext-getD}
 use lib.Dec.{leb, ltb, eqb}
-use borrow.Author.Tests.{leb-true, ltb-true, eqb-true, lt-ltb, le-leb, eq-eqb}
+use borrow.Author.Tests.{leb-true, ltb-true, eqb-true, lt-ltb, le-leb, eq-eqb, ne-eqb}
 use Rattle.bits.proofs.Lists.{cases, le-or-lt, eq-or-not, and-true, never-both}
 use Rattle.inbox.specs.Cells.{Held, held, offset, size}
 use Rattle.inbox.specs.declared.cell.Cell.{Cell}
@@ -80,6 +80,17 @@ cover-nothing s k o n f h = λ j a b i. at a b i (same s k a b && inside o n i) 
 pub handed-other : (s k : ℕ) (f : ℕ → ℕ → Bool) (a b : ℕ) → same s k a b ≡ false → alsoHanded s k f a b ≡ f a b
 unfolding alsoHanded
 handed-other s k f a b t = rw t
+
+-- a number more is handed over
+pub one-or : (k b : ℕ) (u : Bool) → cond (eqb k b) true u ≡ u || eqb b k
+one-or k b u =
+    ap (λ (t : Bool). cond t true u) (⊎-elim (λ q. eq-eqb k b q ∙ sym (eq-eqb b k (sym q))) (λ z. ne-eqb k b z ∙ sym (ne-eqb b k (λ q. z (sym q)))) (eq-or-not k b)) ∙ at (eqb b k) u
+  where
+    at : (t v : Bool) → cond t true v ≡ v || t
+    at true true = refl
+    at true false = refl
+    at false true = refl
+    at false false = refl
 
 pub handed-self : (s k : ℕ) (f : ℕ → ℕ → Bool) → alsoHanded s k f s k ≡ true
 unfolding alsoHanded

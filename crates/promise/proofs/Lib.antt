@@ -39,6 +39,7 @@ pub mod Messages
 pub mod Sounds
 pub mod Item3
 pub mod Everyone
+pub mod CallEvents
 pub mod Before
 pub mod Runs
 pub mod StayRun

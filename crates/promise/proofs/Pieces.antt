@@ -3,7 +3,7 @@ use mathlib.Core.Path.{_≡_, refl, sym, ap, _∙_, subst}
 use mathlib.Core.Bool.{Bool, true, false, not, cond, _&&_, _||_}
 use mathlib.Core.Option.{Option, none, some}
 use mathlib.Core.List.{List, [], _∷_}
-use mathlib.Core.Logic.{_⊎_, inl, inr, ⊎-elim}
+use mathlib.Core.Logic.{inl, inr, ⊎-elim}
 use Prim.Native.Nat.{ℕ, _+_, _*_, _/_, _%_, _^_, _≤_, _<_}
 use native.Mathlib.Omega.{arith}
 use lib.ListN.{length, getD, replicate, length-replicate}
@@ -35,8 +35,8 @@ use Rattle.stream.proofs.Tables.{Tidy, kept-tidy, kept-other, place-below, plac
 use Rattle.stream.proofs.Windows.{Sound, sound-next, sound-land, land-at, land-bars, handed-low, next-not-handed}
 use Rattle.stream.proofs.Accepts.{leftAs, barredAs, answerOf, cellIn, heldAfter, putAs, accept-cases, after-length, after-fits}
 use Rattle.promise.specs.Promise.{Sent, Message, Ledger, Entered, unchanged, same, inside, cover, alsoHanded, allBelow, completes, bookPiece, Event2, enter, Lowest, PieceOk}
-use Rattle.promise.proofs.Ledgers.{of-all, same-true, cover-other, cover-same, cover-nothing, inside-true, inside-of, handed-other, handed-self, Cov, landed-bytes, landed-is, needless-covered}
-use Rattle.promise.proofs.Ties.{View, Comes, Whole, useOf, useAt, heldAt, entryOf, Tie, use-comes, use-whole, Aim, aim, now-inv, shows-none, put-tie}
+use Rattle.promise.proofs.Ledgers.{of-all, same-true, cover-other, cover-same, cover-nothing, inside-true, inside-of, handed-other, handed-self, Cov, landed-bytes, landed-is, needless-covered, one-or}
+use Rattle.promise.proofs.Ties.{View, Comes, Whole, useOf, useAt, heldAt, Tie, use-comes, use-whole, Aim, aim, now-inv, shows-none, put-tie}
 
 -- ---- what a piece comes to, on both sides
 
@@ -344,7 +344,7 @@ module _ (M : Sent) (v : View) (l : Ledger) (e : ℕ → Option Message) (tie : 
         ap (λ (u : Bool). cond (u && eqb k b) true (l .handed a b)) (eq-eqb s a (sym q))
         ∙ ap (λ (y : ℕ). cond (eqb k b) true (l .handed y b)) q
         ∙ ap (λ (u : Bool). cond (eqb k b) true u) (tie .numbers s b on)
-        ∙ swap b
+        ∙ one-or k b (handedOf w b)
         ∙ sym (land-at w k (tie .sound s .low) (tie .sound s .high) (omega arith) next-le (omega arith) b)
         ∙ ap (λ (y : Window). handedOf y b) (sym (win-here a q)))
         (λ z.
@@ -352,18 +352,6 @@ module _ (M : Sent) (v : View) (l : Ledger) (e : ℕ → Option Message) (tie : 
         ∙ tie .numbers a b i
         ∙ ap (λ (y : Window). handedOf y b) (sym (win-there a z)))
         (eq-or-not a s)
-      where
-        by : (t u : Bool) → cond t true u ≡ u || t
-        by true true = refl
-        by true false = refl
-        by false true = refl
-        by false false = refl
-
-        swap : (b : ℕ) → cond (eqb k b) true (handedOf w b) ≡ handedOf w b || eqb b k
-        swap b =
-            ⊎-elim (λ q. ap (λ (u : Bool). cond u true (handedOf w b)) (eq-eqb k b q) ∙ sym (ap (λ (u : Bool). handedOf w b || u) (eq-eqb b k (sym q)) ∙ sym (by true (handedOf w b))))
-            (λ z. ap (λ (u : Bool). cond u true (handedOf w b)) (ne-eqb k b z) ∙ sym (ap (λ (u : Bool). handedOf w b || u) (ne-eqb b k (λ q. z (sym q))) ∙ sym (by false (handedOf w b))))
-            (eq-or-not k b)
 
     land-tie : (is : landed h ≡ true)
         → Tie M (record { table = t′ true is; store = store′ true is; windows = win′ }) (record { covered = covers; handed = alsoHanded s k (l .handed) })

@@ -30,10 +30,10 @@ use Rattle.promise.specs.Promise.{handed, net, Call, admission, receptio
 use Rattle.queue.specs.Queues.{isDue}
 use Rattle.bursts.specs.Direct.{directedTo}
 
-abbrev nil : Float
+abbrev pub nil : Float
 nil = fin false 0 (pos 0)
 
-abbrev far : Float
+abbrev pub far : Float
 far = fin false 1000 (pos 0)
 
 -- every time 0 but the beacon's
@@ -41,10 +41,10 @@ abbrev pub settings : Settings
 settings =
     record { turnaround = nil; maxburst = nil; replyslack = nil; detect = nil; beaconevery = far; quickbeacon = far; idleroundgap = nil; durations = replicate 4 nil; thresholds = replicate 17 nil; margin = nil; relaysnr = nil; misslimit = 3; beaconlevel = 0; windowslots = 0; call = replicate 7 32; name = replicate 6 32; prime = false; lead = nil; latency = nil; rooms = replicate 17 1; payloads = replicate 17 1 }
 
-abbrev next : Call
+abbrev pub next : Call
 next = decision nil (replicate 126976 0) 8192
 
-abbrev sent : Call
+abbrev pub sent : Call
 sent = sending nil
 
 -- one word: code 0, high nibble 4 (more to come)

@@ -1,5 +1,5 @@
--- The walk for a property of the roster alone (the slots in use, the members but for most of their fields, and the total of silent boats), and for one of every
--- member: fewer cases, the other changes being none to them. Assumes nothing.
+-- The walk for a property of the roster alone (the slots in use, the members but for most of their fields, and the total of silent boats), of the rings and queues
+-- beside it, and of every member: fewer cases, the other changes being none to them. Assumes nothing.
 use mathlib.Core.Path.{_≡_, refl, sym, subst}
 use mathlib.Core.Bool.{true, false}
 use mathlib.Core.List.{List, [], _∷_}
@@ -12,6 +12,9 @@ use Rattle.bits.proofs.Lists.{cond-keeps}
 use Rattle.bits.proofs.Loops.{fold-keeps}
 use Rattle.level.specs.Consts.{nought}
 use Rattle.level.specs.declared.Level.the-variants.{Decibels}
+use Rattle.recent.specs.declared.Recent.{Recent}
+use Rattle.queue.specs.declared.Queue.{Queue}
+use Rattle.queue.specs.Queues.{emptyQueue}
 use Rattle.roster.specs.declared.Member.{Member}
 use Rattle.roster.specs.Members.{noMember, newMember, withMissed, withMark, promotedAt, reroutedTo, landedOne, barredOne, silentAt, tally}
 use Rattle.roster.specs.Relays.{couldRelay}
@@ -71,6 +74,35 @@ roster (walk.freed a cell) = same
 roster {s = s} (walk.barred a store slot field p here b) =
     written (indexOf slot) _ (index-lt slot) (index-member (s .used) slot here) (record { call = refl; via = refl; missed = refl })
 roster (walk.signsOff a b c slot here) = signsOff slot here
+
+-- ---- the rings and the directed queues of the slots in use
+
+-- what a change makes of them
+pub data Beside (s : Station) : ℕ → List Recent → List Queue → Type 0 where
+  kept : Beside s (s .used) (s .recent) (s .queues)
+  ring : (i : ℕ) (r : Recent) → isMember (s .used) i ≡ true → Beside s (s .used) (set (s .recent) i r) (s .queues)
+  queue : (i : ℕ) (q : Queue) → isMember (s .used) i ≡ true → Beside s (s .used) (s .recent) (set (s .queues) i q)
+  joins : (i : ℕ) → i < 62 → Beside s (withBit (s .used) i) (s .recent) (set (s .queues) i emptyQueue)
+  leaves : (slot : ℕ) → isMember (s .used) slot ≡ true → Beside s (signOff s slot .used) (signOff s slot .recent) (signOff s slot .queues)
+
+pub beside : {A : Allowed} {s t : Station} → Change A s t → Beside s (t .used) (t .recent) (t .queues)
+beside (walk.others r n e m q) = kept
+beside (walk.turned a w r n y m q) = kept
+beside (walk.over a r e here) = kept
+beside (walk.hears r c q l h) = kept
+beside (walk.written i m l here f) = kept
+beside (walk.counted i m n l here f) = kept
+beside (walk.promoted i snr l here d) = kept
+beside (walk.moved c r l here there able n) = kept
+beside (walk.readings i r l here) = ring i r here
+beside (walk.entered i call v now l free r) = joins i l
+beside (walk.queued i q l here f) = queue i q here
+beside (walk.posted a i n l here e) = queue i _ here
+beside (walk.piece a store slot field p m here f l d) = kept
+beside (walk.landed a store slot field p m here f l d) = kept
+beside (walk.freed a cell) = kept
+beside (walk.barred a store slot field p here b) = kept
+beside (walk.signsOff a b c slot here) = leaves slot here
 
 -- ---- every member
 
