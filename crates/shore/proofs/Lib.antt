@@ -1,2 +1,4 @@
 pub mod Arrays
+pub mod Parts
 pub mod Faithful
+pub mod Refused
