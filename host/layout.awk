@@ -7,7 +7,7 @@ function ctype(t) {
     return "struct rt_" t
 }
 BEGIN {
-    split("Setup setup Plan plan Done done Part part Reading reading Time time Poorest poorest Shown shown Month month Checked checked", n, " ")
+    split("Setup setup Plan plan Done done Part part Reading reading Time time Poorest poorest Shown shown Month month Checked checked Outgoing outgoing Left left Unsent unsent", n, " ")
     for (i = 1; i in n; i += 2) seen[n[i]] = "shore_" n[i + 1]
     print "#include \"shore.h\""
 }

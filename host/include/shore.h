@@ -16,6 +16,7 @@ extern "C" {
 #define SHORE_OUT 8192         /* words of output for admit, receive and next */
 #define SHORE_QUEUE 126976     /* bytes of the directed queue, for next and post */
 #define SHORE_SHEET 9849       /* bytes of output for the sheet of short calls */
+#define SHORE_SENDER 16384     /* bytes of each of the sending end's two memories */
 #define SHORE_SLOTS 62         /* boats in a net: slots 0 to 61 */
 #define SHORE_NOBODY 63        /* no relay; a frame to everyone */
 
@@ -26,9 +27,9 @@ enum shore_refusal {
     SHORE_LEVEL = 2,           /* level not finite or outside -200 to 200 */
     SHORE_WORDS = 3,           /* words malformed */
     SHORE_SMALL_OUT = 4,       /* output too small */
-    SHORE_SETTING = 5,         /* a setting outside its span */
+    SHORE_SETTING = 5,         /* a setting outside its span; take: above 64 pieces, or a size of 0 or above 255 */
     SHORE_CELL_NUMBER = 6,     /* cell number not below the count */
-    SHORE_SMALL_MEMORY = 7,    /* store or directed queue too small */
+    SHORE_SMALL_MEMORY = 7,    /* store, directed queue or a sending end's memory too small */
     SHORE_SLOT = 8,            /* slot above 61 */
     SHORE_CLOSING = 9,         /* closing count above 15 */
     SHORE_NO_MEMBER = 21,      /* no member in the slot */
@@ -37,7 +38,9 @@ enum shore_refusal {
     SHORE_NO_SPACE = 24,       /* bytes kept for the boat and new ones above 2,048 */
     SHORE_TOTAL = 25,          /* total posted to the boat above 16,777,215 */
     SHORE_FIGURES = 26,        /* not 62 figures, or one above 1,000,000,000 */
-    SHORE_MARKS = 27           /* a fault in the marks of a log */
+    SHORE_MARKS = 27,          /* a fault in the marks of a log */
+    SHORE_EIGHT = 28,          /* the sending end holds eight messages */
+    SHORE_LONG = 29            /* a message above 2,046 bytes */
 };
 
 /* ---- what is given and what comes back */
@@ -154,6 +157,38 @@ struct shore_month shore_dues(struct shore_block, const uint32_t *figures, size_
 struct shore_checked shore_turn_check(const uint32_t *words, size_t count);
 /* The sheet of short calls; gives back 0 or 4. */
 uint8_t shore_short_calls(uint8_t *out, size_t bytes);
+
+/* ---- the sending end, as a boat has it: messages, cut into pieces, kept until the far end holds them */
+
+/* Its numbers: nothing in it is for the host. */
+struct shore_outgoing { size_t count; uint32_t next, seqs[8]; uint16_t totals[8], cuts[8]; };
+
+/* What a call gives back. */
+struct shore_left {
+    struct shore_outgoing sender;  /* the sending end from now on */
+    size_t words;              /* take: how many words stand in the output */
+    uint8_t refusal;           /* 0, or why the call was refused */
+};
+
+/* Bytes that are not sent yet, or in flight. */
+struct shore_unsent { size_t bytes; uint8_t refusal; };
+
+/* A fresh start. */
+struct shore_outgoing shore_sender_new(void);
+/* A message is queued. */
+struct shore_left shore_sender_post(struct shore_outgoing, uint8_t *bytes, size_t size, const uint8_t *body, size_t length);
+/* Up to `pieces` pieces of at most `max` bytes, as frames with flags 0: put the slot into them. */
+struct shore_left shore_sender_take(struct shore_outgoing, const uint8_t *bytes, size_t size, uint8_t *marks, size_t marked, size_t max, size_t pieces, uint32_t *out, size_t room);
+/* The piece of message seq at offset off was acknowledged. */
+struct shore_left shore_sender_ack(struct shore_outgoing, uint8_t *bytes, size_t size, uint8_t *marks, size_t marked, uint32_t seq, size_t off);
+/* The far end holds every message below next, and those in also. */
+struct shore_left shore_sender_held(struct shore_outgoing, uint8_t *bytes, size_t size, uint8_t *marks, size_t marked, uint32_t next, const uint32_t *also, size_t count);
+/* The last burst got no answer at all; gives back 0 or 7. */
+uint8_t shore_sender_stale(struct shore_outgoing, uint8_t *marks, size_t marked);
+/* How many bytes are not sent yet, or in flight. */
+struct shore_unsent shore_sender_pending(struct shore_outgoing, const uint8_t *marks, size_t marked);
+/* Whether there are bytes never sent yet: 1 or 0. */
+uint8_t shore_sender_has_new(struct shore_outgoing);
 
 #ifdef __cplusplus
 }

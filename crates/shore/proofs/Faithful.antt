@@ -16,6 +16,8 @@ use Rattle.net.specs.declared.Wait.{Wait}
 use Rattle.net.specs.declared.Settings.{Settings}
 use Rattle.net.specs.declared.Round.{Round}
 use Rattle.net.specs.declared.Station.{Station}
+use Rattle.outbox.specs.declared.sender.Sender.{Sender}
+use Rattle.shore.specs.Sending.{senderOf, outgoingOf}
 use Rattle.shore.specs.Blocks.{flagOf, isSet, readingOf, levelOf, timeOf, clockOf, awaitBy, awaitOf, turnOf, waitOf, setupOf, settingsOf, courseOf, roundOf, boatOf, memberOf, ringOf, recentOf, lineOf, queueOf, placeOf, cellOf, blockOf, stationOf, Faithful}
 
 flag-back : (b : Bool) → isSet (flagOf b) ≡ b
@@ -80,3 +82,8 @@ faithful s =
       map-back lineOf queueOf queue-back (s .queues),
       map-back placeOf cellOf cell-back (s .cells),
     )
+
+-- the same of the sending end
+pub sender-back : (s : Sender) → senderOf (outgoingOf s) ≡ s
+unfolding senderOf outgoingOf
+sender-back s = refl

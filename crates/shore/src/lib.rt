@@ -25,6 +25,7 @@ use block::Reading;
 pub mod answer;
 pub mod block;
 pub mod pack;
+pub mod sending;
 pub mod unpack;
 
 // A fresh start; `store` is the memory for messages. The block given comes back where it is refused.
