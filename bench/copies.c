@@ -1,18 +1,20 @@
-/* Loaded before a program: how many copies of 10,000 bytes and more it makes, and the size of the largest, on standard error at its end. */
+/* Loaded before a program: how many copies of 10,000 bytes and more it makes, the bytes of all copies of 1,000 and more, and the size of the largest, on
+   standard error at its end. */
 #include <stddef.h>
 #include <stdio.h>
 
-static unsigned long copies, largest;
+static unsigned long copies, bytes, largest;
 
 void *memmove(void *to, const void *from, size_t n)
 {
     char *t = to;
     const char *f = from;
-    if (n >= 10000) {
+    if (n >= 1000)
+        bytes += n;
+    if (n >= 10000)
         copies++;
-        if (n > largest)
-            largest = n;
-    }
+    if (n > largest)
+        largest = n;
     if ((size_t)(t - f) >= n)
         for (size_t i = 0; i < n; i++)
             t[i] = f[i];
@@ -29,5 +31,5 @@ void *memcpy(void *to, const void *from, size_t n)
 
 __attribute__((destructor)) static void told(void)
 {
-    fprintf(stderr, "%lu %lu\n", copies, largest);
+    fprintf(stderr, "%lu %lu %lu\n", copies, bytes, largest);
 }
