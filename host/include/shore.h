@@ -105,6 +105,19 @@ struct shore_shown {
     uint8_t hascaps, caps, hasversion, version;
 };
 
+/* The numbers of a boat: its messages landed, and the bytes posted to it. */
+struct shore_counts {
+    uint32_t next;             /* its first message that has not landed */
+    uint32_t posted;           /* how many bytes were posted to it */
+    uint32_t kept;             /* the first of them that is still kept */
+    uint32_t reported;         /* how many of them it reported */
+    uint8_t bitmap;            /* which of the eight messages after next have landed */
+    uint8_t burst;             /* the number of the burst that it is polled with */
+};
+
+/* What the station has counted since its start; silent is how many boats are silent now. */
+struct shore_sums { uint32_t polls, relays, rxlists, rounds, replies, silent; };
+
 /* A month's dues in cents. */
 struct shore_month {
     uint64_t takings;          /* the port's */
@@ -144,10 +157,16 @@ struct shore_part shore_read(struct shore_block, const uint8_t *store, size_t by
 struct shore_poorest shore_worst(struct shore_block, uint8_t slot);
 /* How many boats are silent. */
 uint32_t shore_silent(struct shore_block);
+/* How many polls, polls by relay, received lists, rounds and replies there were, and the silent boats. */
+struct shore_sums shore_totals(struct shore_block);
 /* The boat in a slot. */
 struct shore_shown shore_entry(struct shore_block, uint8_t slot);
 /* The level at which the boat in slot r hears the one in slot a. */
 struct shore_reading shore_hears(struct shore_block, uint8_t r, uint8_t a);
+/* The level field at which the boat in slot r said that it hears slot a, whoever is there: decibels plus 24, 63 for nothing. */
+uint8_t shore_hears_field(struct shore_block, uint8_t r, uint8_t a);
+/* The numbers of the boat in a slot; they are no boat's where it has none. */
+struct shore_counts shore_numbers(struct shore_block, uint8_t slot);
 /* The month's dues, from the bytes landed of each slot. */
 struct shore_month shore_dues(struct shore_block, const uint32_t *figures, size_t count);
 

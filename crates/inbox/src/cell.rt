@@ -17,6 +17,7 @@ pub const MESSAGE_ROOM: usize = 2048;
 pub const BODY_ROOM: usize = 2046;
 
 // A cell's numbers. No value of it is wrong: every function here is safe, and does what its contract says, for each.
+#[repr(C)]
 pub struct Cell {
     // The joined end.
     pub joined: u16,

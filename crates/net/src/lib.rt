@@ -76,6 +76,7 @@ pub struct Round {
     pub activity: bool,
 }
 
+#[repr(C)]
 pub struct Totals {
     pub polls: u32,
     pub relays: u32,

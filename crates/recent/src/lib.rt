@@ -7,6 +7,7 @@ ghost use Rattle.recent.specs.Readings.{kept, empty, noted, lower, worst
 use level::Level;
 
 // A ring: the next reading goes to place `at`, and the `count` places before it hold the last ones.
+#[repr(C)]
 pub struct Recent {
     pub levels: [f32; 32],
     pub count: u8,

@@ -7,8 +7,6 @@ use Rattle.level.specs.declared.Level.the-variants.{Unheard, Decibels}
 use Rattle.level.specs.declared.Clock.{Clock}
 use Rattle.level.specs.declared.Clock.the-variants.{Never, At}
 use Rattle.queue.specs.declared.Queue.{Queue}
-use Rattle.recent.specs.declared.Recent.{Recent}
-use Rattle.inbox.specs.declared.cell.Cell.{Cell}
 use Rattle.roster.specs.declared.Member.{Member}
 use Rattle.net.specs.declared.Turn.{Turn}
 use Rattle.net.specs.declared.Turn.the-variants.{Idle, Sending, Waiting}
@@ -18,7 +16,7 @@ use Rattle.net.specs.declared.Round.{Round}
 use Rattle.net.specs.declared.Station.{Station}
 use Rattle.outbox.specs.declared.sender.Sender.{Sender}
 use Rattle.shore.specs.Sending.{senderOf, outgoingOf}
-use Rattle.shore.specs.Blocks.{flagOf, isSet, readingOf, levelOf, timeOf, clockOf, awaitBy, awaitOf, turnOf, waitOf, setupOf, settingsOf, courseOf, roundOf, boatOf, memberOf, ringOf, recentOf, lineOf, queueOf, placeOf, cellOf, blockOf, stationOf, Faithful}
+use Rattle.shore.specs.Blocks.{flagOf, isSet, readingOf, levelOf, timeOf, clockOf, awaitBy, awaitOf, turnOf, waitOf, setupOf, settingsOf, courseOf, roundOf, boatOf, memberOf, lineOf, queueOf, blockOf, stationOf, Faithful}
 
 flag-back : (b : Bool) → isSet (flagOf b) ≡ b
 flag-back true = refl
@@ -60,12 +58,6 @@ member-back m =
 queue-back : (q : Queue) → queueOf (lineOf q) ≡ q
 queue-back q = rw (flag-back (q .sent))
 
-recent-back : (r : Recent) → recentOf (ringOf r) ≡ r
-recent-back r = refl
-
-cell-back : (c : Cell) → cellOf (placeOf c) ≡ c
-cell-back c = refl
-
 map-back : {A B : Type 0} (f : A → B) (g : B → A) → ((x : A) → g (f x) ≡ x) → (xs : List A) → map g (map f xs) ≡ xs
 map-back f g e [] = refl
 map-back f g e (x ∷ xs) = rw (e x, map-back f g e xs)
@@ -78,9 +70,7 @@ faithful s =
       wait-back (s .wait),
       round-back (s .round),
       map-back boatOf memberOf member-back (s .members),
-      map-back ringOf recentOf recent-back (s .recent),
       map-back lineOf queueOf queue-back (s .queues),
-      map-back placeOf cellOf cell-back (s .cells),
     )
 
 -- the same of the sending end

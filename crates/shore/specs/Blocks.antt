@@ -10,10 +10,7 @@ use Rattle.level.specs.declared.Level.{Level}
 use Rattle.level.specs.declared.Level.the-variants.{Unheard, Decibels}
 use Rattle.level.specs.declared.Clock.{Clock}
 use Rattle.level.specs.declared.Clock.the-variants.{Never, At}
-use Rattle.stream.specs.declared.window.Window.{Window}
-use Rattle.recent.specs.declared.Recent.{Recent}
 use Rattle.queue.specs.declared.Queue.{Queue}
-use Rattle.inbox.specs.declared.cell.Cell.{Cell}
 use Rattle.roster.specs.declared.Member.{Member}
 use Rattle.net.specs.declared.Reply.{Reply}
 use Rattle.net.specs.declared.Turn.{Turn}
@@ -21,19 +18,14 @@ use Rattle.net.specs.declared.Turn.the-variants.{Idle, Sending, Waiting}
 use Rattle.net.specs.declared.Wait.{Wait}
 use Rattle.net.specs.declared.Settings.{Settings}
 use Rattle.net.specs.declared.Round.{Round}
-use Rattle.net.specs.declared.Totals.{Totals}
 use Rattle.net.specs.declared.Station.{Station}
 use Rattle.shore.specs.declared.block.Reading.{Reading}
 use Rattle.shore.specs.declared.block.Time.{Time}
 use Rattle.shore.specs.declared.block.Await.{Await}
 use Rattle.shore.specs.declared.block.Setup.{Setup}
 use Rattle.shore.specs.declared.block.Course.{Course}
-use Rattle.shore.specs.declared.block.Sums.{Sums}
-use Rattle.shore.specs.declared.block.Marks.{Marks}
 use Rattle.shore.specs.declared.block.Boat.{Boat}
-use Rattle.shore.specs.declared.block.Ring.{Ring}
 use Rattle.shore.specs.declared.block.Line.{Line}
-use Rattle.shore.specs.declared.block.Place.{Place}
 use Rattle.shore.specs.declared.block.Block.{Block}
 
 -- a flag is a byte: 1 where it is set; any byte but 0 is read as set
@@ -103,37 +95,13 @@ abbrev pub roundOf : Course → Round
 roundOf r =
     record { list = r .list; toack = r .toack; treenews = r .treenews; windowend = r .windowend; nextbeacon = r .nextbeacon; nextround = r .nextround; txat = r .txat; number = r .number; rxsent = r .rxsent; closeleft = r .closeleft; closed = isSet (r .closed); traffic = isSet (r .traffic); rxdirty = isSet (r .rxdirty); activity = isSet (r .activity) }
 
-abbrev pub sumsOf : Totals → Sums
-sumsOf t =
-    record { polls = t .polls; relays = t .relays; rxlists = t .rxlists; rounds = t .rounds; replies = t .replies; silent = t .silent }
-
-abbrev pub totalsOf : Sums → Totals
-totalsOf t =
-    record { polls = t .polls; relays = t .relays; rxlists = t .rxlists; rounds = t .rounds; replies = t .replies; silent = t .silent }
-
-abbrev pub marksOf : Window → Marks
-marksOf w =
-    record { next = w .next; low = w .low; high = w .high; barlow = w .barlow; barhigh = w .barhigh }
-
-abbrev pub windowOf : Marks → Window
-windowOf w =
-    record { next = w .next; low = w .low; high = w .high; barlow = w .barlow; barhigh = w .barhigh }
-
 abbrev pub boatOf : Member → Boat
 boatOf m =
-    record { call = m .call; via = m .via; hascaps = flagOf (m .hascaps); caps = m .caps; hasversion = flagOf (m .hasversion); version = m .version; burst = m .burst; toldbits = m .toldbits; markbits = m .markbits; missed = m .missed; toldnext = m .toldnext; marknext = m .marknext; bytesin = m .bytesin; snrup = readingOf (m .snrup); snrdown = readingOf (m .snrdown); direct = readingOf (m .direct); lastheard = timeOf (m .lastheard); up = marksOf (m .up); tried = m .tried }
+    record { call = m .call; via = m .via; hascaps = flagOf (m .hascaps); caps = m .caps; hasversion = flagOf (m .hasversion); version = m .version; burst = m .burst; toldbits = m .toldbits; markbits = m .markbits; missed = m .missed; toldnext = m .toldnext; marknext = m .marknext; bytesin = m .bytesin; snrup = readingOf (m .snrup); snrdown = readingOf (m .snrdown); direct = readingOf (m .direct); lastheard = timeOf (m .lastheard); up = m .up; tried = m .tried }
 
 abbrev pub memberOf : Boat → Member
 memberOf m =
-    record { call = m .call; via = m .via; hascaps = isSet (m .hascaps); caps = m .caps; hasversion = isSet (m .hasversion); version = m .version; burst = m .burst; toldbits = m .toldbits; markbits = m .markbits; missed = m .missed; toldnext = m .toldnext; marknext = m .marknext; bytesin = m .bytesin; snrup = levelOf (m .snrup); snrdown = levelOf (m .snrdown); direct = levelOf (m .direct); lastheard = clockOf (m .lastheard); up = windowOf (m .up); tried = m .tried }
-
-abbrev pub ringOf : Recent → Ring
-ringOf r =
-    record { levels = r .levels; count = r .count; at = r .at }
-
-abbrev pub recentOf : Ring → Recent
-recentOf r =
-    record { levels = r .levels; count = r .count; at = r .at }
+    record { call = m .call; via = m .via; hascaps = isSet (m .hascaps); caps = m .caps; hasversion = isSet (m .hasversion); version = m .version; burst = m .burst; toldbits = m .toldbits; markbits = m .markbits; missed = m .missed; toldnext = m .toldnext; marknext = m .marknext; bytesin = m .bytesin; snrup = levelOf (m .snrup); snrdown = levelOf (m .snrdown); direct = levelOf (m .direct); lastheard = clockOf (m .lastheard); up = m .up; tried = m .tried }
 
 abbrev pub lineOf : Queue → Line
 lineOf q =
@@ -143,23 +111,15 @@ abbrev pub queueOf : Line → Queue
 queueOf q =
     record { posted = q .posted; kept = q .kept; reported = q .reported; round = q .round; sent = isSet (q .sent) }
 
-abbrev pub placeOf : Cell → Place
-placeOf c =
-    record { joined = c .joined; offsets = c .offsets; lengths = c .lengths }
-
-abbrev pub cellOf : Place → Cell
-cellOf c =
-    record { joined = c .joined; offsets = c .offsets; lengths = c .lengths }
-
 -- ---- the station
 
 unfoldable pub blockOf : Station → Block
 blockOf s =
-    record { settings = setupOf (s .settings); wait = awaitOf (s .wait); round = courseOf (s .round); totals = sumsOf (s .totals); used = s .used; busy = s .busy; landed = s .landed; count = s .count; members = map boatOf (s .members); recent = map ringOf (s .recent); queues = map lineOf (s .queues); hears = s .hears; owners = s .owners; cells = map placeOf (s .cells) }
+    record { settings = setupOf (s .settings); wait = awaitOf (s .wait); round = courseOf (s .round); totals = s .totals; used = s .used; busy = s .busy; landed = s .landed; count = s .count; members = map boatOf (s .members); recent = s .recent; queues = map lineOf (s .queues); hears = s .hears; owners = s .owners; cells = s .cells }
 
 unfoldable pub stationOf : Block → Station
 stationOf s =
-    record { settings = settingsOf (s .settings); wait = waitOf (s .wait); round = roundOf (s .round); totals = totalsOf (s .totals); used = s .used; busy = s .busy; landed = s .landed; count = s .count; members = map memberOf (s .members); recent = map recentOf (s .recent); queues = map queueOf (s .queues); hears = s .hears; owners = s .owners; cells = map cellOf (s .cells) }
+    record { settings = settingsOf (s .settings); wait = waitOf (s .wait); round = roundOf (s .round); totals = s .totals; used = s .used; busy = s .busy; landed = s .landed; count = s .count; members = map memberOf (s .members); recent = s .recent; queues = map queueOf (s .queues); hears = s .hears; owners = s .owners; cells = s .cells }
 
 -- Reading back what was written is the identity: for every station, with no premise.
 abbrev pub Faithful : Type 0

@@ -4,7 +4,9 @@ use mathlib.Core.Path.{_≡_}
 use mathlib.Core.List.{List}
 use Rattle.level.specs.declared.Level.the-variants.{Unheard}
 use Rattle.config.specs.declared.Given.{Given}
+use Rattle.stream.specs.Window.{bitmapOf}
 use Rattle.net.specs.declared.Station.{Station}
+use Rattle.net.specs.State.{memberAt, queueAt}
 use Rattle.dues.specs.declared.Bill.{Bill}
 use Rattle.logs.specs.declared.Verdict.{Verdict}
 use Rattle.logs.specs.Turns as turns
@@ -20,6 +22,7 @@ use Rattle.shore.specs.declared.answer.Done.{Done}
 use Rattle.shore.specs.declared.answer.Poorest.{Poorest}
 use Rattle.shore.specs.declared.answer.Shown.{Shown}
 use Rattle.shore.specs.declared.answer.Month.{Month}
+use Rattle.shore.specs.declared.answer.Counts.{Counts}
 use Rattle.shore.specs.declared.answer.Checked.{Checked}
 use Rattle.shore.specs.Blocks.{flagOf, readingOf, timeOf, settingsOf, blockOf, stationOf}
 
@@ -43,6 +46,11 @@ poorestOf (Is l) = record { level = readingOf l; refusal = 0 }
 abbrev pub shownOf : Entry → Shown
 shownOf e =
     record { lastheard = timeOf (e .lastheard); snrup = readingOf (e .snrup); snrdown = readingOf (e .snrdown); cap = e .cap; missed = e .missed; bytesin = e .bytesin; here = flagOf (e .here); call = e .call; via = e .via; hascaps = flagOf (e .hascaps); caps = e .caps; hasversion = flagOf (e .hasversion); version = e .version }
+
+-- a boat's messages landed, and the bytes posted to it
+abbrev pub countsOf : Station → ℕ → Counts
+countsOf s slot =
+    record { next = memberAt s slot .up .next; posted = queueAt s slot .posted; kept = queueAt s slot .kept; reported = queueAt s slot .reported; bitmap = bitmapOf (memberAt s slot .up); burst = memberAt s slot .burst }
 
 abbrev pub monthOf : Bill → Month
 monthOf b = record { takings = b .takings; charges = b .charges; credits = b .credits; refusal = b .refusal }

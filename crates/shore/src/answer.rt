@@ -1,6 +1,7 @@
 // What a host gives at the start, and what each call gives back, in numbers and arrays.
 ghost use mathlib.Core.Path.{_≡_};
-ghost use Rattle.shore.specs.Calls.{givenOf, doneOf, told, toldHeard, poorestOf, shownOf, monthOf, checkedOf};
+ghost use Rattle.net.specs.State.{queueAt};
+ghost use Rattle.shore.specs.Calls.{givenOf, doneOf, told, toldHeard, poorestOf, shownOf, monthOf, checkedOf, countsOf};
 use super::block::Block;
 use super::block::Reading;
 use super::block::Setup;
@@ -12,11 +13,13 @@ use dues::Bill;
 use level::Level;
 use logs::Verdict;
 use net::Station;
+use queue::Queue;
 use station::Answer;
 use station::Answered;
 use station::Heard;
 use station::Lowest;
 use station::show::Entry;
+use stream::window;
 
 // config::Given: the call of the net as five packed bytes, how long a burst of n frames of data takes at a level (at 64 * level + n - 1), the
 // largest payload of each level. `call`, `rooms` and `payloads` of `settings` are not looked at.
@@ -68,6 +71,18 @@ pub struct Shown {
     pub caps: u8,
     pub hasversion: u8,
     pub version: u8,
+}
+
+// The numbers of the boat in a slot. next: its first message that has not landed; bitmap: which of the eight after it have; burst: the number of the burst
+// that it is polled with; posted, kept, reported: of the bytes posted to it how many there were, the first that is still kept, how many it reported.
+#[repr(C)]
+pub struct Counts {
+    pub next: u32,
+    pub posted: u32,
+    pub kept: u32,
+    pub reported: u32,
+    pub bitmap: u8,
+    pub burst: u8,
 }
 
 // dues::Bill.
@@ -173,6 +188,30 @@ pub fn shown_of(e: Entry) -> Shown
         caps: e.caps,
         hasversion: e.hasversion as u8,
         version: e.version,
+    }
+}
+
+fn queue_at(s: Station, slot: u8) -> Queue
+    ensures { λ r. ⌜ r ≡ queueAt s slot ⌝ }
+{
+    let qs = s.queues;
+    let i = net::index(slot);
+    qs[i]
+}
+
+pub fn counts_of(s: Station, slot: u8) -> Counts
+    ensures { λ r. ⌜ r ≡ countsOf s slot ⌝ }
+{
+    let m = net::member_at(s, slot);
+    let w = m.up;
+    let q = queue_at(s, slot);
+    Counts {
+        next: w.next,
+        posted: q.posted,
+        kept: q.kept,
+        reported: q.reported,
+        bitmap: window::bitmap(w),
+        burst: m.burst,
     }
 }
 

@@ -1,5 +1,9 @@
 // The station in numbers and arrays alone, laid out as C lays out the same structs: a host holds a Block and looks into none of it. Every
-// byte in it is safe: a flag is a byte, false where it is 0.
+// byte in it is safe: a flag is a byte, false where it is 0. Structs of the station that are numbers and arrays already stand in it as they are.
+use inbox::cell::Cell;
+use net::Totals;
+use recent::Recent;
+use stream::window::Window;
 
 // level::Level: the decibels, where heard.
 #[repr(C)]
@@ -71,27 +75,6 @@ pub struct Course {
     pub activity: u8,
 }
 
-// net::Totals.
-#[repr(C)]
-pub struct Sums {
-    pub polls: u32,
-    pub relays: u32,
-    pub rxlists: u32,
-    pub rounds: u32,
-    pub replies: u32,
-    pub silent: u32,
-}
-
-// stream::window::Window.
-#[repr(C)]
-pub struct Marks {
-    pub next: u32,
-    pub low: u64,
-    pub high: u64,
-    pub barlow: u64,
-    pub barhigh: u64,
-}
-
 // roster::Member.
 #[repr(C)]
 pub struct Boat {
@@ -112,16 +95,8 @@ pub struct Boat {
     pub snrdown: Reading,
     pub direct: Reading,
     pub lastheard: Time,
-    pub up: Marks,
+    pub up: Window,
     pub tried: u64,
-}
-
-// recent::Recent.
-#[repr(C)]
-pub struct Ring {
-    pub levels: [f32; 32],
-    pub count: u8,
-    pub at: u8,
 }
 
 // queue::Queue.
@@ -134,29 +109,21 @@ pub struct Line {
     pub sent: u8,
 }
 
-// inbox::cell::Cell.
-#[repr(C)]
-pub struct Place {
-    pub joined: u16,
-    pub offsets: [u16; 16],
-    pub lengths: [u8; 16],
-}
-
 // net::Station.
 #[repr(C)]
 pub struct Block {
     pub settings: Setup,
     pub wait: Await,
     pub round: Course,
-    pub totals: Sums,
+    pub totals: Totals,
     pub used: u64,
     pub busy: u64,
     pub landed: u64,
     pub count: usize,
     pub members: [Boat; 62],
-    pub recent: [Ring; 62],
+    pub recent: [Recent; 62],
     pub queues: [Line; 62],
     pub hears: [u8; 3844],
     pub owners: [u64; 64],
-    pub cells: [Place; 64],
+    pub cells: [Cell; 64],
 }

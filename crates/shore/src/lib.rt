@@ -7,12 +7,14 @@ ghost use Rattle.station.specs.Entries.{answered, heardOf, startOf, admitOf, re
 ghost use Rattle.station.specs.SignOff.{signOffOf};
 ghost use Rattle.station.specs.Worst.{worstOf};
 ghost use Rattle.station.specs.Shows.{entryOf, hearsOf};
+ghost use Rattle.roster.specs.Relays.{heardAt};
 ghost use Rattle.dues.specs.Dues.{duesOf};
 ghost use Rattle.logs.specs.Turns.{verdictOf};
 ghost use Rattle.sheet.specs.Sheet.{refusal, written};
 ghost use Rattle.shore.specs.Blocks.{readingOf as readingIn, stationOf};
-ghost use Rattle.shore.specs.Calls.{givenOf, told, toldHeard, poorestOf, shownOf, monthOf, checkedOf};
+ghost use Rattle.shore.specs.Calls.{givenOf, told, toldHeard, poorestOf, shownOf, monthOf, checkedOf, countsOf};
 use answer::Checked;
+use answer::Counts;
 use answer::Done;
 use answer::Month;
 use answer::Part;
@@ -21,6 +23,7 @@ use answer::Poorest;
 use answer::Shown;
 use block::Block;
 use block::Reading;
+use net::Totals;
 
 pub mod answer;
 pub mod block;
@@ -171,6 +174,14 @@ pub extern "C" fn shore_silent(b: Block) -> u32
     b.totals.silent
 }
 
+// How many polls, polls by relay, received lists, rounds and replies there were, and how many boats are silent.
+#[no_mangle]
+pub extern "C" fn shore_totals(b: Block) -> Totals
+    ensures { λ r. ⌜ r ≡ stationOf b .totals ⌝ }
+{
+    b.totals
+}
+
 // The boat in a slot; `here` is 0 where there is none.
 #[no_mangle]
 pub extern "C" fn shore_entry(b: Block, slot: u8) -> Shown
@@ -187,6 +198,23 @@ pub extern "C" fn shore_hears(b: Block, r: u8, a: u8) -> Reading
 {
     let s = unpack::station_of(b);
     pack::reading_of(station::show::hears(s, r, a))
+}
+
+// The level field at which the boat in slot r said that it hears slot a, whoever is there: decibels plus 24, 63 for nothing.
+#[no_mangle]
+pub extern "C" fn shore_hears_field(b: Block, r: u8, a: u8) -> u8
+    ensures { λ x. ⌜ x ≡ heardAt (stationOf b .hears) r a ⌝ }
+{
+    roster::relay::heard_at(&b.hears, r, a)
+}
+
+// The numbers of the boat in a slot; they are no boat's where it has none.
+#[no_mangle]
+pub extern "C" fn shore_numbers(b: Block, slot: u8) -> Counts
+    ensures { λ r. ⌜ r ≡ countsOf (stationOf b) slot ⌝ }
+{
+    let s = unpack::station_of(b);
+    answer::counts_of(s, slot)
 }
 
 // The month's dues: `figures` are the bytes landed, one for each slot.

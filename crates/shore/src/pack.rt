@@ -1,33 +1,25 @@
 // From the station to the block.
 ghost use mathlib.Core.Path.{_≡_};
 ghost use mathlib.Core.List.{map};
-ghost use Rattle.shore.specs.Blocks.{readingOf, timeOf, awaitMade, awaitBy, setupOf, courseOf, sumsOf, marksOf, boatOf, ringOf, lineOf, placeOf, blockOf};
+ghost use Rattle.shore.specs.Blocks.{readingOf, timeOf, awaitMade, awaitBy, setupOf, courseOf, boatOf, lineOf, blockOf};
 use super::block::Await;
 use super::block::Block;
 use super::block::Boat;
 use super::block::Course;
 use super::block::Line;
-use super::block::Marks;
-use super::block::Place;
 use super::block::Reading;
-use super::block::Ring;
 use super::block::Setup;
-use super::block::Sums;
 use super::block::Time;
-use inbox::cell::Cell;
 use level::Clock;
 use level::Level;
 use net::Reply;
 use net::Round;
 use net::Settings;
 use net::Station;
-use net::Totals;
 use net::Turn;
 use net::Wait;
 use queue::Queue;
-use recent::Recent;
 use roster::Member;
-use stream::window::Window;
 
 pub fn reading_of(x: Level) -> Reading
     ensures { λ r. ⌜ r ≡ readingOf x ⌝ }
@@ -145,31 +137,6 @@ fn course_of(r: Round) -> Course
     }
 }
 
-fn sums_of(t: Totals) -> Sums
-    ensures { λ r. ⌜ r ≡ sumsOf t ⌝ }
-{
-    Sums {
-        polls: t.polls,
-        relays: t.relays,
-        rxlists: t.rxlists,
-        rounds: t.rounds,
-        replies: t.replies,
-        silent: t.silent,
-    }
-}
-
-fn marks_of(w: Window) -> Marks
-    ensures { λ r. ⌜ r ≡ marksOf w ⌝ }
-{
-    Marks {
-        next: w.next,
-        low: w.low,
-        high: w.high,
-        barlow: w.barlow,
-        barhigh: w.barhigh,
-    }
-}
-
 fn boat_of(m: Member) -> Boat
     ensures { λ r. ⌜ r ≡ boatOf m ⌝ }
 {
@@ -197,19 +164,8 @@ fn boat_of(m: Member) -> Boat
         snrdown: reading_of(snrdown),
         direct: reading_of(direct),
         lastheard: time_of(lastheard),
-        up: marks_of(up),
+        up: up,
         tried: m.tried,
-    }
-}
-
-fn ring_of(r: Recent) -> Ring
-    ensures { λ x. ⌜ x ≡ ringOf r ⌝ }
-{
-    let levels = r.levels;
-    Ring {
-        levels: levels,
-        count: r.count,
-        at: r.at,
     }
 }
 
@@ -222,18 +178,6 @@ fn line_of(q: Queue) -> Line
         reported: q.reported,
         round: q.round,
         sent: q.sent as u8,
-    }
-}
-
-fn place_of(c: Cell) -> Place
-    ensures { λ r. ⌜ r ≡ placeOf c ⌝ }
-{
-    let offsets = c.offsets;
-    let lengths = c.lengths;
-    Place {
-        joined: c.joined,
-        offsets: offsets,
-        lengths: lengths,
     }
 }
 
@@ -253,22 +197,6 @@ fn boats_of(members: [Member; 62]) -> [Boat; 62]
     out
 }
 
-fn rings_of(recents: [Recent; 62]) -> [Ring; 62]
-    ensures { λ r. ⌜ r ≡ map ringOf recents ⌝ }
-{
-    let first = recents[0];
-    let filler = ring_of(first);
-    let mut out = [filler; 62];
-    let mut i: usize = 0;
-    while i < 62 {
-        let x = recents[i];
-        let y = ring_of(x);
-        out[i] = y;
-        i += 1;
-    }
-    out
-}
-
 fn lines_of(queues: [Queue; 62]) -> [Line; 62]
     ensures { λ r. ⌜ r ≡ map lineOf queues ⌝ }
 {
@@ -279,22 +207,6 @@ fn lines_of(queues: [Queue; 62]) -> [Line; 62]
     while i < 62 {
         let x = queues[i];
         let y = line_of(x);
-        out[i] = y;
-        i += 1;
-    }
-    out
-}
-
-fn places_of(cells: [Cell; 64]) -> [Place; 64]
-    ensures { λ r. ⌜ r ≡ map placeOf cells ⌝ }
-{
-    let first = cells[0];
-    let filler = place_of(first);
-    let mut out = [filler; 64];
-    let mut i: usize = 0;
-    while i < 64 {
-        let x = cells[i];
-        let y = place_of(x);
         out[i] = y;
         i += 1;
     }
@@ -318,16 +230,16 @@ pub fn block_of(s: Station) -> Block
         settings: setup_of(settings),
         wait: await_of(wait),
         round: course_of(round),
-        totals: sums_of(totals),
+        totals: totals,
         used: s.used,
         busy: s.busy,
         landed: s.landed,
         count: s.count,
         members: boats_of(members),
-        recent: rings_of(recent),
+        recent: recent,
         queues: lines_of(queues),
         hears: hears,
         owners: owners,
-        cells: places_of(cells),
+        cells: cells,
     }
 }

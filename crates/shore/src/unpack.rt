@@ -1,33 +1,25 @@
 // From the block to the station: every block gives one.
 ghost use mathlib.Core.Path.{_≡_};
 ghost use mathlib.Core.List.{map};
-ghost use Rattle.shore.specs.Blocks.{levelOf, clockOf, turnOf, waitOf, settingsOf, roundOf, totalsOf, windowOf, memberOf, recentOf, queueOf, cellOf, stationOf};
+ghost use Rattle.shore.specs.Blocks.{levelOf, clockOf, turnOf, waitOf, settingsOf, roundOf, memberOf, queueOf, stationOf};
 use super::block::Await;
 use super::block::Block;
 use super::block::Boat;
 use super::block::Course;
 use super::block::Line;
-use super::block::Marks;
-use super::block::Place;
 use super::block::Reading;
-use super::block::Ring;
 use super::block::Setup;
-use super::block::Sums;
 use super::block::Time;
-use inbox::cell::Cell;
 use level::Clock;
 use level::Level;
 use net::Reply;
 use net::Round;
 use net::Settings;
 use net::Station;
-use net::Totals;
 use net::Turn;
 use net::Wait;
 use queue::Queue;
-use recent::Recent;
 use roster::Member;
-use stream::window::Window;
 
 fn level_of(x: Reading) -> Level
     ensures { λ r. ⌜ r ≡ levelOf x ⌝ }
@@ -131,31 +123,6 @@ fn round_of(r: Course) -> Round
     }
 }
 
-fn totals_of(t: Sums) -> Totals
-    ensures { λ r. ⌜ r ≡ totalsOf t ⌝ }
-{
-    Totals {
-        polls: t.polls,
-        relays: t.relays,
-        rxlists: t.rxlists,
-        rounds: t.rounds,
-        replies: t.replies,
-        silent: t.silent,
-    }
-}
-
-fn window_of(w: Marks) -> Window
-    ensures { λ r. ⌜ r ≡ windowOf w ⌝ }
-{
-    Window {
-        next: w.next,
-        low: w.low,
-        high: w.high,
-        barlow: w.barlow,
-        barhigh: w.barhigh,
-    }
-}
-
 fn member_of(m: Boat) -> Member
     ensures { λ r. ⌜ r ≡ memberOf m ⌝ }
 {
@@ -183,19 +150,8 @@ fn member_of(m: Boat) -> Member
         snrdown: level_of(snrdown),
         direct: level_of(direct),
         lastheard: clock_of(lastheard),
-        up: window_of(up),
+        up: up,
         tried: m.tried,
-    }
-}
-
-fn recent_of(r: Ring) -> Recent
-    ensures { λ x. ⌜ x ≡ recentOf r ⌝ }
-{
-    let levels = r.levels;
-    Recent {
-        levels: levels,
-        count: r.count,
-        at: r.at,
     }
 }
 
@@ -208,18 +164,6 @@ fn queue_of(q: Line) -> Queue
         reported: q.reported,
         round: q.round,
         sent: q.sent != 0,
-    }
-}
-
-fn cell_of(c: Place) -> Cell
-    ensures { λ r. ⌜ r ≡ cellOf c ⌝ }
-{
-    let offsets = c.offsets;
-    let lengths = c.lengths;
-    Cell {
-        joined: c.joined,
-        offsets: offsets,
-        lengths: lengths,
     }
 }
 
@@ -239,22 +183,6 @@ fn members_of(boats: [Boat; 62]) -> [Member; 62]
     out
 }
 
-fn recents_of(rings: [Ring; 62]) -> [Recent; 62]
-    ensures { λ r. ⌜ r ≡ map recentOf rings ⌝ }
-{
-    let first = rings[0];
-    let filler = recent_of(first);
-    let mut out = [filler; 62];
-    let mut i: usize = 0;
-    while i < 62 {
-        let x = rings[i];
-        let y = recent_of(x);
-        out[i] = y;
-        i += 1;
-    }
-    out
-}
-
 fn queues_of(lines: [Line; 62]) -> [Queue; 62]
     ensures { λ r. ⌜ r ≡ map queueOf lines ⌝ }
 {
@@ -265,22 +193,6 @@ fn queues_of(lines: [Line; 62]) -> [Queue; 62]
     while i < 62 {
         let x = lines[i];
         let y = queue_of(x);
-        out[i] = y;
-        i += 1;
-    }
-    out
-}
-
-fn cells_of(places: [Place; 64]) -> [Cell; 64]
-    ensures { λ r. ⌜ r ≡ map cellOf places ⌝ }
-{
-    let first = places[0];
-    let filler = cell_of(first);
-    let mut out = [filler; 64];
-    let mut i: usize = 0;
-    while i < 64 {
-        let x = places[i];
-        let y = cell_of(x);
         out[i] = y;
         i += 1;
     }
@@ -304,16 +216,16 @@ pub fn station_of(s: Block) -> Station
         settings: settings_of(settings),
         wait: wait_of(wait),
         round: round_of(round),
-        totals: totals_of(totals),
+        totals: totals,
         used: s.used,
         busy: s.busy,
         landed: s.landed,
         count: s.count,
         members: members_of(members),
-        recent: recents_of(recent),
+        recent: recent,
         queues: queues_of(queues),
         hears: hears,
         owners: owners,
-        cells: cells_of(cells),
+        cells: cells,
     }
 }

@@ -7,6 +7,7 @@ ghost use Prim.Native.Nat.{_+_, _-_, _*_, _^_};
 ghost use Rattle.bits.specs.Mask.{hasBit};
 ghost use Rattle.stream.specs.Window.{freshOf, marksOf, bitmapOf, holesOf, handedOf, barsOf, barredOf, barOf, slidOf, slideOf, markOf, landOf};
 
+#[repr(C)]
 pub struct Window {
     pub next: u32,
     pub low: u64,

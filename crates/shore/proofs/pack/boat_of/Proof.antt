@@ -21,13 +21,10 @@ reading-of-requires-3 c κs = search needs
 time-of-requires : tie.Need-time-of-requires
 time-of-requires c κs = search needs
 
-marks-of-requires : tie.Need-marks-of-requires
-marks-of-requires c κs = search needs
-
 returns : tie.Need-returns
 returns c =
-    let b = c .before .before in
-    rw (c .marks-of .ensures, c .before .time-of .ensures, b .reading-of3 .ensures, b .before .reading-of2 .ensures, b .before .before .reading-of .ensures)
+    let b = c .before in
+    rw (c .time-of .ensures, b .reading-of3 .ensures, b .before .reading-of2 .ensures, b .before .before .reading-of .ensures)
 
 pub boat-of-spec : {M : Type 1} → statement M
 boat-of-spec =
@@ -39,5 +36,4 @@ boat-of-spec =
     reading-of-requires-2
     reading-of-requires-3
     time-of-requires
-    marks-of-requires
     returns)

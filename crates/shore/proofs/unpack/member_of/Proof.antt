@@ -15,13 +15,10 @@ level-of-requires-3 c κs = search needs
 clock-of-requires : tie.Need-clock-of-requires
 clock-of-requires c κs = search needs
 
-window-of-requires : tie.Need-window-of-requires
-window-of-requires c κs = search needs
-
 returns : tie.Need-returns
 returns c =
-    let b = c .before .before in
-    rw (c .window-of .ensures, c .before .clock-of .ensures, b .level-of3 .ensures, b .before .level-of2 .ensures, b .before .before .level-of .ensures)
+    let b = c .before in
+    rw (c .clock-of .ensures, b .level-of3 .ensures, b .before .level-of2 .ensures, b .before .before .level-of .ensures)
 
 pub member-of-spec : {M : Type 1} → statement M
 member-of-spec =
@@ -31,5 +28,4 @@ member-of-spec =
     level-of-requires-2
     level-of-requires-3
     clock-of-requires
-    window-of-requires
     returns)

@@ -13,34 +13,22 @@ wait-of-requires c κs = search needs
 round-of-requires : tie.Need-round-of-requires
 round-of-requires c κs = search needs
 
-totals-of-requires : tie.Need-totals-of-requires
-totals-of-requires c κs = search needs
-
 members-of-requires : tie.Need-members-of-requires
 members-of-requires c κs = search needs
-
-recents-of-requires : tie.Need-recents-of-requires
-recents-of-requires c κs = search needs
 
 queues-of-requires : tie.Need-queues-of-requires
 queues-of-requires c κs = search needs
 
-cells-of-requires : tie.Need-cells-of-requires
-cells-of-requires c κs = search needs
-
 returns : tie.Need-returns
 unfolding stationOf
 returns c =
-    let b = c .before .before .before .before in
+    let b = c .before .before in
     rw (
-      c .cells-of .ensures,
-      c .before .queues-of .ensures,
-      c .before .before .recents-of .ensures,
-      c .before .before .before .members-of .ensures,
-      b .totals-of .ensures,
-      b .before .round-of .ensures,
-      b .before .before .wait-of .ensures,
-      b .before .before .before .settings-of .ensures,
+      c .queues-of .ensures,
+      c .before .members-of .ensures,
+      b .round-of .ensures,
+      b .before .wait-of .ensures,
+      b .before .before .settings-of .ensures,
     )
 
 pub station-of-spec : {M : Type 1} → statement M
@@ -50,9 +38,6 @@ station-of-spec =
     settings-of-requires
     wait-of-requires
     round-of-requires
-    totals-of-requires
     members-of-requires
-    recents-of-requires
     queues-of-requires
-    cells-of-requires
     returns)
