@@ -1,8 +1,7 @@
 /* A day of a small net: one boat checks in, is polled, sends a message in two pieces of which one is lost and sent again; it lands and is read. A message
    goes out to the boat. Every word that the station gives is said in plain text. */
-#include "shore.h"
+#include "plan.h"
 #include <stdio.h>
-#include <string.h>
 
 static struct shore_block block;
 static uint8_t store[10 * SHORE_CELL];
@@ -139,20 +138,7 @@ static void receive(const char *what, double time)
 
 static void start(void)
 {
-    static struct shore_plan p;
-    struct shore_setup *g = &p.settings;
-    *g = (struct shore_setup){.turnaround = 0.3, .maxburst = 8, .replyslack = 1, .detect = 1, .beaconevery = 300, .quickbeacon = 45, .idleroundgap = 15, .margin = 1, .relaysnr = -8, .misslimit = 2, .windowslots = 4};
-    memcpy(g->name, "PORT  ", 6);
-    for (int i = 0; i < 4; i++)
-        g->durations[i] = 1;
-    for (int i = 0; i < 17; i++) {
-        g->thresholds[i] = -20 + 2 * i;
-        p.payloads[i] = i < 5 ? 22 : 170;
-    }
-    for (int i = 0; i < 1088; i++)
-        p.times[i] = 1;
-    memcpy(p.call, "\x40\x3e\x77\xb3\x00", 5);
-    struct shore_done d = shore_start(block, p, store, sizeof store);
+    struct shore_done d = shore_start(block, small_net(), store, sizeof store);
     take("start", 0, &d);
 }
 
