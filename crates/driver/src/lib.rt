@@ -53,6 +53,7 @@ fn aside(c: Control, a: Action, w: u32, words: &mut [u32; 8192], t: &mut [u8; 65
         Action::Roster => c,
         Action::SignOff => c,
         Action::Ask => c,
+        Action::Fill => c,
     }
 }
 
@@ -139,6 +140,11 @@ pub fn feed(
             k = print::answer(t, k, out, h);
         } else if let Action::SignOff = a {
             let r = station::sign_off(u, action::slot_of(w));
+            let h = r.answer;
+            u = r.station;
+            k = print::answer(t, k, out, h);
+        } else if let Action::Fill = a {
+            let r = command::fill(u, k, w, lent, queue, out);
             let h = r.answer;
             u = r.station;
             k = print::answer(t, k, out, h);

@@ -45,6 +45,15 @@ fn question(t: &mut [u8; 65536], at: usize, who: &[u8; 441], rest: u32) -> usize
         }
         3 => text::put_text(t, at, b"command: the dues of the figures that follow"),
         4 => say::named(t, at, b"command: the worst level of slot ", who, slot),
+        5 => {
+            let a = say::number(
+                t,
+                at,
+                b"command: post messages of 2,046 zeros, so many: ",
+                rest / 4096,
+            );
+            say::named(t, a, b", to slot ", who, slot)
+        }
         _ => say::number(t, at, b"command: no question of the panel's, ", rest % 16),
     }
 }

@@ -7,7 +7,7 @@ use lib.Ieee.{Float, binary32, binary64, ofBits, ofInt, sub, div}
 use Rattle.level.specs.Consts.{nought}
 use Rattle.script.specs.declared.action.Control.{Control}
 use Rattle.script.specs.declared.action.Action.{Action}
-use Rattle.script.specs.declared.action.Action.the-variants.{Push, Bad, Time, Level, Open, Next, Sent, Close, Read, Free, Roster, SignOff, Ask}
+use Rattle.script.specs.declared.action.Action.the-variants.{Push, Bad, Time, Level, Open, Next, Sent, Close, Read, Free, Roster, SignOff, Ask, Fill}
 
 -- kind 7, 14 or 15
 abbrev pub isEnd : ℕ → Bool
@@ -37,9 +37,16 @@ restOf w = w / 16 % 16777216
 abbrev pub slotOf : ℕ → ℕ
 slotOf w = w / 16 % 256
 
--- a question of the panel's: the silent boats, the boat in a slot, at which level one boat hears another, the dues, the lowest of a boat's last levels
+-- a question of the panel's: the silent boats, the boat in a slot, at which level one boat hears another, the dues, the lowest of a boat's last levels; or the
+-- filling of a boat's directed queue
 abbrev pub asked : ℕ → Bool
-asked rest = eqb rest 0 || (eqb (rest % 16) 1 && ltb rest 4096) || (eqb (rest % 16) 2 && ltb rest 1048576) || eqb rest 3 || (eqb (rest % 16) 4 && ltb rest 4096)
+asked rest =
+    eqb rest 0
+    || (eqb (rest % 16) 1 && ltb rest 4096)
+    || (eqb (rest % 16) 2 && ltb rest 1048576)
+    || eqb rest 3
+    || (eqb (rest % 16) 4 && ltb rest 4096)
+    || eqb (rest % 16) 5
 
 -- the command is one of the program's, and no bit is set that is not named
 abbrev pub named : ℕ → Control → Bool
@@ -57,7 +64,8 @@ unfoldable pub byNumber : ℕ → Action
 byNumber w =
     let command = w % 16 in
     cond (eqb command 0) Next (cond (eqb command 1) Sent (cond (eqb command 4) Close (cond (eqb command 5) Read (cond (eqb command 6) Free
-    (cond (eqb command 7) Roster (cond (eqb command 14) SignOff (cond (eqb command 15 && not (eqb (restOf w) 3)) Ask (Open command))))))))
+    (cond (eqb command 7) Roster (cond (eqb command 14) SignOff (cond (eqb command 15 && eqb (w / 16 % 16) 5) Fill
+    (cond (eqb command 15 && not (eqb (restOf w) 3)) Ask (Open command)))))))))
 
 -- kind 7
 abbrev pub commandOf : ℕ → Control → Action
@@ -91,6 +99,7 @@ isShown Sent = false
 isShown Close = false
 isShown Free = false
 isShown SignOff = false
+isShown Fill = false
 
 -- ---- what the program holds
 

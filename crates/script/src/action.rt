@@ -35,6 +35,8 @@ pub enum Action {
     SignOff,
     // A question of the panel's.
     Ask,
+    // The panel fills a boat's directed queue.
+    Fill,
 }
 
 pub fn first_control(drive: bool, panel: bool) -> Control
@@ -123,7 +125,7 @@ fn is_named(w: u32, c: Control) -> bool
 }
 
 // A question of the panel's: the silent boats (0), the boat in a slot (1), at which level one boat hears another (2), the dues (3),
-// the lowest of a boat's last levels (4).
+// the lowest of a boat's last levels (4); or the filling of a boat's directed queue (5).
 fn is_asked(rest: u32) -> bool
     ensures { λ r. ⌜ r ≡ asked rest ⌝ }
 {
@@ -132,6 +134,7 @@ fn is_asked(rest: u32) -> bool
         | ((rest % 16 == 2) & (rest < 1048576))
         | (rest == 3)
         | ((rest % 16 == 4) & (rest < 4096))
+        | (rest % 16 == 5)
 }
 
 // The action of a named command.
@@ -159,6 +162,9 @@ fn by_number(w: u32) -> Action
     }
     if command == 14 {
         return Action::SignOff;
+    }
+    if (command == 15) & (w / 16 % 16 == 5) {
+        return Action::Fill;
     }
     if (command == 15) & (w / 16 % 16777216 != 3) {
         return Action::Ask;
@@ -223,6 +229,7 @@ pub fn is_shown(a: Action) -> bool
         Action::Close => false,
         Action::Free => false,
         Action::SignOff => false,
+        Action::Fill => false,
         Action::Push => false,
         Action::Bad => false,
         Action::Time => false,

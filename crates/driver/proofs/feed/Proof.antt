@@ -119,6 +119,15 @@ sign-off-requires c κs = tt
 answer-requires-6 : tie.Need-answer-requires-6 Inv-loop μ-loop
 answer-requires-6 c κs = tt
 
+enum-told-6 : tie.Need-enum-told-6 Inv-loop μ-loop
+enum-told-6 c = search needs
+
+fill-requires : tie.Need-fill-requires Inv-loop μ-loop
+fill-requires c κs = tt
+
+answer-requires-7 : tie.Need-answer-requires-7 Inv-loop μ-loop
+answer-requires-7 c κs = tt
+
 is-shown-requires : tie.Need-is-shown-requires Inv-loop μ-loop
 is-shown-requires c κs = tt
 
@@ -182,6 +191,9 @@ feed-spec =
     slot-of-requires
     sign-off-requires
     answer-requires-6
+    enum-told-6
+    fill-requires
+    answer-requires-7
     is-shown-requires
     shown-requires
     aside-requires
