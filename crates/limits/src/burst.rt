@@ -1,5 +1,4 @@
 // Stations and bursts for the cases.
-use net::Reply;
 use net::Station;
 use station::Heard;
 ghost use Prim.Native.Nat.{_≤_};
@@ -14,19 +13,6 @@ pub fn fresh(lent: &[u8]) -> Station {
 pub fn with_boat(s: Station, k: u8, out: &mut [u32; 8192]) -> Station {
     let r = station::admit(s, [k, 10, 0, 0, 0], 63, 0.0, out);
     r.station
-}
-
-// The station waits for a reply of slot 0.
-pub fn polled(mut s: Station) -> Station {
-    let r = Reply {
-        slot: 0,
-        relayfor: 63,
-        tries: 0,
-        turnbursts: 0,
-    };
-    let w = net::waiting(r, level::Clock::At(100.0));
-    s.wait = w;
-    s
 }
 
 // The next decision and the end of its sending.
@@ -58,22 +44,10 @@ pub fn piece(
     out::put_frame(w, at, slot, number % 256 * 65536 + offset % 65536, &p, n)
 }
 
-// A control frame to everyone: its first byte `kind`, its second `x`, in all n bytes.
-pub fn control(w: &mut [u32; 8192], at: usize, kind: u8, x: u8, n: usize) -> usize {
-    let mut p = [0u8; 32];
-    p[0] = kind;
-    p[1] = x;
-    out::put_ctrl(w, at, &p, n)
-}
-
-// Slot 0 heard a boat ask in, and will relay for it.
-pub fn overheard(w: &mut [u32; 8192], at: usize) -> usize {
-    let p = [4u8, 100, 10, 0, 0, 0, 40, 4, 2];
-    out::put_frame(w, at, 0x80, 0, &p, 9)
-}
-
-pub fn lost(w: &mut [u32; 8192], at: usize) -> usize {
-    out::put_word(w, at, 0xd000_0000)
+// The first two bytes of slot 0's message with a number of low bits 0: its length is 2,047.
+pub fn claim(w: &mut [u32; 8192], at: usize) -> usize {
+    let p = [255u8, 7];
+    out::put_frame(w, at, 0, 0, &p, 2)
 }
 
 fn least(a: usize, b: usize) -> usize
@@ -102,22 +76,4 @@ pub fn heard_at(
     o: &mut [u32; 8192],
 ) -> Heard {
     part(s, w, n, snr, lent, o)
-}
-
-// The extra of the burst's head in n words: the last but one is the head.
-pub fn extra_in(o: &[u32; 8192], a: station::Answer) -> u32 {
-    match a {
-        station::Answer::Refused(_) => 0,
-        station::Answer::Words(n) => extra_of(o, n),
-    }
-}
-
-fn extra_of(o: &[u32; 8192], n: usize) -> u32 {
-    if n < 2 {
-        return 0;
-    }
-    if 8192 < n {
-        return 0;
-    }
-    o[n - 2] % 65536
 }

@@ -44,6 +44,30 @@ pub fn numbers(
     number(t, e, s, 4294967040, lent, out)
 }
 
+// A length of 2,047 shown with the first number that is too high: the number limit comes first, and nothing is barred (request U4).
+pub fn claims(
+    t: &mut [u8; 65536],
+    at: usize,
+    lent: &mut [u8; 64000],
+    out: &mut [u32; 8192],
+) -> usize {
+    let s = burst::with_boat(burst::fresh(lent), 1, out);
+    let mut w = [0u32; 8192];
+    let n = burst::head(&mut w, 0);
+    let m = burst::claim(&mut w, n);
+    let r = burst::heard(at_number(s, 4294967040), &w, m, lent, out);
+    let u = r.station;
+    let k = u.members[0];
+    let v = k.up;
+    let e = tell::number(
+        t,
+        at,
+        b"a length of 2,047 there: not kept, as a mask",
+        r.mask,
+    );
+    tell::number(t, e, b"  barred from there on, as a mask", v.barlow)
+}
+
 // Every counter at its end, and no beacon due for long.
 fn at_the_end(mut s: Station) -> Station {
     let mut m = s.members[0];

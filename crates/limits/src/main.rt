@@ -1,35 +1,27 @@
-// What no script of words reaches, and document 01's run cases, run and printed.
+// What no script of words reaches: small memories, NaN, the last numbers; and the two tie rules. Run and printed.
 mod burst;
 mod count;
-mod edge;
-mod overlong;
 mod refused;
 mod slip;
 mod tell;
+
+fn refusals(t: &mut [u8; 65536], lent: &mut [u8; 64000], out: &mut [u32; 8192]) -> usize {
+    let a = refused::short(t, 0);
+    let b = refused::output(t, a, lent, out);
+    let c = refused::store(t, b, out);
+    let d = refused::queue(t, c, lent, out);
+    let e = refused::clock(t, d, lent, out);
+    refused::level(t, e, lent, out)
+}
 
 fn main() {
     let mut t = [0u8; 65536];
     let mut lent = [0u8; 64000];
     let mut out = [0u32; 8192];
-    let a = refused::short(&mut t, 0);
-    let b = refused::output(&mut t, a, &lent, &mut out);
-    let c = refused::store(&mut t, b, &mut out);
-    let z = refused::queue(&mut t, c, &lent, &mut out);
-    let d = refused::clock(&mut t, z, &lent, &mut out);
-    let e = refused::level(&mut t, d, &mut lent, &mut out);
-    let f = count::numbers(&mut t, e, &mut lent, &mut out);
-    let g = count::counters(&mut t, f, &lent, &mut out);
-    let h = edge::members(&mut t, g, &lent, &mut out);
-    let i = edge::ends(&mut t, h, &mut lent, &mut out);
-    let j = edge::waiting(&mut t, i, &mut lent, &mut out);
-    let k = edge::frames(&mut t, j, &mut lent, &mut out);
-    let l = slip::ties(&mut t, k);
-    let m = slip::no_cell(&mut t, l, &mut out);
-    let n = slip::cap(&mut t, m, &lent, &mut out);
-    let o = slip::unknown(&mut t, n, &mut lent, &mut out);
-    let p = slip::direct(&mut t, o, &mut lent, &mut out);
-    let q = overlong::shown(&mut t, p, &mut lent, &mut out);
-    let r = overlong::full(&mut t, q, &mut lent, &mut out);
-    let s = overlong::limits(&mut t, r, &mut lent, &mut out);
-    text::flush(&t, s);
+    let a = refusals(&mut t, &mut lent, &mut out);
+    let b = count::numbers(&mut t, a, &mut lent, &mut out);
+    let c = count::claims(&mut t, b, &mut lent, &mut out);
+    let d = count::counters(&mut t, c, &lent, &mut out);
+    let e = slip::ties(&mut t, d);
+    text::flush(&t, e);
 }

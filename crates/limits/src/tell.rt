@@ -1,11 +1,6 @@
 // Lines: what was tried, and what came of it.
 use station::Answer;
 
-pub fn line(t: &mut [u8; 65536], at: usize, s: &[u8]) -> usize {
-    let a = text::put_text(t, at, s);
-    text::put(t, a, b'\n')
-}
-
 pub fn number(t: &mut [u8; 65536], at: usize, s: &[u8], x: u64) -> usize {
     let a = text::put_text(t, at, s);
     let b = text::put_text(t, a, b": ");
@@ -19,14 +14,6 @@ pub fn small(t: &mut [u8; 65536], at: usize, s: &[u8], x: u32) -> usize {
 
 pub fn slot(t: &mut [u8; 65536], at: usize, s: &[u8], x: u8) -> usize {
     number(t, at, s, x as u64)
-}
-
-pub fn yes(t: &mut [u8; 65536], at: usize, s: &[u8], is: bool) -> usize {
-    let a = text::put_text(t, at, s);
-    if is {
-        return line(t, a, b": yes");
-    }
-    line(t, a, b": no")
 }
 
 fn refusal(t: &mut [u8; 65536], at: usize, n: u8) -> usize {
