@@ -8,6 +8,7 @@ pub fn is_asked(rest: u32) -> bool {
         0 | 3 => rest < 16,
         1 | 4 => rest < 1 << 12,
         2 => rest < 1 << 20,
+        5 => true,
         _ => false,
     }
 }
@@ -54,6 +55,20 @@ pub fn answer(s: &Station, rest: u32, now: f64) -> Lines {
         2 => format!("slot {slot} hears slot {other}: {}", level(s.hears(slot, other))),
         _ => format!("slot {slot}: worst of the last 32 levels: {}", level(s.worst(slot)?)),
     }])
+}
+
+/// So often a message of 2,046 zeros is posted to a boat, which then reports that it has all that was posted to it.
+pub fn fill(s: &mut Station, rest: u32, level: f32, time: f64) -> Lines {
+    let slot = (rest >> 4) as u8;
+    let frame = 0xa000_800c | u32::from(slot & 63) << 8;
+    let report = 0xc003_001e | u32::from(slot) << 8;
+    let words = [0x8060_0000, frame, 0xb000_0000, report, 0xc000_0000, 0xc000_0000, 0xc0ff_ffff];
+    for _ in 0..rest >> 12 {
+        s.post(slot, &[0; 2046])?;
+        // A report that is refused, for its clock or level, is no answer of the filling's.
+        let _ = s.receive(&words, level, time);
+    }
+    Ok(Vec::new())
 }
 
 /// The dues, a line for each boat, then the port's takings.

@@ -146,6 +146,7 @@ impl Replay {
             (3 | 8..=13, 0) => self.opened(command),
             (15, _) if self.program == Program::Panel && panel::is_asked(rest) => match rest {
                 3 => self.opened(command),
+                _ if rest & 15 == 5 => panel::fill(s, rest, self.level, self.time),
                 _ => panel::answer(s, rest, self.time),
             },
             _ => Err(Refusal::Words),
