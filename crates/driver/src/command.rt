@@ -349,46 +349,20 @@ fn is_refused(a: Answer) -> bool {
     }
 }
 
-// A burst in which the boat in a slot reports that it has all bytes that a total can count.
-fn reported_all(slot: u8) -> [u32; 7] {
-    let s = slot as u32;
-    [
-        0x8060_0000,
-        0xa000_800c + 256 * (s % 64),
-        0xb000_0000,
-        0xc003_001e + 256 * s,
-        0xc000_0000,
-        0xc000_0000,
-        0xc0ff_ffff,
-    ]
+// The queue of the boat in a slot as if the boat had reported all that can be posted to it.
+fn reported(mut s: Station, slot: u8) -> Station {
+    let i = net::index(slot);
+    let q = s.queues[i];
+    let k = queue::reported_to(q, 16777215);
+    s.queues[i] = k;
+    s
 }
 
-fn receive_all(
-    s: Station,
-    c: Control,
-    words: &[u32; 7],
-    lent: &mut [u8],
-    out: &mut [u32; 8192],
-) -> Heard {
-    receive(s, c, words, lent, out)
-}
-
-// So often as bits 27-16 say, a message of 2,046 zeros is posted to the boat in the slot of bits 15-8, which then reports it. The first refusal of a posting
-// ends it.
-pub fn fill(
-    s: Station,
-    c: Control,
-    w: u32,
-    lent: &mut [u8; 409600],
-    queue: &mut [u8; 126976],
-    out: &mut [u32; 8192],
-) -> Answered {
+// So often as bits 27-16 say, a message of 2,046 zeros is posted to the boat in the slot of bits 15-8 and taken as reported by it. The first refusal ends it.
+pub fn fill(s: Station, w: u32, queue: &mut [u8; 126976]) -> Answered {
     let rest = action::rest_of(w);
     let slot = (rest / 16 % 256) as u8;
     let zeros = [0u8; 2300];
-    let report = reported_all(slot);
-    let mut k = c;
-    k.words = 7;
     let mut u = s;
     let mut left = rest / 4096;
     while 0 < left {
@@ -397,8 +371,7 @@ pub fn fill(
         if is_refused(a) {
             return r;
         }
-        let h = receive_all(r.station, k, &report, lent, out);
-        u = h.station;
+        u = reported(r.station, slot);
         left -= 1;
     }
     Answered {

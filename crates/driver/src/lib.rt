@@ -144,7 +144,7 @@ pub fn feed(
             u = r.station;
             k = print::answer(t, k, out, h);
         } else if let Action::Fill = a {
-            let r = command::fill(u, k, w, lent, queue, out);
+            let r = command::fill(u, w, queue);
             let h = r.answer;
             u = r.station;
             k = print::answer(t, k, out, h);

@@ -57,11 +57,11 @@ pub fn answer(s: &Station, rest: u32, now: f64) -> Lines {
     }])
 }
 
-/// So often a message of 2,046 zeros is posted to a boat, which then reports that it has all that was posted to it.
+/// So often a message of 2,046 zeros is posted to a boat, which then reports, with no level, that it has all that was posted to it.
 pub fn fill(s: &mut Station, rest: u32, level: f32, time: f64) -> Lines {
     let slot = (rest >> 4) as u8;
     let frame = 0xa000_800c | u32::from(slot & 63) << 8;
-    let report = 0xc003_001e | u32::from(slot) << 8;
+    let report = 0xc003_003f | u32::from(slot) << 8;
     let words = [0x8060_0000, frame, 0xb000_0000, report, 0xc000_0000, 0xc000_0000, 0xc0ff_ffff];
     for _ in 0..rest >> 12 {
         s.post(slot, &[0; 2046])?;

@@ -5,19 +5,16 @@ use Rattle.driver.proofs.command.fill.Statement.{statement}
 use Rattle.driver.proofs.command.fill.Tie as tie
 
 abbrev Inv-loop : tie.InvT-loop
-Inv-loop w lent₀ queue₀ out₀ rest slot zeros report k u₀ left₀ lent queue out u left = Unit
+Inv-loop w queue₀ rest slot zeros u₀ left₀ queue u left = Unit
 
 abbrev μ-loop : tie.MeasureT-loop
-μ-loop w lent₀ queue₀ out₀ rest slot zeros report k u₀ left₀ lent queue out u left = left
+μ-loop w queue₀ rest slot zeros u₀ left₀ queue u left = left
 
 rest-of-requires : tie.Need-rest-of-requires Inv-loop μ-loop
 rest-of-requires c κs = search needs
 
 cast-slot : tie.Need-cast-slot Inv-loop μ-loop
 cast-slot c = omega arith
-
-reported-all-requires : tie.Need-reported-all-requires Inv-loop μ-loop
-reported-all-requires c κs = search needs
 
 loop-holds : tie.Need-loop-holds Inv-loop μ-loop
 loop-holds c = tt
@@ -31,8 +28,8 @@ is-refused-requires c κs = search needs
 returns : tie.Need-returns Inv-loop μ-loop
 returns c = tt
 
-receive-all-requires : tie.Need-receive-all-requires Inv-loop μ-loop
-receive-all-requires c κs = search needs
+reported-requires : tie.Need-reported-requires Inv-loop μ-loop
+reported-requires c κs = search needs
 
 sub-left : tie.Need-sub-left Inv-loop μ-loop
 sub-left c = omega arith
@@ -54,12 +51,11 @@ fill-spec =
     μ-loop
     rest-of-requires
     cast-slot
-    reported-all-requires
     loop-holds
     posted-of-requires
     is-refused-requires
     returns
-    receive-all-requires
+    reported-requires
     sub-left
     loop-less
     loop-again
