@@ -38,14 +38,14 @@ use Rattle.promise.specs.Promise.{lentTo, ofBurst, Call, admission, reception, 
 use Rattle.promise.proofs.Outcomes.{refusedBy, receive-cases}
 use Rattle.promise.proofs.Signs.{sign-member}
 use Rattle.promise.proofs.Walk.{posted, signsOff, chain-keeps}
-use Rattle.promise.proofs.WalkNext.{next-walk}
+use Rattle.promise.proofs.Spoken.{next-walk}
 use Rattle.promise.proofs.WalkCalls.{all, post-member, started-is}
 use Rattle.laws.specs.Directed.{Desk, opened, toldBy, alsoPosted, emptiedAt, deskBy, deskAfter, QueueLent, QueuesLent, DownFrames, StillKept, WordHolds, Directed}
 use Rattle.laws.proofs.VacantQueue.{Unposted, change-unposted, sign-parts, runs-unposted}
 use Rattle.laws.proofs.DirectedBytes.{Holds, holds-none, holds-posted, holds-other, Kept}
 use Rattle.laws.proofs.DirectedWords.{down-none, down-other}
-use Rattle.laws.proofs.DirectedNext.{fine-next}
-use Rattle.laws.proofs.DirectedRx.{Sound, Alike, sound-alike, sound-admit, rx-sound, rx-other, admit-other}
+use Rattle.laws.proofs.DirectedNext.{Alike, fine-next}
+use Rattle.laws.proofs.DirectedRx.{Sound, sound-alike, sound-admit, rx-sound, rx-other, admit-other}
 
 -- at every desk: what is kept, and nothing is posted where there is no slot
 record Good (queue : List ℕ) (bytes : ℕ → List ℕ) (told : ℕ → ℕ) (s : Station) : Type 0 where

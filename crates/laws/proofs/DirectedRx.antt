@@ -13,19 +13,14 @@ use lib.Seq.{getD-set-same, getD-set-other}
 use borrow.Author.Tests.{eqb-true, ne-eqb, eq-eqb}
 use Rattle.bits.specs.Mask.{hasBit}
 use Rattle.bits.proofs.Lists.{cond-keeps, cond-true, cond-false, never-both, eq-or-not}
-use Rattle.level.specs.declared.Clock.the-variants.{Never}
-use Rattle.wire.specs.Kinds.{tiny, kIdle, kPollack, kAck, tUp, tCtrl, cCheckin, cReport, cOverheard, cKids}
+use Rattle.wire.specs.Kinds.{tiny, kIdle, tUp, tCtrl, cCheckin, cReport, cOverheard, cKids}
 use Rattle.words.specs.declared.Head.{Head}
 use Rattle.words.specs.Words.{Heard, lost, heard, Burst, parsed}
-use Rattle.out.specs.Encode.{eventWord, missedWord, messageWord}
 use Rattle.queue.specs.declared.Queue.{Queue}
 use Rattle.queue.specs.Queues.{emptyQueue, mostOf, reportedTo}
 use Rattle.net.specs.declared.Station.{Station}
-use Rattle.net.specs.declared.Reply.{Reply}
-use Rattle.net.specs.declared.Turn.{Turn}
-use Rattle.net.specs.declared.Turn.the-variants.{Idle, Sending, Waiting}
-use Rattle.net.specs.State.{indexOf, queueAt, tableOf, memberAt, withWait, oneReply}
-use Rattle.net.specs.Net.{isMember, waitOf, idleWait, Said, said}
+use Rattle.net.specs.State.{indexOf, queueAt, tableOf, memberAt, withWait}
+use Rattle.net.specs.Net.{isMember, Said, said}
 use Rattle.net.proofs.Laws.{index-lt, index-is, member-lt}
 use Rattle.admit.specs.declared.Seat.{Seat}
 use Rattle.admit.specs.declared.Seat.the-variants.{Known, Free, Full}
@@ -37,51 +32,32 @@ use Rattle.frames.specs.Reading.{Reading}
 use Rattle.frames.specs.Pieces.{isRelayed, relayIf, trafficIf, pieceFrame}
 use Rattle.frames.specs.Control.{callAt, checkinFrame, u24, reportFrame, relayOf, overheardBy, overheardEntry, overheardFrame, isKid, kidEntry, kidsFrame}
 use Rattle.frames.specs.Frames.{controlBy, readFrame, frameStep, readFrames}
-use Rattle.rx.specs.Ending.{Ended, nothingMore, turnOverIn, idleHeard, idleBy, idleEnd, replyHeard, answerBy, goesOn, isReply, replyBy, replyEnd, busyWait}
+use Rattle.rx.specs.Ending.{Ended, nothingMore, idleEnd, replyEnd, busyWait}
 use Rattle.rx.specs.Reception.{airOf, firstReading, tinyBurst, fullBurst, ncsRx}
 use Rattle.promise.specs.Promise.{framesBy}
 use Rattle.promise.proofs.Walk.{reports, entered, queued}
 use Rattle.promise.proofs.WalkNext.{index-member}
 use Rattle.promise.proofs.WalkCalls.{all}
 use Rattle.promise.proofs.WalkRx.{each-keeps}
-use Rattle.promise.proofs.WalkWords.{Words, admit-words, frames-words}
+use Rattle.promise.proofs.WalkWords.{admit-events}
+use Rattle.promise.proofs.QuietWalk.{uncelled}
+use Rattle.promise.proofs.Spoken.{idle-spoken, reply-spoken, rx-spoken}
 use Rattle.promise.proofs.Receptions.{get-last, step-seen, seen-stays}
 use Rattle.laws.specs.Directed.{isReport, alsoTold, toldBy}
 use Rattle.laws.proofs.VacantQueue.{Unposted, change-unposted}
 use Rattle.laws.proofs.DirectedBytes.{Holds, holds-reported, Kept, kept-empty, kept-same}
-use Rattle.laws.proofs.DirectedWords.{Other, other-both, other-low, other-tiny}
+use Rattle.laws.proofs.DirectedWords.{Other, events-other}
+use Rattle.laws.proofs.DirectedNext.{Alike, spoken-other, spoken-alike}
 
 -- what is kept, and nothing posted where there is no boat
 pub record Sound (queue : List ℕ) (posted : ℕ → List ℕ) (told : ℕ → ℕ) (s : Station) : Type 0 where
   pub free : Unposted (s .used) (s .queues)
   pub kept : Kept queue posted told (s .queues)
 
--- the words of events
-others : Words Other
-others =
-    record {
-      none = Other.none;
-      both = λ a b h k. other-both h k;
-      event = λ kind slot relay l n. other-low (eventWord kind slot relay) (omega arith);
-      missed = λ slot. other-low (missedWord slot) (omega arith);
-    }
-
 pub admit-other : (seat : Seat) (s : Station) (call : List ℕ) (v : ℕ) (now : Float) → Other (admitBy seat s call v now .words)
-admit-other seat s call v now = admit-words Other others seat s call v now
+admit-other seat s call v now = events-other (admit-events ⊥ seat s call v now)
 
 -- ---- what leaves members and queues alone
-
-abbrev pub Alike : Station → Station → Type 0
-Alike s t = (t .used ≡ s .used) × (t .queues ≡ s .queues)
-
-over-alike : (s : Station) (slot source : ℕ) → Alike s (turnOverIn s slot source)
-over-alike s slot source = cond-keeps (Alike s) (isMember (s .used) source) _ s (λ _. (refl, refl)) (λ _. (refl, refl))
-
-idle-heard : (a : Air) (extra : ℕ) (s : Station) → Alike s (idleHeard a extra s)
-idle-heard a extra s = cond-keeps (Alike s) (isMember (s .used) (extra % 64)) _ s (λ _. (refl, refl)) (λ _. (refl, refl))
-
-reply-heard : (a : Air) (slot burst : ℕ) (s : Station) → Alike s (replyHeard a slot burst s)
-reply-heard a slot burst s = cond-keeps (Alike s) (isMember (s .used) slot) _ s (λ _. (refl, refl)) (λ _. (refl, refl))
 
 relay-alike : (b : Bool) (s t : Station) → Alike s t → Alike s (relayIf b t)
 relay-alike true s t h = h
@@ -319,65 +295,20 @@ module _ (queue : List ℕ) (posted : ℕ → List ℕ) where
         sound-frames fs y (n + 1) (alsoTold f (getD w n 0) told) m
         (subst (λ (v : ℕ). In (alsoTold f v told) (y .station)) (sym u) (sound-frame f x told k))
 
-    -- ---- the end of a reception
-
-    abbrev Ends : Station → Ended → Type 0
-    Ends s e = Alike s (e .station) × Other (e .burst)
-
-    alike-then : (s t u : Station) → Alike s t → Alike t u → Alike s u
-    alike-then s t u e f = (f .0 ∙ e .0, f .1 ∙ e .1)
-
-    ends-none : (s : Station) → Ends s (nothingMore s)
-    ends-none s = ((refl, refl), Other.none)
-
-    ends-idle-by : (y : Turn) (slot : ℕ) (s t : Station) → Alike s t → Ends s (idleBy y slot t)
-    ends-idle-by Idle slot s t h = (h, Other.none)
-    ends-idle-by Sending slot s t h = (h, Other.none)
-    ends-idle-by (Waiting r) slot s t h =
-        let v = oneReply (withWait t idleWait) in
-        cond-keeps (Ends s) (eqb (r .slot) slot) _ _ (λ _. (alike-then s v (turnOverIn v slot (r .relayfor)) h (over-alike v slot (r .relayfor)), Other.none)) (λ _. (h, Other.none))
-
-    ends-idle : (extra : ℕ) (s : Station) → Ends s (idleEnd a extra s)
-    unfolding idleEnd
-    ends-idle extra s = ends-idle-by (s .wait .turn) (extra % 64) s (idleHeard a extra s) (idle-heard a extra s)
-
-    ends-answer : (b : Bool) (r : Reply) (burst frames : ℕ) (s t : Station) → Alike s t → Ends s (answerBy b r burst frames t)
-    ends-answer true r burst frames s t h = (h, other-tiny kPollack _ _)
-    ends-answer false r burst frames s t h =
-        let v = withWait t (waitOf Sending Never) in
-        (alike-then s v (turnOverIn v (r .slot) (r .relayfor)) h (over-alike v (r .slot) (r .relayfor)), other-tiny kAck _ _)
-
-    ends-reply-by : (y : Turn) (h : Head) (x : Reading) → Ends (x .station) (replyBy y a h x)
-    ends-reply-by Idle h x = ends-none (x .station)
-    ends-reply-by Sending h x = ends-none (x .station)
-    ends-reply-by (Waiting r) h x =
-        let t = replyHeard a (r .slot) (h .hi % 4) (oneReply (x .station)) in
-        cond-keeps (Ends (x .station)) (isReply h (x .sender) r) _ _
-        (λ _. ends-answer (goesOn h (x .more) r) r (h .hi % 4) (x .heard) (x .station) t (reply-heard a (r .slot) (h .hi % 4) (oneReply (x .station)))) (λ _. ends-none (x .station))
-
-    ends-reply : (h : Head) (x : Reading) → Ends (x .station) (replyEnd a h x)
-    unfolding replyEnd
-    ends-reply h x = ends-reply-by (x .station .wait .turn) h x
-
     -- ---- a reception
 
-    ends-tiny : (h : Head) (x : Reading) → Ends (x .station) (cond (eqb (h .hi) kIdle) (idleEnd a (h .extra) (x .station)) (nothingMore (x .station)))
-    ends-tiny h x = cond-keeps (Ends (x .station)) (eqb (h .hi) kIdle) _ _ (λ _. ends-idle (h .extra) (x .station)) (λ _. ends-none (x .station))
+    tiny-alike : (h : Head) (s : Station) → Alike s (cond (eqb (h .hi) kIdle) (idleEnd a (h .extra) s) (nothingMore s) .station)
+    tiny-alike h s =
+        cond-keeps (λ (e : Ended). Alike s (e .station)) (eqb (h .hi) kIdle) _ _ (λ _. spoken-alike (idle-spoken uncelled tt (a .time) [] 0 a tt (h .extra) s)) (λ _. (refl, refl))
 
     rx-by : {told : ℕ → ℕ} (t : Bool) (b : Burst) (x : Reading) → length (x .seen) ≡ 0 → In told (x .station)
         → In (toldBy (cond t [] (b .frames)) 0 (cond t (tinyBurst a (b .head) x) (fullBurst a (b .head) (readFrames a (b .frames) x)) .seen) told)
         (cond t (tinyBurst a (b .head) x) (fullBurst a (b .head) (readFrames a (b .frames) x)) .station)
     unfolding toldBy
-    rx-by true b x e k = sound-alike (x .station) (tinyBurst a (b .head) x .station) (ends-tiny (b .head) x .0) k
+    rx-by true b x e k = sound-alike (x .station) (tinyBurst a (b .head) x .station) (tiny-alike (b .head) (x .station)) k
     rx-by {told} false b x e k =
         let y = readFrames a (b .frames) x in
-        sound-alike (y .station) (replyEnd a (b .head) y .station) (ends-reply (b .head) y .0) (sound-frames (b .frames) x 0 told e k)
-
-    rx-words : (t : Bool) (b : Burst) (x : Reading) → Other (x .words) → Other (cond t (tinyBurst a (b .head) x) (fullBurst a (b .head) (readFrames a (b .frames) x)) .words)
-    rx-words true b x o = other-both o (ends-tiny (b .head) x .1)
-    rx-words false b x o =
-        let y = readFrames a (b .frames) x in
-        other-both (frames-words Other others a (λ slot cell number. other-low (messageWord slot cell number) (omega arith)) (b .frames) x o) (ends-reply (b .head) y .1)
+        sound-alike (y .station) (replyEnd a (b .head) y .station) (spoken-alike (reply-spoken uncelled tt (a .time) [] 0 a tt (b .head) y)) (sound-frames (b .frames) x 0 told e k)
 
   pub rx-sound : {told : ℕ → ℕ} (s : Station) (b : Burst) (snr now : Float) (store : List ℕ) → In told s
       → In (toldBy (framesBy (parsed b)) 0 (ncsRx s b snr now store .seen) told) (ncsRx s b snr now store .station)
@@ -387,7 +318,4 @@ module _ (queue : List ℕ) (posted : ℕ → List ℕ) where
       rx-by (airOf s (b .head) snr now) (eqb (b .head .code) tiny) b (firstReading t store) refl (record { free = k .free; kept = k .kept })
 
   pub rx-other : (s : Station) (b : Burst) (snr now : Float) (store : List ℕ) → Other (ncsRx s b snr now store .words)
-  unfolding ncsRx
-  rx-other s b snr now store =
-      let t = withWait s (busyWait (s .wait) (b .head) (s .settings) now) in
-      rx-words (airOf s (b .head) snr now) (eqb (b .head .code) tiny) b (firstReading t store) Other.none
+  rx-other s b snr now store = spoken-other (rx-spoken all tt now [] tt s b snr store tt)

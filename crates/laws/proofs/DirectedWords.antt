@@ -22,6 +22,7 @@ use Rattle.queue.proofs.Laws.{length-bytes}
 use Rattle.bursts.specs.Bursts.{headWords, tinyWords}
 use Rattle.bursts.specs.Direct.{downFrame, downFrames}
 use Rattle.bursts.proofs.Directing.{least-le, least-fst}
+use Rattle.promise.proofs.WalkWords.{Events}
 use Rattle.laws.specs.Directed.{beginsDown, Carries, DownFrames}
 
 -- ---- words that begin no frame of word back
@@ -40,8 +41,9 @@ pub other-both : {a b : List ℕ} → Other a → Other b → Other (a ++ b)
 other-both Other.none k = k
 other-both (Other.more e h) k = Other.more e (other-both h k)
 
-pub other-low : (w : ℕ) → w < 2684354560 → Other (w ∷ [])
-other-low w h = Other.more (below-frame w h) Other.none
+pub events-other : {M : Type 0} {n : ℕ} {ws : List ℕ} → Events M n ws → Other ws
+events-other Events.none = Other.none
+events-other (Events.more {w} l m h e) = Other.more (below-frame w (omega arith)) (events-other e)
 
 other-pack : (l : List ℕ) → Other (pack l)
 unfolding pack

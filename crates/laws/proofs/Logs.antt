@@ -31,7 +31,9 @@ use Rattle.promise.proofs.TurnsLists.{list-once}
 use Rattle.promise.proofs.Turns.{start-is, followed}
 use Rattle.laws.proofs.LogsWords.{Good, good-none, good-mark, Agree}
 use Rattle.laws.proofs.LogsRows.{Sendable}
-use Rattle.laws.proofs.LogsCalls.{Spoken, Reports, reports}
+use Rattle.laws.proofs.LogsCalls.{Logged, reports}
+use Rattle.promise.proofs.WalkRoster.{settings-stay}
+use Rattle.promise.proofs.WalkCalls.{all, step-walk}
 use Rattle.promise.proofs.CallEvents.{overOf, drewOf, behindOf, events-are}
 
 -- ---- the check beside the monitor
@@ -198,7 +200,7 @@ record Sound (ws : List ℕ) (k : List TurnEvent) : Type 0 where
   marks : marksFrom 0 ws ≡ true
   goes : Goes (entriesFrom 0 ws) k
 
-sound-burst : {ws : List ℕ} {o : Option ℕ} (v : List ℕ) (k : List TurnEvent) → Spoken ws o → Sound v k → Sound (sentIn ws ++ v) ((burstsIn ws ++ overIf o) ++ k)
+sound-burst : {ws : List ℕ} {o : Option ℕ} (v : List ℕ) (k : List TurnEvent) → Logged ws o → Sound v k → Sound (sentIn ws ++ v) ((burstsIn ws ++ overIf o) ++ k)
 sound-burst {ws} {o} v k s f =
     let b = s .ok in
     let e : sentIn ws ≡ s .burst = ap sentIn (s .words) ∙ sent-append (s .events) (s .burst) ∙ ap (λ (l : List ℕ). l ++ sentIn (s .burst)) (s .mute .1) ∙ b .sent in
@@ -240,7 +242,7 @@ marks-drew : (o : Option ℕ) → marksIn (drewIf o) ≡ markIf o
 marks-drew none = refl
 marks-drew (some m) = append-nil (markWords (slotsOf m 62 0))
 
-sound-by : (b : Bool) (r d o : Option ℕ) (ws v : List ℕ) (k : List TurnEvent) → Spoken ws o → Sound v k
+sound-by : (b : Bool) (r d o : Option ℕ) (ws v : List ℕ) (k : List TurnEvent) → Logged ws o → Sound v k
     → Sound (cond b [] (markIf d ++ sentIn ws) ++ v) (cond b [] ((overIf r ++ drewIf d) ++ (burstsIn ws ++ overIf o)) ++ k)
 sound-by true r d o ws v k s f = f
 sound-by false r d o ws v k s f =
@@ -248,7 +250,7 @@ sound-by false r d o ws v k s f =
     (sound-before r (markIf d ++ (sentIn ws ++ v)) (drewIf d ++ ((burstsIn ws ++ overIf o) ++ k))
     (sound-mark d (sentIn ws ++ v) ((burstsIn ws ++ overIf o) ++ k) (sound-burst v k s f)))
 
-sound-call : (c : Call) (n : Net) (v : List ℕ) (k : List TurnEvent) → ((slot : ℕ) → c ≡ signing slot → ⊥) → Reports (n .station) (outcome c n) (behindOf c n) → Sound v k → Sound (logOf c n ++ v) (turnEvents c n ++ k)
+sound-call : (c : Call) (n : Net) (v : List ℕ) (k : List TurnEvent) → ((slot : ℕ) → c ≡ signing slot → ⊥) → Logged (outcome c n .words) (behindOf c n) → Sound v k → Sound (logOf c n ++ v) (turnEvents c n ++ k)
 unfolding logOf turnEvents
 sound-call c n v k z s f =
     let e = events-are c n z in
@@ -257,7 +259,7 @@ sound-call c n v k z s f =
     subst (λ (l : List ℕ). Sound (cond (isRefused c n) [] (l ++ sentIn ws) ++ v) (cond (isRefused c n) [] (result c n .before ++ (burstsIn ws ++ result c n .behind)) ++ k)) (sym m)
     (subst (λ (l : List TurnEvent). Sound (cond (isRefused c n) [] (markIf (drewOf c n) ++ sentIn ws) ++ v) (cond (isRefused c n) [] (l ++ (burstsIn ws ++ result c n .behind)) ++ k)) (sym (e .0))
     (subst (λ (l : List TurnEvent). Sound (cond (isRefused c n) [] (markIf (drewOf c n) ++ sentIn ws) ++ v) (cond (isRefused c n) [] ((overIf (overOf c n) ++ drewIf (drewOf c n)) ++ (burstsIn ws ++ l)) ++ k)) (sym (e .1))
-    (sound-by (isRefused c n) (overOf c n) (drewOf c n) (behindOf c n) ws v k (s .spoken) f)))
+    (sound-by (isRefused c n) (overOf c n) (drewOf c n) (behindOf c n) ws v k s f)))
 
 -- ---- every list of calls
 
@@ -269,8 +271,8 @@ sound : (cs : List Call) (n : Net) → NoSignOff cs → Sendable (n .station .se
 unfolding logFrom trace after step
 sound [] n z o l = sound-none
 sound (c ∷ cs) n z o l =
-    let r = reports c n (z .0) o (l (c ∷ [])) in
-    sound-call c n (logFrom cs (step c n)) (trace cs (step c n)) (z .0) r (sound cs (step c n) (z .1) (subst Sendable (sym (r .settings)) o) (λ ds. l (c ∷ ds)))
+    let e = settings-stay (step-walk all tt tt tt c n (λ words snr now lent room numbers q. tt)) in
+    sound-call c n (logFrom cs (step c n)) (trace cs (step c n)) (z .0) (reports c n (z .0) o (l (c ∷ []))) (sound cs (step c n) (z .1) (subst Sendable (sym e) o) (λ ds. l (c ∷ ds)))
 
 new-settings : (g : Settings) (count : ℕ) → newStation g count .settings ≡ g
 unfolding newStation

@@ -5,6 +5,7 @@ pub mod WalkNext
 pub mod WalkRoster
 pub mod WalkRx
 pub mod WalkWords
+pub mod Spoken
 pub mod WalkCalls
 pub mod Trees
 pub mod Rosters
@@ -15,8 +16,7 @@ pub mod Monitor
 pub mod TurnsWords
 pub mod TurnsLists
 pub mod TurnsKeeps
-pub mod TurnsNext
-pub mod TurnsRx
+pub mod TurnsSpoken
 pub mod Turns
 pub mod TurnsRun
 pub mod Ledgers

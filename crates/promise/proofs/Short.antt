@@ -2,41 +2,27 @@
 use mathlib.Core.Path.{_≡_, refl, _∙_}
 use Prim.Native.Nat.{ℕ, zero, suc, _+_, _-_, _*_, _/_, _%_, _≤_}
 use native.Mathlib.Omega.{arith}
-use mathlib.Core.Bool.{Bool, true, false, not, cond, _&&_, _||_}
+use mathlib.Core.Bool.{Bool, true, false, cond}
 use mathlib.Core.List.{List, [], _∷_, _++_}
-use lib.Dec.{eqb, ltb}
-use lib.Ieee.{Float, lt}
+use lib.Dec.{ltb}
+use lib.Ieee.{Float}
 use lib.ListN.{length, take, drop, getD, length-append, length-drop}
-use Rattle.bits.specs.Loop.{fold}
 use Rattle.bits.proofs.Lists.{cond-keeps}
-use Rattle.bits.specs.Mask.{hasBit, lowestBit}
-use Rattle.bits.specs.declared.Found.{Found}
-use Rattle.bits.specs.declared.Found.the-variants as found
-use Rattle.level.specs.declared.Level.{Level}
-use Rattle.level.specs.declared.Level.the-variants.{Unheard, Decibels}
-use Rattle.wire.specs.Kinds.{tDown, kClose, cAcks, cTree, cRxlist}
-use Rattle.out.specs.Encode.{eventWord, missedWord, headWord, waveWord, word12, pack, frameWords, ctrlWords, chunksOf, chunkSize, chunkWords}
+use Rattle.wire.specs.Kinds.{tDown, kClose, kAck, kPollack, cAcks, cTree, cRxlist}
+use Rattle.out.specs.Encode.{headWord, waveWord, word12, pack, frameWords, ctrlWords, chunksOf, chunkSize, chunkWords}
 use Rattle.out.proofs.Pack.{length-pack, length-take-most}
 use Rattle.roster.specs.declared.Member.{Member}
-use Rattle.roster.specs.Relays.{promotableAt}
 use Rattle.net.specs.declared.Station.{Station}
 use Rattle.net.specs.declared.Settings.{Settings}
-use Rattle.net.specs.declared.Reply.{Reply}
-use Rattle.net.specs.State.{memberAt, withWait, withRound, withRxsent, queueAt}
-use Rattle.net.specs.Net.{isMember, idleWait, Said, said}
+use Rattle.net.specs.State.{memberAt, queueAt}
+use Rattle.net.specs.Net.{isMember, Said}
 use Rattle.admit.specs.declared.Seat.{Seat}
-use Rattle.admit.specs.declared.Seat.the-variants.{Known, Free, Full}
 use Rattle.admit.specs.Admission.{admitBy}
-use Rattle.bursts.specs.Rows.{seated, ackAt, ackRow, ackRows, treeAt, treeRow, treeRows, listAt, listRow, listRows, leastReach, leastDirect, reachLevel}
-use Rattle.bursts.specs.Bursts.{headWords, tinyWords, pollBurst, acked, movedIn, ackedOrMoved, acksBurst, namePayload, beaconPayload, beaconRows, beaconAcks, beaconOf, listSent, rxListBurst, acksLevel}
-use Rattle.bursts.specs.Reroute.{floorOf, promoteWith, promoteAt, promoteAll, leavesOf, newRelay, mustMove, moveAt, moveAll, rerouteOf}
+use Rattle.bursts.specs.Rows.{ackAt, ackRow, ackRows, treeAt, treeRow, treeRows, listAt, listRow, listRows, leastDirect, reachLevel}
+use Rattle.bursts.specs.Bursts.{headWords, tinyWords, pollBurst, acked, movedIn, ackedOrMoved, acksBurst, namePayload, beaconPayload, beaconRows, beaconAcks, beaconOf, listWords, acksLevel}
 use Rattle.bursts.proofs.Filling.{rows-most}
 use Rattle.bursts.proofs.Waiting.{beacon-most}
-use Rattle.next.specs.declared.Due.{Due}
-use Rattle.next.specs.declared.Due.the-variants as due
-use Rattle.next.specs.declared.Act.{Act}
-use Rattle.next.specs.declared.Act.the-variants as act
-use Rattle.next.specs.Next.{Decision, pollBy, directedBy, wordBy, pollStage, drawn, drawStage, rerouteStage, listStage, roundEnd, hurried, actOf, actBy, windowStage, closeStage, againStage, turnOverIn, missedIn, missedStage, dueOf, byDue, ncsNext}
+use Rattle.next.specs.Next.{ncsNext}
 use Rattle.promise.specs.Promise.{eventsIn}
 use Rattle.promise.proofs.Events.{events-none, event-other, append-quiet}
 use Rattle.words.specs.Words.{least}
@@ -45,6 +31,10 @@ use Rattle.queue.specs.Queues.{firstOf, bytesFrom}
 use Rattle.queue.proofs.Laws.{length-bytes}
 use Rattle.bursts.specs.Direct.{roomAt, payloadAt, downFrames, downBurst, directBurst}
 use Rattle.bursts.proofs.Directing.{least-le, least-fst}
+use mathlib.Core.Option.{Option}
+use Rattle.promise.proofs.WalkWords.{Events, admit-events}
+use Rattle.promise.proofs.Spoken.{Sends, Spoken, next-spoken}
+use Rattle.promise.proofs.QuietWalk.{uncelled}
 
 -- n words at most, and no event 2 among them
 pub record Short (n : ℕ) (ws : List ℕ) : Type 0 where
@@ -136,16 +126,10 @@ short-beacon s now =
     short-burst 0 0 0 (s .settings .beaconlevel) (ctrlWords p ++ chunkWords cAcks 18 (beaconRows s))
     (short-less (omega arith) (short-both (short-ctrl p (payload-most (s .settings) (beaconAcks s))) (short-rows cAcks 18 42 (beaconRows s) (omega arith) (omega (arith, beacon-most s)))))
 
-abbrev ShortSaid : ℕ → Said → Type 0
-ShortSaid n x = Short n (x .words)
-
-short-list : (s : Station) → Short burstRoom (rxListBurst s .words)
-unfolding rxListBurst
+short-list : (s : Station) → Short burstRoom (listWords s)
 short-list s =
-    cond-keeps (ShortSaid burstRoom) (listSent s) _ _
-    (λ _. short-burst 0 0 0 (leastDirect s) (chunkWords cRxlist 21 (listRows s))
-    (short-less (omega arith) (short-rows cRxlist 21 9 (listRows s) (omega arith) (omega (arith, rows-most (listAt s) (listRow s) 3 (λ i. refl) [])))))
-    (λ _. short-none burstRoom)
+    short-burst 0 0 0 (leastDirect s) (chunkWords cRxlist 21 (listRows s))
+    (short-less (omega arith) (short-rows cRxlist 21 9 (listRows s) (omega arith) (omega (arith, rows-most (listAt s) (listRow s) 3 (λ i. refl) []))))
 
 -- word back: 64 frames at most of 255 bytes each
 short-downs : (k : ℕ) (queue : List ℕ) (slot max last o : ℕ) → max ≤ 255 → Short (k * 87) (downFrames k queue slot max last o)
@@ -166,131 +150,40 @@ short-down g queue slot q level =
     (short-less (omega (arith, least-le (getD (g .rooms) level 0) 64))
     (short-downs (roomAt g level) queue slot (payloadAt g level) (q .posted) (firstOf q) (least-le (getD (g .payloads) level 0) 255)))
 
--- ---- events
+-- ---- what is said
 
-short-one : (w : ℕ) → (w / 268435456 ≡ 2 → ⊥) → Short 1 (w ∷ [])
-short-one w h = short-word w h (short-none 0)
+pub short-events : {n : ℕ} {ws : List ℕ} → Events ⊥ n ws → Short n ws
+short-events {n} Events.none = short-none n
+short-events (Events.more {w} l m h e) = short-less (omega arith) (short-word w m (short-events e))
 
--- two at most
 pub short-admit : (seat : Seat) (s : Station) (call : List ℕ) (via : ℕ) (now : Float) → Short 2 (admitBy seat s call via now .words)
-short-admit (Known i) s call via now = short-none 2
-short-admit (Free i) s call via now =
-    let e = short-one (eventWord 1 i via) (λ e. omega arith) in
-    short-if (eqb via 63) (short-less (omega arith) e) (short-word (eventWord 4 i via) (λ e. omega arith) e)
-short-admit Full s call via now = short-none 2
+short-admit seat s call via now = short-events (admit-events ⊥ seat s call via now)
 
--- a fold of which each step adds one at most
-short-fold : (f : ℕ → Said → Said) → ((i n : ℕ) (x : Said) → ShortSaid n x → ShortSaid (n + 1) (f i x))
-    → (k i n : ℕ) (x : Said) → ShortSaid n x → ShortSaid (n + k) (fold f k i x)
-unfolding fold
-short-fold f h zero i n x s = short-less (omega arith) s
-short-fold f h (suc k) i n x s = short-less (omega arith) (short-fold f h k (suc i) (n + 1) (f i x) (h i n x s))
-
-promote-with : (l : Level) (i n : ℕ) (x : Said) → ShortSaid n x → ShortSaid (n + 1) (promoteWith l i x)
-promote-with Unheard i n x s = short-less (omega arith) s
-promote-with (Decibels snr) i n x s = short-both s (short-one (eventWord 5 i 63) (λ e. omega arith))
-
-short-promote : (floor : Float) (i n : ℕ) (x : Said) → ShortSaid n x → ShortSaid (n + 1) (promoteAt floor i x)
-unfolding promoteAt
-short-promote floor i n x s = promote-with (promotableAt (hasBit (x .station .used) i) (seated (x .station) i) floor) i n x s
-
-short-move : (leaves c n : ℕ) (x : Said) → ShortSaid n x → ShortSaid (n + 1) (moveAt leaves c x)
-unfolding moveAt
-short-move leaves c n x s =
-    let r = newRelay (x .station) c in
-    cond-keeps (ShortSaid (n + 1)) (mustMove leaves (x .station) c) _ x
-    (λ _. cond-keeps (ShortSaid (n + 1)) (eqb r 63) x _ (λ _. short-less (omega arith) s) (λ _. short-both s (short-one (eventWord 5 c r) (λ e. omega arith))))
-    (λ _. short-less (omega arith) s)
-
--- 62 promotions and 62 reroutings at most
-short-reroute : (s : Station) → Short 124 (rerouteOf s .words)
-unfolding rerouteOf moveAll promoteAll
-short-reroute s =
-    short-fold (moveAt (leavesOf (promoteAll s .station))) (short-move (leavesOf (promoteAll s .station))) 62 0 62 (promoteAll s)
-    (short-fold (promoteAt (floorOf s)) (short-promote (floorOf s)) 62 0 0 (said s []) (short-none 0))
-
--- ---- the next decision: event 3, reroutings, a burst
-
-abbrev pub routeRoom : ℕ
-routeRoom = 124 + burstRoom
-
-abbrev pub nextRoom : ℕ
-nextRoom = 1 + routeRoom
-
-abbrev ShortNext : ℕ → Decision → Type 0
-ShortNext n d = Short n (d .words)
-
-poll-by : (f : Found) (s : Station) → ShortNext burstRoom (pollBy f s)
-poll-by found.Nothing s = short-none burstRoom
-poll-by (found.At slot) s = short-poll (s .settings) (isMember (s .used) slot) (memberAt s slot) slot _ false
-
-module _ (queue : List ℕ) where
-  word-by : (f : Found) (s : Station) → ShortNext burstRoom (wordBy f s queue)
+module _ {F : Type 0} {now : Float} {lent : List ℕ} where
+  short-sends : {s : Station} {x : Said} {o : Option ℕ} → Sends F now lent s x o → Short burstRoom (x .words)
   unfolding directBurst
-  word-by found.Nothing s = poll-by (lowestBit (s .round .list)) s
-  word-by (found.At slot) s = short-down (s .settings) queue slot (queueAt s slot) (reachLevel s slot)
+  short-sends Sends.nothing = short-none burstRoom
+  short-sends {s} Sends.closing = short-tiny kClose 0 (s .settings .beaconlevel)
+  short-sends {s} (Sends.again r e z) = short-poll (s .settings) (isMember (s .used) (r .slot)) (memberAt s (r .slot)) (r .slot) (r .relayfor) true
+  short-sends {s} (Sends.beacon f e) = short-beacon s now
+  short-sends {s} (Sends.acks f e) = short-acks s
+  short-sends {s} (Sends.list f e) = short-list s
+  short-sends {s} (Sends.word f e slot here) = short-down (s .settings) lent slot (queueAt s slot) (reachLevel s slot)
+  short-sends {s} (Sends.poll e slot h) = short-poll (s .settings) (isMember (s .used) slot) (memberAt s slot) slot _ false
+  short-sends (Sends.pollack r n heard e l) = short-tiny kPollack _ _
+  short-sends (Sends.ack r n heard e) = short-tiny kAck _ _
+  short-sends (Sends.idle r e) = short-none burstRoom
 
-  poll-stage : (s : Station) → ShortNext burstRoom (pollStage s queue)
-  unfolding pollStage
-  poll-stage s = word-by (directedBy (lowestBit (s .round .list)) s) s
+  -- where no message lands
+  pub short-spoken : {n : ℕ} {s : Station} {x : Said} {l m o : Option ℕ} → Spoken uncelled F now lent n s x l m o → Short (n + burstRoom) (x .words)
+  short-spoken (Spoken.burst b) = short-less (omega arith) (short-sends b)
+  short-spoken (Spoken.events q h e k) = short-less (omega arith) (short-both (short-events e) (short-spoken k))
+  short-spoken (Spoken.draws e z k) = short-spoken k
+  short-spoken (Spoken.late r e h k) = short-spoken k
 
-  draw-stage : (s : Station) (now : Float) → ShortNext burstRoom (drawStage s now queue)
-  unfolding drawStage
-  draw-stage s now = poll-stage (drawn s now)
+-- event 3, 62 promotions and 62 reroutings, a burst
+abbrev pub nextRoom : ℕ
+nextRoom = 125 + burstRoom
 
-  reroute-stage : (s : Station) (now : Float) → ShortNext routeRoom (rerouteStage s now queue)
-  unfolding rerouteStage
-  reroute-stage s now =
-      let u = rerouteOf s .station in
-      cond-keeps (ShortNext routeRoom) (not (s .round .traffic) && ltb 0 (s .round .number) && lt now (s .round .nextround)) _ _
-      (λ _. short-none routeRoom)
-      (λ _. short-both (short-reroute s)
-      (cond-keeps (ShortNext burstRoom) (eqb (u .round .treenews) 0) _ _ (λ _. draw-stage u now) (λ _. short-acks u)))
-
-  list-stage : (s : Station) (now : Float) → ShortNext routeRoom (listStage s now queue)
-  list-stage s now =
-      cond-keeps (ShortNext routeRoom) (listSent s) _ _ (λ _. short-less (omega arith) (short-list s)) (λ _. reroute-stage (rxListBurst s .station) now)
-
-  round-end : (s : Station) (now : Float) → ShortNext routeRoom (roundEnd s now queue)
-  unfolding roundEnd
-  round-end s now =
-      cond-keeps (ShortNext routeRoom) (eqb (s .round .number) 0 || eqb (s .round .rxsent) (s .round .number)) _ _
-      (λ _. reroute-stage s now) (λ _. list-stage (withRound s (withRxsent (s .round) (s .round .number))) now)
-
-  act-by : (a : Act) (s : Station) (now : Float) → ShortNext routeRoom (actBy a s now queue)
-  act-by act.Wait s now = short-none routeRoom
-  act-by act.Beacon s now = short-less (omega arith) (short-beacon s now)
-  act-by act.Acks s now = short-less (omega arith) (short-acks s)
-  act-by act.Draw s now = round-end s now
-  act-by act.Poll s now = short-less (omega arith) (poll-stage s)
-
-  window-stage : (s : Station) (now : Float) → ShortNext routeRoom (windowStage s now queue)
-  unfolding windowStage
-  window-stage s now =
-      let t = hurried s now in
-      cond-keeps (ShortNext routeRoom) (lt now (s .round .windowend)) _ _ (λ _. short-none routeRoom) (λ _. act-by (actOf (t .round) (t .used) now) t now)
-
-  close-stage : (s : Station) (now : Float) → ShortNext burstRoom (closeStage s now)
-  unfolding closeStage
-  close-stage s now = cond-keeps (ShortNext burstRoom) (eqb (s .round .closeleft) 0) _ _ (λ _. short-none burstRoom) (λ _. short-tiny kClose 0 (s .settings .beaconlevel))
-
-  again-stage : (r : Reply) (s : Station) → ShortNext burstRoom (againStage r s)
-  unfolding againStage
-  again-stage r s = short-poll (s .settings) (isMember (s .used) (r .slot)) (memberAt s (r .slot)) (r .slot) (r .relayfor) true
-
-  missed-stage : (r : Reply) (s : Station) (now : Float) → ShortNext nextRoom (missedStage r s now queue)
-  unfolding missedStage
-  missed-stage r s now =
-      short-both (short-if (isMember (s .used) (r .slot)) (short-one (missedWord (r .slot)) (λ e. omega arith)) (short-none 1))
-      (window-stage (turnOverIn (missedIn (withWait s idleWait) (r .slot)) (r .slot) (r .relayfor)) now)
-
-  by-due : (d : Due) (s : Station) (now : Float) → ShortNext nextRoom (byDue d s now queue)
-  by-due due.Free s now = short-less (omega arith) (window-stage s now)
-  by-due due.Quiet s now = short-none nextRoom
-  by-due due.Close s now = short-less (omega arith) (close-stage s now)
-  by-due (due.Again r) s now = short-less (omega arith) (again-stage r s)
-  by-due (due.Missed r) s now = missed-stage r s now
-
-  pub short-next : (s : Station) (now : Float) → Short nextRoom (ncsNext s now queue .words)
-  unfolding ncsNext
-  short-next s now = by-due (dueOf (s .wait) (s .round .closed) now) s now
+pub short-next : (queue : List ℕ) (s : Station) (now : Float) → Short nextRoom (ncsNext s now queue .words)
+short-next queue s now = short-spoken (next-spoken uncelled tt now queue s)

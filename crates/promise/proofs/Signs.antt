@@ -167,18 +167,19 @@ module _ (slot : ℕ) (s : Station) (low : slot < 62) (long : length (s .members
 
 -- what needs no length
 pub record Beside (slot : ℕ) (s r : Station) : Type 0 where
+  pub settings : r .settings ≡ s .settings
   pub wait : r .wait ≡ strikeWait slot (s .wait)
   pub round : r .round ≡ strikeRound slot (s .round)
   pub table : tableOf r ≡ clearAll slot (tableOf s)
 
 pub sign-beside : (s : Station) (slot : ℕ) → Beside slot s (signOff s slot)
 unfolding signOff bereaveAll
-sign-beside s slot = fold-keeps (Beside slot s) (bereaveAt slot) one 62 0 (leave slot (struckOff slot s)) (record { wait = refl; round = refl; table = refl })
+sign-beside s slot = fold-keeps (Beside slot s) (bereaveAt slot) one 62 0 (leave slot (struckOff slot s)) (record { settings = refl; wait = refl; round = refl; table = refl })
   where
     one : (i : ℕ) (r : Station) → Beside slot s r → Beside slot s (bereaveAt slot i r)
     one i r h =
         unfold bereaveAt in
-        cond-keeps (Beside slot s) (hasBit (r .used) i) _ r (λ _. record { wait = h .wait; round = h .round; table = h .table }) (λ _. h)
+        cond-keeps (Beside slot s) (hasBit (r .used) i) _ r (λ _. record { settings = h .settings; wait = h .wait; round = h .round; table = h .table }) (λ _. h)
 
 -- ---- its cells
 

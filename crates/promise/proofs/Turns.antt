@@ -38,8 +38,9 @@ use Rattle.promise.proofs.TurnsWords.{Quiet, quiet-none}
 use Rattle.promise.proofs.TurnsLists.{slotsIn, Low, low-none, low-without, list-none, list-struck}
 use Rattle.promise.proofs.Signs.{sign-beside}
 use Rattle.promise.proofs.TurnsKeeps.{admit-calm}
-use Rattle.promise.proofs.TurnsNext.{Rel, Fine, fine-none, fine-next}
-use Rattle.promise.proofs.TurnsRx as rx
+use Rattle.promise.proofs.Spoken.{next-spoken, rx-spoken}
+use Rattle.promise.proofs.WalkCalls.{all}
+use Rattle.promise.proofs.TurnsSpoken.{Rel, Fine, fine-none, spoken-fine}
 use Rattle.queue.specs.Queues.{postedTo}
 
 -- ### Refused or not
@@ -83,9 +84,6 @@ strike-turn (Waiting p) v slot (turn x n a) q e = rw (same-test slot x (p .slot)
     go true = tt
     go false = cond-keeps (λ (w : Wait). Rel (turn x n a) (w .turn)) (eqb (p .relayfor) slot) (waitOf (Waiting (noSource p)) (v .deadline)) v (λ _. e) (λ _. subst (Rel (turn x n a)) (sym q) e)
 
-regroup : (xs ys zs : List TurnEvent) → xs ++ (ys ++ zs) ≡ (xs ++ ys) ++ (zs ++ [])
-regroup xs ys zs = simp (append-assoc, append-nil)
-
 module _ (r : Run) (n : Net) (e : Rel r (n .station .wait .turn)) (l : Low (n .station .round .list)) where
   abbrev s : Station
   s = n .station
@@ -111,7 +109,7 @@ module _ (r : Run) (n : Net) (e : Rel r (n .station .wait .turn)) (l : Low (n .s
       → Fine left r (unless n s store (receiveBy b s snr now store) .station) (said (unless n s store (receiveBy b s snr now store)) [] (overIf (ofBurst b none (λ b. ncsRx s b snr now store .over))))
   receive-by malformed n snr now store = fine-unless left r n s store (refused 3 s store) [] [] same same
   receive-by (parsed b) n snr now store =
-      fine-unless left r n s store (receiveBy (parsed b) s snr now store) [] (overIf (ncsRx s b snr now store .over)) (rx.fine-rx s b snr now store r e l .fine) same
+      fine-unless left r n s store (receiveBy (parsed b) s snr now store) [] (overIf (ncsRx s b snr now store .over)) (spoken-fine (rx-spoken all tt now [] tt s b snr store tt) r e l) same
 
   fine-receive : (words : List ℕ) (snr now : Float) (store : List ℕ) (room : ℕ)
       → Fine left r (receiveOf s words snr now store room .station) (said (receiveOf s words snr now store room) [] (overIf (ofBurst (parse words) none (λ b. ncsRx s b snr now store .over))))
@@ -124,7 +122,8 @@ module _ (r : Run) (n : Net) (e : Rel r (n .station .wait .turn)) (l : Low (n .s
   fine-decide now queue room =
       let d = ncsNext s now queue in
       fine-unless left r (nextRefusal now (length queue) room) s [] (done (d .station) [] (d .words)) (overIf (d .over) ++ drewIf (d .drew)) []
-      (subst (λ (es : List TurnEvent). Fine left r (d .station) es) (regroup (overIf (d .over)) (drewIf (d .drew)) (burstsIn (d .words))) (fine-next queue s now r e l)) same
+      (subst (λ (es : List TurnEvent). Fine left r (d .station) es) (sym (append-assoc (overIf (d .over)) (drewIf (d .drew)) (burstsIn (d .words) ++ [])))
+      (spoken-fine (next-spoken all tt now queue s) r e l)) same
 
   fine-posting : (slot : ℕ) (message queue : List ℕ) → Fine left r (postOf s slot message queue .station) (said (postOf s slot message queue) [] [])
   unfolding postOf

@@ -1,23 +1,21 @@
--- What leaves the waiting and the list alone and sends no burst: rerouting, admission, and each frame of a reception. Assumes nothing.
+-- What leaves the waiting and the list alone and sends no burst: admission, and the frames of a reception. Assumes nothing.
 use mathlib.Core.Path.{_≡_, refl, _∙_}
 use Prim.Native.Nat.{ℕ}
-use mathlib.Core.List.{List, []}
+use mathlib.Core.List.{List, [], _∷_}
 use lib.Ieee.{Float}
 use Rattle.words.specs.Words.{Heard}
 use Rattle.net.specs.declared.Station.{Station}
 use Rattle.net.specs.Net.{Said, said}
-use Rattle.bursts.specs.Reroute.{rerouteOf}
 use Rattle.admit.specs.Admission.{admitBy}
 use Rattle.admit.specs.declared.Seat.{Seat}
 use Rattle.admit.specs.declared.Seat.the-variants.{Known, Free, Full}
 use Rattle.frames.specs.declared.Air.{Air}
-use Rattle.frames.specs.Reading.{Reading}
 use Rattle.frames.specs.Frames.{readFrames}
-use Rattle.promise.proofs.TurnsWords.{Mute, mute-none, mute-both, mute-event, mute-message, mute-missed}
-use Rattle.promise.proofs.Walk.{Allowed, Change, others, turned, over, hears, written, counted, promoted, moved, entered, piece, landed, freed, barred, signsOff, Chain, start, chain-keeps, readings, queued, posted}
-use Rattle.promise.proofs.WalkNext.{reroute-walk}
+use Rattle.rx.specs.Reception.{firstReading}
+use Rattle.promise.proofs.TurnsWords.{Mute, mute-none, mute-both, mute-one}
+use Rattle.promise.proofs.Walk.{Allowed, Change, others, turned, over, hears, written, counted, promoted, moved, entered, piece, landed, freed, barred, signsOff, start, chain-keeps, readings, queued, posted}
 use Rattle.promise.proofs.WalkRx.{frames-walk}
-use Rattle.promise.proofs.WalkWords.{Words, reroute-words, admit-words, frames-words}
+use Rattle.promise.proofs.WalkWords.{Events, admit-events, frames-events}
 
 -- the waiting, the list and the settings are those of s, and no burst is sent
 pub record Calm (s : Station) (x : Said) : Type 0 where
@@ -56,29 +54,19 @@ change-still s₀ s t (freed a cell) h = h
 change-still s₀ s t (barred a store slot field p here b) h = h
 change-still s₀ s t (signsOff a b c slot here) h = absurd a
 
--- after a calm beginning
-calm-by : (s t : Station) (ws vs : List ℕ) → Calm s (said t ws) → (u : Station) → Chain untimed t u → Mute vs → Calm s (said u vs)
-calm-by s t ws vs h u c q =
-    let k = chain-keeps (Still s) (change-still s) c (h .wait, h .list, h .settings) in
-    record { wait = k .0; list = k .1; settings = k .2; quiet = q }
+pub events-mute : {M : Type 0} {n : ℕ} {ws : List ℕ} → Events M n ws → Mute ws
+events-mute Events.none = mute-none
+events-mute (Events.more {w} {ws} l m h e) = mute-both (w ∷ []) ws (mute-one w l) (events-mute e)
 
-mutes : Words Mute
-mutes = record { none = mute-none; both = mute-both; event = λ kind slot relay l n. mute-event kind slot relay l; missed = mute-missed }
-
--- ### Rerouting, admission, and the frames over the running values of a reception
-
-pub reroute-calm : (s : Station) → Calm s (rerouteOf s)
-reroute-calm s = calm-by s s [] _ (calm-start s) (rerouteOf s .station) (reroute-walk untimed s) (reroute-words Mute mutes s)
+-- ### Admission, and the frames of a reception
 
 pub admit-calm : (seat : Seat) (s : Station) (call : List ℕ) (via : ℕ) (now : Float) → Calm s (admitBy seat s call via now)
 admit-calm (Known i) s call via now = record { wait = refl; list = refl; settings = refl; quiet = mute-none }
-admit-calm (Free i) s call via now = record { wait = refl; list = refl; settings = refl; quiet = admit-words Mute mutes (Free i) s call via now }
+admit-calm (Free i) s call via now = record { wait = refl; list = refl; settings = refl; quiet = events-mute (admit-events ⊥ (Free i) s call via now) }
 admit-calm Full s call via now = calm-start s
 
-abbrev pub CalmIn : Station → Reading → Type 0
-CalmIn s x = Calm s (said (x .station) (x .words))
-
-pub frames-calm : (s : Station) (a : Air) (fs : List Heard) (x : Reading) → CalmIn s x → CalmIn s (readFrames a fs x)
-frames-calm s a fs x h =
-    calm-by s (x .station) (x .words) _ h (readFrames a fs x .station) (frames-walk untimed a tt tt (x .station) fs x start)
-    (frames-words Mute mutes a mute-message fs x (h .quiet))
+pub frames-calm : (a : Air) (fs : List Heard) (s : Station) (store : List ℕ) → Calm s (said (readFrames a fs (firstReading s store) .station) (readFrames a fs (firstReading s store) .words))
+frames-calm a fs s store =
+    let x = firstReading s store in
+    let k = chain-keeps (Still s) (change-still s) (frames-walk untimed a tt tt s fs x start) (refl, refl, refl) in
+    record { wait = k .0; list = k .1; settings = k .2; quiet = events-mute (frames-events (Unit {0}) a tt fs 0 x Events.none) }

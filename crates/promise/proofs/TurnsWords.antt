@@ -9,7 +9,7 @@ use lib.ListN.{length, take, drop}
 use borrow.Author.Tests.{ne-eqb, lt-leb}
 use Rattle.wire.specs.Kinds.{tDown, kPollack, kAck, kClose}
 use Rattle.words.specs.Words.{headOf, least}
-use Rattle.out.specs.Encode.{eventWord, messageWord, missedWord, headWord, waveWord, word12, pack, ctrlWords, chunksOf, chunkSize, chunkWords, frameWords}
+use Rattle.out.specs.Encode.{headWord, waveWord, word12, pack, ctrlWords, chunksOf, chunkSize, chunkWords, frameWords}
 use Rattle.roster.specs.declared.Member.{Member}
 use Rattle.net.specs.declared.Station.{Station}
 use Rattle.net.specs.declared.Settings.{Settings}
@@ -81,17 +81,8 @@ mute-none = (quiet-none, refl)
 pub mute-both : (a b : List ℕ) → Mute a → Mute b → Mute (a ++ b)
 mute-both a b h k = (quiet-both a b (h .0) (k .0), sent-append a b ∙ rw (h .1, k .1))
 
-mute-one : (w : ℕ) → w < 2147483648 → Mute (w ∷ [])
+pub mute-one : (w : ℕ) → w < 2147483648 → Mute (w ∷ [])
 mute-one w h = (below-head w [] h ∙ quiet-none, unsent w [] h ∙ mute-none .1)
-
-pub mute-event : (kind slot relay : ℕ) → kind < 8 → Mute (eventWord kind slot relay ∷ [])
-mute-event kind slot relay h = mute-one (eventWord kind slot relay) (omega arith)
-
-pub mute-message : (slot cell number : ℕ) → Mute (messageWord slot cell number ∷ [])
-mute-message slot cell number = mute-one (messageWord slot cell number) (omega arith)
-
-pub mute-missed : (slot : ℕ) → Mute (missedWord slot ∷ [])
-mute-missed slot = mute-one (missedWord slot) (omega arith)
 
 -- ### Frames
 

@@ -30,8 +30,9 @@ use Rattle.dues.specs.Dues.{duesRefusal}
 use Rattle.promise.specs.Promise.{Lent, lentTo, Net, Call, admission, reception, decision, sending, closing, reading, freeing, charging, signing, asking, result, step, after, started, posting}
 use Rattle.promise.proofs.Walk.{Allowed, RelayOk, Turned, still, ends, Change, freed, signsOff, Chain, start, more, chain-then, chain-keeps, posted}
 use Rattle.promise.proofs.Signs.{sign-member}
-use Rattle.promise.proofs.WalkNext.{index-member, calm, turn, next-walk}
-use Rattle.promise.proofs.WalkRx.{admit-walk, rx-walk}
+use Rattle.promise.proofs.WalkNext.{index-member, calm, turn}
+use Rattle.promise.proofs.WalkRx.{admit-walk}
+use Rattle.promise.proofs.Spoken.{next-walk, rx-walk}
 use Rattle.net.specs.State.{indexOf, queueAt}
 use Rattle.queue.specs.declared.Queue.{Queue}
 use Rattle.queue.specs.Queues.{spaceRefusal}

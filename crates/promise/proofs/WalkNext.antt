@@ -1,14 +1,14 @@
--- The next decision is a chain of single changes, stage by stage. Assumes nothing.
+-- Chains of single changes at a slot, and those of rerouting and of a received list. Assumes nothing.
 use mathlib.Core.Path.{_≡_, refl, sym, ap, _∙_, subst}
 use mathlib.Core.Logic.{inl, inr, ⊎-elim}
 use Prim.Native.Nat.{ℕ, zero, suc, _<_}
 use native.Mathlib.Omega.{arith}
-use mathlib.Core.Bool.{Bool, true, false, cond, not, _&&_, _||_}
-use mathlib.Core.List.{List, []}
-use lib.Dec.{eqb, ltb}
+use mathlib.Core.Bool.{Bool, true, false, cond, not, _&&_}
+use mathlib.Core.List.{[]}
+use lib.Dec.{eqb}
 use lib.ListN.{set}
 use lib.Seq.{set-getD}
-use lib.Ieee.{Float, lt, le}
+use lib.Ieee.{Float, le}
 use borrow.Author.Tests.{eqb-false}
 use Rattle.bits.specs.Mask.{hasBit, withBit, withoutBit, lowestBit}
 use Rattle.bits.specs.declared.Found.{Found}
@@ -17,8 +17,7 @@ use Rattle.bits.proofs.Lists.{cond-keeps, and-true, never-both, eq-or-not}
 use Rattle.bits.proofs.Laws.{has-none, has-both, with-other}
 use Rattle.bits.proofs.Loops.{fold-keeps-below}
 use Rattle.level.specs.declared.Level.{Level}
-use Rattle.level.specs.declared.Clock.{Clock}
-use Rattle.level.specs.declared.Clock.the-variants.{Never, At}
+use Rattle.level.specs.declared.Clock.the-variants.{At}
 use Rattle.level.specs.declared.Level.the-variants.{Unheard, Decibels}
 use Rattle.recent.specs.declared.Recent.{Recent}
 use Rattle.recent.specs.Readings.{empty}
@@ -30,25 +29,18 @@ use Rattle.net.specs.declared.Station.{Station}
 use Rattle.net.specs.declared.Reply.{Reply}
 use Rattle.net.specs.declared.Round.{Round}
 use Rattle.net.specs.declared.Totals.{Totals}
-use Rattle.net.specs.declared.Turn.{Turn}
-use Rattle.net.specs.declared.Turn.the-variants.{Idle, Sending, Waiting}
+use Rattle.net.specs.declared.Turn.the-variants.{Waiting}
 use Rattle.net.specs.declared.Wait.{Wait}
-use Rattle.net.specs.State.{indexOf, memberAt, withMember, withMembers, withCounted, withWait, withRound, withTotals, withRxsent, withRxdirty, alsoAck, alsoNews, withRecent, queueAt, withQueue}
-use Rattle.net.specs.Net.{isMember, idleWait, Said, said, membersIn}
+use Rattle.net.specs.State.{indexOf, memberAt, withMember, withMembers, withCounted, withWait, withRound, withTotals, alsoAck, alsoNews, withRecent, queueAt, withQueue}
+use Rattle.net.specs.Net.{isMember, Said, said, membersIn}
 use Rattle.net.proofs.Laws.{index-lt, index-is, member-lt, member-is}
 use Rattle.bursts.specs.Rows.{seated}
-use Rattle.bursts.specs.Bursts.{acked, withoutFound, beyond, acksBurst, beaconOf, tellAt, tellAll, listSent, listTold, rxListBurst}
+use Rattle.bursts.specs.Bursts.{acked, withoutFound, beyond, tellAt, tellAll}
 use Rattle.bursts.specs.Reroute.{ableAt, ableOf, floorOf, promoteWith, promoteAt, promoteAll, leafAt, leavesOf, newRelay, mustMove, moveAt, moveAll, rerouteOf}
 use Rattle.bursts.proofs.Masks.{mask-where}
-use Rattle.next.specs.declared.Due.{Due}
-use Rattle.next.specs.declared.Due.the-variants.{Free, Quiet, Close, Again, Missed}
-use Rattle.next.specs.declared.Act.{Act}
-use Rattle.next.specs.declared.Act.the-variants as act
-use Rattle.next.specs.Next.{Decision, pollBy, pollStage, drawn, drawStage, reroutedStage, rerouteStage, listStage, roundEnd, hurried, actOf, actBy, windowStage, closeStage, againStage, turnOverIn, missedIn, missedStage, dueTurn, dueOf, byDue, ncsNext, directedBy, wordBy}
-use Rattle.promise.proofs.Walk.{Allowed, told, Fields, none, also, Turned, ends, sends, polls, goes, draws, Within, Marks, others, turned, over, written, counted, promoted, moved, readings, Chain, start, more, Queued, sent, queued}
+use Rattle.next.specs.Next.{turnOverIn}
+use Rattle.promise.proofs.Walk.{Allowed, told, Fields, none, also, Turned, Within, Marks, others, turned, over, written, counted, promoted, moved, readings, Chain, start, more, Queued, queued}
 use Rattle.queue.specs.declared.Queue.{Queue}
-use Rattle.bursts.specs.Direct.{directedTo, directBurst}
-use Rattle.bursts.proofs.Directing.{directed-member}
 
 -- ---- what is known where a change is made
 
@@ -60,7 +52,7 @@ index-member used slot here = ap (isMember used) (index-is slot (member-lt used 
 same-marks : (s : Station) (r : Round) → r .toack ≡ s .round .toack → r .treenews ≡ s .round .treenews → Marks s r
 same-marks s r p q = record { toack = λ i h. inl (ap (λ (m : ℕ). hasBit m i) (sym p) ∙ h); treenews = λ i h. inl (ap (λ (m : ℕ). hasBit m i) (sym q) ∙ h) }
 
-none-left : (s : Station) (old : ℕ) → Within s old 0
+pub none-left : (s : Station) (old : ℕ) → Within s old 0
 none-left s old i h = absurd (never-both (hasBit 0 i) h (has-none i))
 
 one-more : (s : Station) (old c : ℕ) → isMember (s .used) c ≡ true → Within s old (withBit old c)
@@ -76,34 +68,10 @@ beyond-in (suc k) m i h = by (lowestBit m) (beyond-in k (withoutFound (lowestBit
     by (found.At j) e = without-in m j i e .0
     by found.Nothing e = e
 
-fewer : (s : Station) → Within s (s .round .toack) (beyond 9 (acked s))
+pub fewer : (s : Station) → Within s (s .round .toack) (beyond 9 (acked s))
 fewer s i h =
     let b = beyond-in 9 (acked s) i h in
     inl (and-true (hasBit (s .round .toack) i) (hasBit (membersIn (s .used)) i) (sym (has-both (s .round .toack) (membersIn (s .used)) i) ∙ b) .0)
-
--- what is due of a reply is due of the running turn's
-abbrev Runs : Due → Turn → Type 0
-Runs Free y = Unit {0}
-Runs Quiet y = Unit {0}
-Runs Close y = Unit {0}
-Runs (Again r) y = y ≡ Waiting r
-Runs (Missed r) y = y ≡ Waiting r
-
-overdue-runs : (b c : Bool) (r : Reply) → Runs (cond b Quiet (cond c (Again r) (Missed r))) (Waiting r)
-overdue-runs true c r = tt
-overdue-runs false true r = refl
-overdue-runs false false r = refl
-
-turn-runs : (closed : Bool) (y : Turn) (d : Clock) (now : Float) → Runs (cond closed Close (dueTurn y d now)) y
-turn-runs true y d now = tt
-turn-runs false Idle d now = tt
-turn-runs false Sending d now = tt
-turn-runs false (Waiting r) Never now = tt
-turn-runs false (Waiting r) (At end) now = overdue-runs (lt now end) (eqb (r .tries) 0) r
-
-due-runs : (s : Station) (now : Float) → Runs (dueOf (s .wait) (s .round .closed) now) (s .wait .turn)
-unfolding dueOf
-due-runs s now = turn-runs (s .round .closed) (s .wait .turn) (s .wait .deadline) now
 
 level-by : (b : Bool) (d snr : Float) → cond b (Decibels d) Unheard ≡ Decibels snr → (b ≡ true) × (Decibels d ≡ Decibels snr)
 level-by true d snr e = (refl, e)
@@ -181,9 +149,6 @@ module _ (A : Allowed) where
     abbrev WalkSaid : Said → Type 0
     WalkSaid x = Chain A s₀ (x .station)
 
-    abbrev WalkNext : Decision → Type 0
-    WalkNext d = Chain A s₀ (d .station)
-
     -- ---- received list
 
     tell-walk : (i : ℕ) (s : Station) → i < 62 → Chain A s₀ s → Chain A s₀ (tellAt i s)
@@ -192,7 +157,7 @@ module _ (A : Allowed) where
         (λ e. more k (written i (toldNow (seated s i)) h (member-is (s .used) i h ∙ and-true (hasBit (s .used) i) _ e .0) (also none told)))
         (λ _. subst (Chain A s₀) (sym (ap (withMembers s) (set-getD (s .members) i _))) k)
 
-    told-walk : (s : Station) → Chain A s₀ s → Chain A s₀ (tellAll s)
+    pub told-walk : (s : Station) → Chain A s₀ s → Chain A s₀ (tellAll s)
     unfolding tellAll
     told-walk s k = fold-keeps-below (Chain A s₀) tellAt 62 0 (λ i t _ h m. tell-walk i t (omega arith) m) s k
 
@@ -248,117 +213,6 @@ module _ (A : Allowed) where
         moved-walk (promoteAll s)
         (fold-keeps-below WalkSaid (promoteAt (floorOf s)) 62 0 (λ i x _ h m. promote-walk (floorOf s) i x (omega arith) m) (said s []) k)
 
-    -- ---- the stages, last first
-
-    module _ (allowed : A .turns) (lent : List ℕ) where
-      list-walk : (s : Station) → Chain A s₀ s → Chain A s₀ (rxListBurst s .station)
-      unfolding rxListBurst
-      list-walk s k =
-          let t = told-walk (withRound s (withRxdirty (s .round) false)) (calm s _ _ refl refl refl refl k) in
-          cond-keeps WalkSaid (listSent s) _ _ (λ _. turn (listTold s) _ _ _ allowed sends refl refl refl t) (λ _. t)
-
-      acks-walk : (s : Station) → Chain A s₀ s → Chain A s₀ (acksBurst s .station)
-      unfolding acksBurst
-      acks-walk s k = more k (turned allowed _ _ _ sends (record { toack = none-left s (s .round .toack); treenews = none-left s (s .round .treenews) }) refl)
-
-      beacon-walk : (s : Station) (now : Float) → Chain A s₀ s → Chain A s₀ (beaconOf s now .station)
-      unfolding beaconOf
-      beacon-walk s now k = more k (turned allowed _ _ _ sends (record { toack = fewer s; treenews = λ i h. inl h }) refl)
-
-      poll-by : (f : Found) (s : Station) → lowestBit (s .round .list) ≡ f → Chain A s₀ s → WalkNext (pollBy f s)
-      poll-by found.Nothing s e k = k
-      poll-by (found.At slot) s e k = turn s _ _ _ allowed (polls slot e) refl refl refl k
-
-      -- word back before it
-      direct-walk : (s : Station) (slot : ℕ) → isMember (s .used) slot ≡ true → Chain A s₀ s → Chain A s₀ (directBurst s lent slot .station)
-      unfolding directBurst
-      direct-walk s slot here k = queue _ slot _ here (sent (s .round .number)) (turn s _ _ _ allowed sends refl refl refl k)
-
-      word-by : (f : Found) (s : Station) → ((i : ℕ) → f ≡ found.At i → isMember (s .used) i ≡ true) → Chain A s₀ s → WalkNext (wordBy f s lent)
-      word-by found.Nothing s h k = poll-by (lowestBit (s .round .list)) s refl k
-      word-by (found.At i) s h k = direct-walk s i (h i refl) k
-
-      front-by : (f : Found) (s : Station) → Chain A s₀ s → WalkNext (wordBy (directedBy f s) s lent)
-      front-by found.Nothing s k = poll-by (lowestBit (s .round .list)) s refl k
-      front-by (found.At slot) s k = word-by (directedTo s slot) s (λ i e. directed-member s slot i e) k
-
-      poll-walk : (s : Station) → Chain A s₀ s → WalkNext (pollStage s lent)
-      unfolding pollStage
-      poll-walk s k = front-by (lowestBit (s .round .list)) s k
-
-      draw-walk : (s : Station) (now : Float) → Chain A s₀ s → WalkNext (drawStage s now lent)
-      unfolding drawStage
-      draw-walk s now k = poll-walk (drawn s now) (turn s _ _ _ allowed (draws _) refl refl refl k)
-
-      rerouted-walk : (x : Said) (now : Float) → WalkSaid x → WalkNext (reroutedStage x now lent)
-      rerouted-walk x now k =
-          cond-keeps WalkNext (eqb (x .station .round .treenews) 0) _ _ (λ _. draw-walk (x .station) now k) (λ _. acks-walk (x .station) k)
-
-      reroute-stage : (s : Station) (now : Float) → Chain A s₀ s → WalkNext (rerouteStage s now lent)
-      unfolding rerouteStage
-      reroute-stage s now k =
-          cond-keeps WalkNext (not (s .round .traffic) && ltb 0 (s .round .number) && lt now (s .round .nextround)) _ _
-          (λ _. k)
-          (λ _. rerouted-walk (rerouteOf s) now (rerouted s k))
-
-      list-stage : (s : Station) (now : Float) → Chain A s₀ s → WalkNext (listStage s now lent)
-      list-stage s now k =
-          cond-keeps WalkNext (listSent s) _ _ (λ _. list-walk s k) (λ _. reroute-stage (rxListBurst s .station) now (list-walk s k))
-
-      round-walk : (s : Station) (now : Float) → Chain A s₀ s → WalkNext (roundEnd s now lent)
-      unfolding roundEnd
-      round-walk s now k =
-          cond-keeps WalkNext (eqb (s .round .number) 0 || eqb (s .round .rxsent) (s .round .number)) _ _
-          (λ _. reroute-stage s now k)
-          (λ _. list-stage (withRound s (withRxsent (s .round) (s .round .number))) now (calm s _ _ refl refl refl refl k))
-
-      act-by : (a : Act) (s : Station) (now : Float) → Chain A s₀ s → WalkNext (actBy a s now lent)
-      act-by act.Wait s now k = k
-      act-by act.Beacon s now k = beacon-walk s now k
-      act-by act.Acks s now k = acks-walk s k
-      act-by act.Draw s now k = round-walk s now k
-      act-by act.Poll s now k = poll-walk s k
-
-      hurried-walk : (s : Station) (now : Float) → Chain A s₀ s → Chain A s₀ (hurried s now)
-      hurried-walk s now k = cond-keeps (Chain A s₀) (s .round .activity) _ s (λ _. calm s _ _ refl refl refl refl k) (λ _. k)
-
-      window-walk : (s : Station) (now : Float) → Chain A s₀ s → WalkNext (windowStage s now lent)
-      unfolding windowStage
-      window-walk s now k =
-          cond-keeps WalkNext (lt now (s .round .windowend)) _ _ (λ _. k)
-          (λ _. act-by (actOf (hurried s now .round) (hurried s now .used) now) (hurried s now) now (hurried-walk s now k))
-
-      close-walk : (s : Station) (now : Float) → Chain A s₀ s → WalkNext (closeStage s now)
-      unfolding closeStage
-      close-walk s now k = cond-keeps WalkNext (eqb (s .round .closeleft) 0) _ _ (λ _. k) (λ _. calm s _ _ refl refl refl refl k)
-
-      again-walk : (r : Reply) (s : Station) → s .wait .turn ≡ Waiting r → Chain A s₀ s → WalkNext (againStage r s)
-      unfolding againStage
-      again-walk r s e k = turn s _ _ _ allowed (goes r _ _ e) refl refl refl k
-
-      missed-walk : (r : Reply) (s : Station) (now : Float) → s .wait .turn ≡ Waiting r → Chain A s₀ s → WalkNext (missedStage r s now lent)
-      unfolding missedStage
-      missed-walk r s now e k =
-          window-walk (turnOverIn (missedIn (withWait s idleWait) (r .slot)) (r .slot) (r .relayfor)) now
-          (cond-keeps (λ (t : Station). Chain A s₀ (turnOverIn t (r .slot) (r .relayfor))) (isMember (s .used) (r .slot)) _ (withWait s idleWait)
-          (λ here. over-walk _ r idleWait _ allowed e (λ u. ends) refl (count s (r .slot) (memberAt s (r .slot)) _ here none k))
-          (λ _. over-walk s r idleWait (s .totals) allowed e (λ u. ends) refl k))
-
-      due-walk : (d : Due) (s : Station) (now : Float) → Runs d (s .wait .turn) → Chain A s₀ s → WalkNext (byDue d s now lent)
-      due-walk Free s now e k = window-walk s now k
-      due-walk Quiet s now e k = k
-      due-walk Close s now e k = close-walk s now k
-      due-walk (Again r) s now e k = again-walk r s e k
-      due-walk (Missed r) s now e k = missed-walk r s now e k
-
-      decided : (s : Station) (now : Float) → Chain A s₀ s → WalkNext (ncsNext s now lent)
-      unfolding ncsNext
-      decided s now k = due-walk (dueOf (s .wait) (s .round .closed) now) s now (due-runs s now) k
-
   -- boats promoted and moved
   pub reroute-walk : (s : Station) → Chain A s (rerouteOf s .station)
   reroute-walk s = rerouted s s start
-
-  -- the next decision
-  pub next-walk : A .turns → (s : Station) (now : Float) (lent : List ℕ) → Chain A s (ncsNext s now lent .station)
-  next-walk allowed s now lent = decided s allowed lent s now start

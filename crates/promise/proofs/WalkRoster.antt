@@ -1,6 +1,6 @@
 -- The walk for a property of the roster alone (the slots in use, the members but for most of their fields, and the total of silent boats), of the rings and queues
 -- beside it, and of every member: fewer cases, the other changes being none to them. Assumes nothing.
-use mathlib.Core.Path.{_≡_, refl, sym, subst}
+use mathlib.Core.Path.{_≡_, refl, sym, _∙_, subst}
 use mathlib.Core.Bool.{true, false}
 use mathlib.Core.List.{List, [], _∷_}
 use Prim.Native.Nat.{ℕ, zero, suc, _<_}
@@ -26,9 +26,10 @@ use Rattle.net.proofs.Laws.{index-lt}
 use Rattle.bursts.specs.Rows.{seated}
 use Rattle.bursts.specs.Reroute.{withSeated}
 use Rattle.signoff.specs.SignOff.{vacant, leave, untried, cutOff, bereft, bereftOf, bereaveAt, bereaveAll, struckOff, signOff}
-use Rattle.promise.proofs.Walk.{Allowed, Field, fields-keep, Stays, stays, over-keeps, over-stays, RelayOk, Change}
+use Rattle.promise.proofs.Walk.{Allowed, Field, fields-keep, Stays, stays, over-keeps, over-stays, RelayOk, Change, Chain, chain-keeps}
 use Rattle.promise.proofs.Walk as walk
 use Rattle.promise.proofs.WalkNext.{index-member}
+use Rattle.promise.proofs.Signs.{sign-beside}
 
 -- ---- the roster
 
@@ -74,6 +75,19 @@ roster (walk.freed a cell) = same
 roster {s = s} (walk.barred a store slot field p here b) =
     written (indexOf slot) _ (index-lt slot) (index-member (s .used) slot here) (record { call = refl; via = refl; missed = refl })
 roster (walk.signsOff a b c slot here) = signsOff slot here
+
+-- no change is one of the settings
+roster-settings : {s : Station} {g : Settings} {u : ℕ} {ms : List Member} {n : ℕ} → Roster s g u ms n → g ≡ s .settings
+roster-settings same = refl
+roster-settings (written i m l here y) = refl
+roster-settings (counted i m l here c v) = refl
+roster-settings (promoted i snr l here) = refl
+roster-settings (moved c r l here there able n) = refl
+roster-settings (entered i call v now l free r) = refl
+roster-settings {s = s} (signsOff slot here) = sign-beside s slot .settings
+
+pub settings-stay : {A : Allowed} {s t : Station} → Chain A s t → t .settings ≡ s .settings
+settings-stay {s = s} c = chain-keeps (λ (t : Station). t .settings ≡ s .settings) (λ x y d h. roster-settings (roster d) ∙ h) c refl
 
 -- ---- the rings and the directed queues of the slots in use
 

@@ -1,5 +1,6 @@
--- Admission and reception are chains of single changes: those of a control frame and of the end leave the messages alone. Assumes nothing.
-use mathlib.Core.Path.{_≡_, refl, sym, ap, _∙_, subst}
+-- Admission, the frames of a reception and what its end hears are chains of single changes: those of a control frame and of the end leave the messages alone.
+-- Assumes nothing.
+use mathlib.Core.Path.{_≡_, refl, sym, ap, _∙_}
 use mathlib.Core.Logic.{inl, inr, ⊎-elim}
 use Prim.Native.Nat.{ℕ, zero, suc, _+_, _/_, _%_, _<_}
 use native.Mathlib.Omega.{arith}
@@ -8,26 +9,24 @@ use mathlib.Core.List.{List, [], _∷_}
 use lib.Dec.{eqb, ltb, leb}
 use lib.Ieee.{Float}
 use lib.ListN.{length, getD}
-use borrow.Author.Tests.{eqb-true, ltb-true}
+use borrow.Author.Tests.{ltb-true}
 use Rattle.bits.specs.Mask.{hasBit, withBit}
 use Rattle.bits.proofs.Lists.{cond-keeps, and-true, eq-or-not}
 use Rattle.bits.proofs.Laws.{with-same, with-other}
-use Rattle.wire.specs.Kinds.{tiny, kIdle}
 use Rattle.wire.specs.Fields.{snrFromQ}
 use Rattle.words.specs.declared.Head.{Head}
-use Rattle.words.specs.Words.{Heard, lost, heard, Burst}
+use Rattle.words.specs.Words.{Heard, lost, heard}
 use Rattle.stream.specs.Table.{hasLanded}
 use Rattle.recent.specs.Readings.{empty}
 use Rattle.roster.specs.declared.Member.{Member}
 use Rattle.roster.specs.Members.{withCaps, withVersion, receivedAt, isWilling}
 use Rattle.net.specs.declared.Station.{Station}
-use Rattle.net.specs.declared.Reply.{Reply}
 use Rattle.net.specs.declared.Settings.{Settings}
 use Rattle.net.specs.declared.Turn.{Turn}
 use Rattle.net.specs.declared.Turn.the-variants.{Idle, Sending, Waiting}
 use Rattle.net.specs.declared.Wait.{Wait}
-use Rattle.net.specs.State.{indexOf, memberAt, withMember, withCounted, withWait, withHears, withTable, oneReply}
-use Rattle.net.specs.Net.{plus, leafWait, isMember, idleWait, Said, said}
+use Rattle.net.specs.State.{indexOf, memberAt, withMember, withCounted, withHears, withTable}
+use Rattle.net.specs.Net.{plus, leafWait, isMember, Said, said}
 use Rattle.net.proofs.Laws.{index-lt, index-is, member-lt, member-is, member-has}
 use Rattle.admit.specs.declared.Seat.{Seat}
 use Rattle.admit.specs.declared.Seat.the-variants.{Known, Free, Full}
@@ -38,12 +37,11 @@ use Rattle.frames.specs.Reading.{Reading}
 use Rattle.frames.specs.Pieces.{isAsideLeaf, heardMember, isRelayed, trafficIf, relayIf, unkeptAt, barredPiece, keptPiece, pieceFrame}
 use Rattle.frames.specs.Control.{eachEntry, checkinMember, checkedIn, withActive, callAt, checkinFrame, isForwarded, reportMember, hearPair, reportStation, reportFrame, relayOf, newcomer, hearing, overheardBy, overheardEntry, overheardFrame, isKid, kidEntry, kidsFrame, kidMember, hearPairs, u24}
 use Rattle.frames.specs.Frames.{controlBy, readFrame, frameStep, readFrames}
-use Rattle.rx.specs.Ending.{isBusy, putOff, turnOverIn, idleMember, idleHeard, idleBy, idleEnd, replyHeard, answerBy, goesOn, isReply, replyBy, replyEnd, Ended, busyWait}
-use Rattle.rx.specs.Reception.{Received, airOf, firstReading, ncsRx}
+use Rattle.rx.specs.Ending.{isBusy, putOff, idleMember, idleHeard, replyHeard, busyWait}
 use Rattle.promise.proofs.FrameCases.{control-cases, frame-cases}
-use Rattle.promise.proofs.Walk.{Allowed, Fields, none, also, burst, caps, version, down, received, direct, reached, Turned, still, ends, sends, goes, RelayOk, hears, entered, offered, piece, landed, barred, Chain, start, more, chain-then}
+use Rattle.promise.proofs.Walk.{Allowed, Fields, none, also, burst, caps, version, down, received, direct, reached, RelayOk, hears, entered, offered, piece, landed, barred, Chain, start, more, chain-then}
 use Rattle.promise.proofs.Walk as walk
-use Rattle.promise.proofs.WalkNext.{index-member, calm, ack, turn, over-walk, write, count, heard-at, queue}
+use Rattle.promise.proofs.WalkNext.{index-member, calm, ack, turn, write, count, heard-at, queue}
 
 -- what each entry keeps, all keep
 pub each-keeps : {A : Type 0} (P : A → Type 0) (f : ℕ → A → A) → ((e : ℕ) (x : A) → P x → P (f e x)) → (w len n e : ℕ) (x : A) → P x → P (eachEntry f w len n e x)
@@ -92,10 +90,10 @@ pub busy-turn : (v : Wait) (h : Head) (g : Settings) (now : Float) → busyWait 
 busy-turn v h g now =
     cond-keeps (λ y. y .turn ≡ v .turn) (isBusy h) (putOff (v .turn) v (plus now (leafWait g))) v (λ e. put-off (v .turn) v (plus now (leafWait g)) refl) (λ e. refl)
 
-idle-wait : (a : Air) (extra : ℕ) (s : Station) → idleHeard a extra s .wait ≡ s .wait
+pub idle-wait : (a : Air) (extra : ℕ) (s : Station) → idleHeard a extra s .wait ≡ s .wait
 idle-wait a extra s = cond-keeps (λ (t : Station). t .wait ≡ s .wait) (isMember (s .used) (extra % 64)) _ s (λ _. refl) (λ _. refl)
 
-reply-wait : (a : Air) (slot n : ℕ) (s : Station) → replyHeard a slot n s .wait ≡ s .wait
+pub reply-wait : (a : Air) (slot n : ℕ) (s : Station) → replyHeard a slot n s .wait ≡ s .wait
 reply-wait a slot n s = cond-keeps (λ (t : Station). t .wait ≡ s .wait) (isMember (s .used) slot) _ s (λ _. refl) (λ _. refl)
 
 module _ (A : Allowed) where
@@ -280,10 +278,7 @@ module _ (A : Allowed) where
     -- ---- the end of a reception
 
     module _ (turns : A .turns) (s₀ : Station) where
-      abbrev Ends : Ended → Type 0
-      Ends e = Chain A s₀ (e .station)
-
-      idle-heard : (extra : ℕ) (s : Station) → Chain A s₀ s → Chain A s₀ (idleHeard a extra s)
+      pub idle-heard : (extra : ℕ) (s : Station) → Chain A s₀ s → Chain A s₀ (idleHeard a extra s)
       idle-heard extra s k =
           let slot = extra % 64 in
           let m = memberAt s slot in
@@ -297,53 +292,9 @@ module _ (A : Allowed) where
           (λ _. count A s₀ s slot _ 0 here (also f (direct (a .level) ok)) k)))
           (λ _. k)
 
-      idle-by : (t : Turn) (slot : ℕ) (s : Station) → s .wait .turn ≡ t → Chain A s₀ s → Ends (idleBy t slot s)
-      idle-by Idle slot s e k = k
-      idle-by Sending slot s e k = k
-      idle-by (Waiting r) slot s e k =
-          cond-keeps Ends (eqb (r .slot) slot) _ _ (λ q. subst (λ (x : ℕ). Chain A s₀ (turnOverIn (oneReply (withWait s idleWait)) x (r .relayfor))) (eqb-true (r .slot) slot q)
-          (over-walk A s₀ s r idleWait _ turns e (λ u. ends) refl k)) (λ _. k)
-
-      reply-heard : (slot n : ℕ) (s : Station) → Chain A s₀ s → Chain A s₀ (replyHeard a slot n s)
+      pub reply-heard : (slot n : ℕ) (s : Station) → Chain A s₀ s → Chain A s₀ (replyHeard a slot n s)
       reply-heard slot n s k =
           cond-keeps (Chain A s₀) (isMember (s .used) slot) _ s
           (λ here. heard-at A s₀ _ slot _ here
           (count A s₀ s slot _ 0 here (also (also none (received (a .level) (memberAt s slot .snrdown) (a .time) ok)) (burst ((n + 1) % 4))) k))
           (λ _. k)
-
-      answer-walk : (b : Bool) (r : Reply) (n frames : ℕ) (s : Station) → s .wait .turn ≡ Waiting r → Chain A s₀ s → Ends (answerBy b r n frames s)
-      answer-walk true r n frames s e k = turn A s₀ s _ _ _ turns (goes r _ _ e) refl refl refl k
-      answer-walk false r n frames s e k = over-walk A s₀ s r _ _ turns e (λ u. sends) refl k
-
-      reply-by : (t : Turn) (h : Head) (x : Reading) → x .station .wait .turn ≡ t → Chain A s₀ (x .station) → Ends (replyBy t a h x)
-      reply-by Idle h x e k = k
-      reply-by Sending h x e k = k
-      reply-by (Waiting r) h x e k =
-          let n = h .hi % 4 in
-          cond-keeps Ends (isReply h (x .sender) r) _ _
-          (λ _. answer-walk (goesOn h (x .more) r) r n (x .heard) (replyHeard a (r .slot) n (oneReply (x .station)))
-          (ap (λ (w : Wait). w .turn) (reply-wait a (r .slot) n (oneReply (x .station))) ∙ e)
-          (reply-heard (r .slot) n (oneReply (x .station)) (calm A s₀ (x .station) _ _ refl refl refl refl k)))
-          (λ _. k)
-
-    pub idle-walk : A .turns → (extra : ℕ) (s : Station) → Chain A s (idleEnd a extra s .station)
-    unfolding idleEnd
-    idle-walk turns extra s =
-        idle-by turns s (s .wait .turn) (extra % 64) (idleHeard a extra s) (ap (λ (w : Wait). w .turn) (idle-wait a extra s)) (idle-heard turns s extra s start)
-
-    pub reply-walk : A .turns → (h : Head) (x : Reading) → Chain A (x .station) (replyEnd a h x .station)
-    unfolding replyEnd
-    reply-walk turns h x = reply-by turns (x .station) (x .station .wait .turn) h x refl start
-
-  -- a reception
-  pub rx-walk : A .turns → A .cells → (s : Station) (b : Burst) (level now : Float) (store : List ℕ) → A .level level → Chain A s (ncsRx s b level now store .station)
-  unfolding ncsRx
-  rx-walk turns cells s b level now store ok =
-      let a = airOf s (b .head) level now in
-      let x = firstReading (withWait s (busyWait (s .wait) (b .head) (s .settings) now)) store in
-      let y : Turned s (x .station .wait .turn) (s .round .list) = subst (λ (y : Turn). Turned s y (s .round .list)) (sym (busy-turn (s .wait) (b .head) (s .settings) now)) still in
-      let k : Chain A s (x .station) = turn A s s _ _ _ turns y refl refl refl start in
-      cond-keeps (λ (r : Received). Chain A s (r .station)) (eqb (b .head .code) tiny) _ _
-      (λ _. cond-keeps (λ (e : Ended). Chain A s (e .station)) (eqb (b .head .hi) kIdle) _ _
-      (λ _. chain-then k (idle-walk a ok turns (b .head .extra) (x .station))) (λ _. k))
-      (λ _. chain-then (frames-walk a ok cells s (b .frames) x k) (reply-walk a ok turns (b .head) (readFrames a (b .frames) x)))

@@ -37,7 +37,7 @@ use Rattle.station.specs.Entries.{Outcome, receivedAs, receiveBy, receiveRefusa
 use Rattle.promise.specs.Promise.{burstBy, burstsIn, TurnEvent, ofBurst, framesBy}
 use Rattle.promise.proofs.Walk.{Allowed, Change, others, turned, over, hears, written, counted, promoted, moved, entered, queued, posted, piece, landed, freed, barred, readings, signsOff, start, chain-keeps}
 use Rattle.promise.proofs.WalkRx.{member-with, frames-walk, busy-turn}
-use Rattle.promise.proofs.TurnsKeeps.{calm-start, frames-calm}
+use Rattle.promise.proofs.TurnsKeeps.{frames-calm}
 use Rattle.promise.proofs.Readings.{frame-runs}
 use Rattle.promise.proofs.Receptions.{step-seen, step-frame, seen-stays, mask-stays, get-last}
 use Rattle.sending.specs.Sending.{Among, isAckTo, bitsOf}
@@ -309,13 +309,13 @@ module _ (slot : ℕ) where
     y = readFrames a (b .frames) x
 
     y-turn : y .station .wait .turn ≡ s .wait .turn
-    y-turn = ap (λ (w : Wait). w .turn) (frames-calm s′ a (b .frames) x (calm-start s′) .wait) ∙ busy-turn (s .wait) (b .head) (s .settings) now
+    y-turn = ap (λ (w : Wait). w .turn) (frames-calm a (b .frames) s′ store .wait) ∙ busy-turn (s .wait) (b .head) (s .settings) now
 
     full-kept : (w : ℕ) → Among w (y .words ++ replyEnd a (b .head) y .burst) → isAckTo slot w ≡ true → (i : ℕ) → i < 6 → hasBit (bitsOf w) i ≡ true
         → KeptAt (getD (b .frames) i lost) (y .unkept) i (y .seen)
     unfolding replyEnd
     full-kept w m h i l t =
-        ⊎-elim (λ e. absurd (quiet-none (y .words) (frames-calm s′ a (b .frames) x (calm-start s′) .quiet .0) w e h))
+        ⊎-elim (λ e. absurd (quiet-none (y .words) (frames-calm a (b .frames) s′ store .quiet .0) w e h))
         (λ e.
         let q = reply-ends (y .station .wait .turn) a (b .head) y w e h in
         let here = turn-here (s .used) (s .wait .turn) (polled .turn) (subst TurnOf y-turn (q .0)) in
