@@ -282,7 +282,7 @@ module _ (d : Desk) (k : GoodDesk d) where
   still-kept : StillKept d
   still-kept slot o h l =
       ⊎-elim
-      (λ low. let e = k .sound .kept .each slot low in e .bytes o (omega (arith, e .told, e .most)) l)
+      (λ low. let e = k .sound .kept .each slot low in e .bytes o (omega (arith, e .numbers)) l)
       (λ high. absurd (omega (arith, k .outside slot high)))
       (lt-or-le slot 62)
 

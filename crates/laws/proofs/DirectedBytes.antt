@@ -16,20 +16,24 @@ use Rattle.inbox.specs.Messages.{framed}
 use Rattle.queue.specs.declared.Queue.{Queue}
 use Rattle.queue.specs.Queues.{leastOf, mostOf, emptyQueue, spaceRefusal, sentIn, reportedTo, postedTo, placeOf, putBytes}
 
+-- p bytes were posted, `last` as the host counts them, from k on they are kept, and r were reported, t as the boat told
+pub record Numbers (p k r last t : ℕ) : Type 0 where
+  pub total : p ≡ last
+  pub space : p ≤ k + 2048
+  pub kept : k ≤ p
+  pub told : k ≤ r
+  pub most : r ≡ t
+  pub few : p ≤ 16777215
+
 -- the numbers q of the boat in `slot`, to which the bytes bs were posted in all and which told of t: those from the first kept on stand in the queue
 pub record Holds (queue : List ℕ) (slot : ℕ) (q : Queue) (bs : List ℕ) (t : ℕ) : Type 0 where
-  pub total : q .posted ≡ length bs
-  pub space : q .posted ≤ q .kept + 2048
-  pub kept : q .kept ≤ q .posted
-  pub told : q .kept ≤ q .reported
-  pub most : q .reported ≡ t
-  pub few : q .posted ≤ 16777215
+  pub numbers : Numbers (q .posted) (q .kept) (q .reported) (length bs) t
   pub fine : Bytes bs
   pub bytes : (o : ℕ) → q .kept ≤ o → o < length bs → getD queue (placeOf slot o) 0 ≡ getD bs o 0
 
 pub holds-none : (queue : List ℕ) (slot : ℕ) → Holds queue slot emptyQueue [] 0
 holds-none queue slot =
-    record { total = refl; space = omega arith; kept = omega arith; told = omega arith; most = refl; few = omega arith; fine = Bytes.none; bytes = λ o k l. absurd (omega arith) }
+    record { numbers = omega arith; fine = Bytes.none; bytes = λ o k l. absurd (omega arith) }
 
 -- ---- a report, and a sending
 
@@ -50,23 +54,18 @@ most-cases a b c h k = by (ltb a b) refl
 pub holds-reported : (queue : List ℕ) (slot : ℕ) (q : Queue) (bs : List ℕ) (t n : ℕ) → Holds queue slot q bs t → Holds queue slot (reportedTo q n) bs (mostOf t n)
 holds-reported queue slot q bs t n h =
     let l = least-cases n (q .posted) in
-    let m = most-cases (q .kept) (leastOf n (q .posted)) (q .posted) (h .kept) (l .1) in
+    let w = h .numbers in
+    let m = most-cases (q .kept) (leastOf n (q .posted)) (q .posted) (w .kept) (l .1) in
     let r = most-cases (q .reported) n (q .reported + n) (omega arith) (omega arith) in
-    let g = most-cases (q .kept) (leastOf n (q .posted)) (mostOf (q .reported) n) (omega (arith, h .told, r .0)) (omega (arith, l .0, r .1)) in
+    let g = most-cases (q .kept) (leastOf n (q .posted)) (mostOf (q .reported) n) (omega (arith, w .told, r .0)) (omega (arith, l .0, r .1)) in
     record {
-      total = h .total;
-      space = omega (arith, h .space, m .0);
-      kept = m .2;
-      told = g .2;
-      most = ap (λ (x : ℕ). mostOf x n) (h .most);
-      few = h .few;
+      numbers = record { total = w .total; space = omega (arith, w .space, m .0); kept = m .2; told = g .2; most = ap (λ (x : ℕ). mostOf x n) (w .most); few = w .few };
       fine = h .fine;
       bytes = λ o k i. h .bytes o (omega (arith, m .0)) i;
     }
 
 pub holds-sent : (queue : List ℕ) (slot : ℕ) (q : Queue) (bs : List ℕ) (t round : ℕ) → Holds queue slot q bs t → Holds queue slot (sentIn q round) bs t
-holds-sent queue slot q bs t round h =
-    record { total = h .total; space = h .space; kept = h .kept; told = h .told; most = h .most; few = h .few; fine = h .fine; bytes = h .bytes }
+holds-sent queue slot q bs t round h = record { numbers = h .numbers; fine = h .fine; bytes = h .bytes }
 
 -- ---- bytes written
 
@@ -125,21 +124,16 @@ holds-posted queue slot q bs message t long e ms h =
     let v : length w ≡ n + 2 = omega arith in
     let u = length-append bs w in
     record {
-      total = omega (arith, h .total);
-      space = omega (arith, f .1);
-      kept = omega (arith, h .kept);
-      told = h .told;
-      most = h .most;
-      few = omega (arith, f .2);
+      numbers = omega (arith, h .numbers, f .1, f .2);
       fine = bytes-both (h .fine) (framed-bytes message (f .0) ms);
       bytes = λ o k l.
           ⊎-elim
           (λ a.
-          put-other w queue slot (q .posted) (placeOf slot o) (λ j b z. omega (arith, h .total, f .1))
+          put-other w queue slot (q .posted) (placeOf slot o) (λ j b z. omega (arith, h .numbers, f .1))
           ∙ h .bytes o k a ∙ sym (List·getD-append bs w 0 o a))
           (λ a.
           let j = o - length bs in
-          let z : q .posted + j ≡ o = omega (arith, h .total) in
+          let z : q .posted + j ≡ o = omega (arith, h .numbers .total) in
           let y : length bs + j ≡ o = omega arith in
           ap (λ (i : ℕ). getD (putBytes queue slot (q .posted) w) (placeOf slot i) 0) (sym z) ∙ put-here w queue slot (q .posted) j (omega (arith, f .0)) (omega arith) long
           ∙ sym (ap (λ (i : ℕ). getD (bs ++ w) i 0) (sym y) ∙ getD-append-add bs w j 0))
@@ -149,16 +143,7 @@ holds-posted queue slot q bs message t long e ms h =
 -- to another
 pub holds-other : (queue : List ℕ) (slot other o : ℕ) (q : Queue) (bs ws : List ℕ) (t : ℕ) → (other ≡ slot → ⊥) → Holds queue slot q bs t → Holds (putBytes queue other o ws) slot q bs t
 holds-other queue slot other o q bs ws t n h =
-    record {
-      total = h .total;
-      space = h .space;
-      kept = h .kept;
-      told = h .told;
-      most = h .most;
-      few = h .few;
-      fine = h .fine;
-      bytes = λ i k l. put-other ws queue other o (placeOf slot i) (λ j b z. n (omega arith)) ∙ h .bytes i k l;
-    }
+    record { numbers = h .numbers; fine = h .fine; bytes = λ i k l. put-other ws queue other o (placeOf slot i) (λ j b z. n (omega arith)) ∙ h .bytes i k l }
 
 -- ---- of all slots
 

@@ -124,9 +124,9 @@ module _ (queue : List ℕ) (posted : ℕ → List ℕ) (told : ℕ → ℕ) whe
       let level = reachLevel s slot in
       let h : Holds queue slot q (posted slot) (told slot) = subst (λ (j : ℕ). Holds queue slot (getD (s .queues) j emptyQueue) (posted slot) (told slot)) (sym (index-is slot l)) (k .each slot l) in
       let m = most-least (q .reported) (q .kept) (ltb (q .reported) (q .kept)) refl in
-      subst (λ (n : ℕ). DownFrames posted told (headWords level 0 0 level ++ downFrames (roomAt (s .settings) level) queue slot (payloadAt (s .settings) level) n (firstOf q))) (sym (h .total))
-      (down-burst posted told queue slot l (h .fine) (omega (arith, h .few, h .total)) level (roomAt (s .settings) level) (payloadAt (s .settings) level) (firstOf q)
-      (least-le (getD (s .settings .payloads) level 0) 255) (omega (arith, h .most, m .0)) (λ j a b. h .bytes j (omega (arith, m .1)) b))
+      subst (λ (n : ℕ). DownFrames posted told (headWords level 0 0 level ++ downFrames (roomAt (s .settings) level) queue slot (payloadAt (s .settings) level) n (firstOf q))) (sym (h .numbers .total))
+      (down-burst posted told queue slot l (h .fine) (omega (arith, h .numbers)) level (roomAt (s .settings) level) (payloadAt (s .settings) level) (firstOf q)
+      (least-le (getD (s .settings .payloads) level 0) 255) (omega (arith, h .numbers .most, m .0)) (λ j a b. h .bytes j (omega (arith, m .1)) b))
 
   fine-word : (s : Station) (slot : ℕ) → isMember (s .used) slot ≡ true → Keeps s → Fine (directBurst s queue slot)
   unfolding directBurst

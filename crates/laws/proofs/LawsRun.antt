@@ -82,11 +82,11 @@ pub boats-run : (g : Settings) → BoatsRun (two-boats (three-cells g))
 unfolding step after result admitOf admitRefusal newStation seatOf findCall first lowestFree hasBit withBit withoutBit leadsTo unpacked digit char trimStart trimEnd isMember pieceFrame accept widened widenedAt ownCell putOf cells.accept showsOf settle grow store await seek next pieces-of
 boats-run g =
     record {
+      quiet = refl;
+      quiet-too = refl;
       first = record { boat = refl; short = omega arith };
       second = record { boat = refl; short = omega arith };
       cells = record { one = 0; other = 1; apart = λ e. omega arith; for-x = inr (omega arith, refl); for-y = inr (omega arith, refl) };
-      quiet = refl;
-      quiet-too = refl;
       before = refl;
       behind = refl;
       joined = refl;

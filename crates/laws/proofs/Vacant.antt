@@ -28,6 +28,7 @@ use Rattle.net.specs.declared.Wait.{Wait}
 use Rattle.net.specs.State.{indexOf, memberAt, withMembers, withMember, withUsed, withWait, withHears, withTable, tableOf}
 use Rattle.net.specs.Net.{isMember}
 use Rattle.net.proofs.Laws.{index-is, member-lt, member-has}
+use Rattle.signoff.specs.SignOff.{vacant}
 use Rattle.promise.proofs.WalkRoster.{set-every}
 use Rattle.laws.specs.FreeSlots.{Apart, Blank, BlankIn}
 
@@ -49,6 +50,15 @@ differ used i j h f e = never-both (hasBit used i) (subst (λ (y : ℕ). hasBit 
 pub index-has : (used slot : ℕ) → isMember used slot ≡ true → hasBit used (indexOf slot) ≡ true
 index-has used slot h = ap (hasBit used) (index-is slot (member-lt used slot h)) ∙ member-has used slot h
 
+-- other boats, or other cells
+with-boats : {i : ℕ} {ms new : List Member} {hears : List ℕ} {a n r : ℕ} {y : Turn} {busy : ℕ} {owners : List ℕ} → Blank i ms hears a n r y busy owners
+    → getD new i noMember ≡ vacant → ((j : ℕ) → hasBit (getD new j noMember .tried) i ≡ false) → Blank i new hears a n r y busy owners
+with-boats b m t = record { member = m; row = b .row; toack = b .toack; treenews = b .treenews; list = b .list; tried = t; turn = b .turn; cells = b .cells }
+
+with-cells : {i : ℕ} {ms : List Member} {hears : List ℕ} {a n r : ℕ} {y : Turn} {busy free : ℕ} {owners new : List ℕ} → Blank i ms hears a n r y busy owners
+    → ((c : ℕ) → hasBit free c ≡ true → getD new c 0 / 4294967296 ≡ i → ⊥) → Blank i ms hears a n r y free new
+with-cells b f = record { member = b .member; row = b .row; toack = b .toack; treenews = b .treenews; list = b .list; tried = b .tried; turn = b .turn; cells = f }
+
 module _ (i : ℕ) (low : i < 62) where
   -- a boat written, whose tried list does not name the slot
   pub put-kept : (s : Station) (j : ℕ) (m : Member) → hasBit (s .used) j ≡ true → (hasBit (s .used) i ≡ false → BlankIn i s → hasBit (m .tried) i ≡ false)
@@ -62,16 +72,7 @@ module _ (i : ℕ) (low : i < 62) where
         blank = λ f.
             let b = k .blank f in
             let n : i ≡ j → ⊥ = λ e. differ (s .used) i j h f (sym e) in
-            record {
-              member = getD-set-other (s .members) j i m noMember n ∙ b .member;
-              row = b .row;
-              toack = b .toack;
-              treenews = b .treenews;
-              list = b .list;
-              turn = b .turn;
-              cells = b .cells;
-              tried = set-every (λ (x : Member). hasBit (x .tried) i ≡ false) (s .members) j m (t f b) (b .tried);
-            };
+            with-boats b (getD-set-other (s .members) j i m noMember n ∙ b .member) (set-every (λ (x : Member). hasBit (x .tried) i ≡ false) (s .members) j m (t f b) (b .tried));
       }
 
   -- with its tried list as it was
@@ -93,16 +94,8 @@ module _ (i : ℕ) (low : i < 62) where
         blank = λ f.
             let n : c ≡ i → ⊥ = λ e. never-both (hasBit (withBit (s .used) c) i) (subst (λ (y : ℕ). hasBit (withBit (s .used) c) y ≡ true) e (with-same (s .used) c (omega arith))) f in
             let b = k .blank (sym (with-other (s .used) c i n) ∙ f) in
-            record {
-              member = getD-set-other (s .members) c i m noMember (λ e. n (sym e)) ∙ b .member;
-              row = b .row;
-              toack = b .toack;
-              treenews = b .treenews;
-              list = b .list;
-              turn = b .turn;
-              cells = b .cells;
-              tried = set-every (λ (x : Member). hasBit (x .tried) i ≡ false) (s .members) c m (ap (λ (t : ℕ). hasBit t i) none ∙ has-none i) (b .tried);
-            };
+            with-boats b (getD-set-other (s .members) c i m noMember (λ e. n (sym e)) ∙ b .member)
+            (set-every (λ (x : Member). hasBit (x .tried) i ≡ false) (s .members) c m (ap (λ (t : ℕ). hasBit t i) none ∙ has-none i) (b .tried));
       }
 
   -- the round's lists written
@@ -139,17 +132,11 @@ module _ (i : ℕ) (low : i < 62) where
         wide = length-set (s .hears) (r * 62 + c) q ∙ k .wide;
         many = k .many;
         held = k .held;
-        blank = λ f. let b = k .blank f in
-            record {
-              member = b .member;
-              row = λ j a. getD-set-other (s .hears) (r * 62 + c) (i * 62 + j) q 0 (λ z. differ (s .used) i r here f (omega arith)) ∙ b .row j a;
-              toack = b .toack;
-              treenews = b .treenews;
-              list = b .list;
-              tried = b .tried;
-              turn = b .turn;
-              cells = b .cells;
-            };
+        blank = λ f.
+            let b = k .blank f in
+            let w : (j : ℕ) → j < 62 → getD (set (s .hears) (r * 62 + c) q) (i * 62 + j) 0 ≡ 63 =
+            λ j a. getD-set-other (s .hears) (r * 62 + c) (i * 62 + j) q 0 (λ z. differ (s .used) i r here f (omega arith)) ∙ b .row j a in
+            record { member = b .member; row = w; toack = b .toack; treenews = b .treenews; list = b .list; tried = b .tried; turn = b .turn; cells = b .cells };
       }
 
   -- a cell is freed
@@ -160,8 +147,7 @@ module _ (i : ℕ) (low : i < 62) where
         wide = k .wide;
         many = k .many;
         held = λ c h. k .held c (still cell c h);
-        blank = λ f. let b = k .blank f in
-            record { member = b .member; row = b .row; toack = b .toack; treenews = b .treenews; list = b .list; tried = b .tried; turn = b .turn; cells = λ c h e. b .cells c (still cell c h) e };
+        blank = λ f. let b = k .blank f in with-cells b (λ c h e. b .cells c (still cell c h) e);
       }
     where
       still : (c d : ℕ) → hasBit (withoutBit (s .busy) c) d ≡ true → hasBit (s .busy) d ≡ true
@@ -194,17 +180,9 @@ module _ (i : ℕ) (low : i < 62) where
             many = length-set (s .owners) c (ownerOf slot n) ∙ k .many;
             held = λ d u. ⊎-elim (λ x. omega arith) (λ x. k .held d (sym (with-other (s .busy) c d (λ v. x (sym v))) ∙ u)) (eq-or-not d c);
             blank = λ f. let b = k .blank f in
-                record {
-                  member = b .member;
-                  row = b .row;
-                  toack = b .toack;
-                  treenews = b .treenews;
-                  list = b .list;
-                  tried = b .tried;
-                  turn = b .turn;
-                  cells = λ d u e.
-                      ⊎-elim (λ x. owns n (let v = y .low in omega arith) f (ap (λ (v : ℕ). v / 4294967296) (sym (ap (λ (v : ℕ). getD (set (s .owners) c (ownerOf slot n)) v 0) x ∙ getD-set-same (s .owners) c (ownerOf slot n) 0 (omega arith))) ∙ e))
-                      (λ x. b .cells d (sym (with-other (s .busy) c d (λ v. x (sym v))) ∙ u) (ap (λ (v : ℕ). v / 4294967296) (sym (getD-set-other (s .owners) c d (ownerOf slot n) 0 x)) ∙ e))
-                      (eq-or-not d c);
-                };
+                with-cells b
+                (λ d u e.
+                ⊎-elim (λ x. owns n (let v = y .low in omega arith) f (ap (λ (v : ℕ). v / 4294967296) (sym (ap (λ (v : ℕ). getD (set (s .owners) c (ownerOf slot n)) v 0) x ∙ getD-set-same (s .owners) c (ownerOf slot n) 0 (omega arith))) ∙ e))
+                (λ x. b .cells d (sym (with-other (s .busy) c d (λ v. x (sym v))) ∙ u) (ap (λ (v : ℕ). v / 4294967296) (sym (getD-set-other (s .owners) c d (ownerOf slot n) 0 x)) ∙ e))
+                (eq-or-not d c));
           }

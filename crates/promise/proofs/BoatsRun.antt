@@ -36,8 +36,8 @@ use Rattle.signoff.specs.SignOff.{bereaveAt, bereaveAll, clearAt, clearAll, unh
 use Rattle.station.specs.SignOff.{signOffRefusal, signOffOf}
 use Rattle.promise.specs.Promise.{handed, Net, net, Call, reading, signing, result, step, after, started, Stays, emptyBook, cover, alsoHanded, allBelow, bookFrame, bookFrames, bookEnds, eventsIn, answersOf, CallsOk, handedIn, Messages}
 use Rattle.promise.proofs.Item3.{item-3}
-use Rattle.promise.proofs.Runs.{starts, one-cell, joins, hears, hi, apart, near}
-use Rattle.promise.proofs.StayRun.{joins-too}
+use Rattle.promise.proofs.Runs.{starts, one-cell, joins, hears, hi, apart}
+use Rattle.promise.proofs.StayRun.{joins-too, whole}
 
 -- two cells
 abbrev bytes : List ℕ
@@ -71,25 +71,8 @@ boats-run g = record { events = refl; book = refl; read = refl }
 -- B's piece meets the premises, and nothing is asked of A's
 pub b-ok : (g : Settings) → CallsOk b-alone boats-calls (two-cells g) emptyBook
 unfolding CallsOk step after result admitOf admitRefusal newStation seatOf findCall first lowestFree hasBit withBit withoutBit leadsTo unpacked digit char trimStart trimEnd receiveOf receiveRefusal parse headOk framesOf itemAt frameOf payload unpack payloadOk wordOk pack framesWords ncsRx readFrames frameStep readFrame pieceFrame replyEnd isMember accept widened widenedAt ownCell putOf cells.accept showsOf settle grow store await seek next slideOf markOf stop eventsIn handedIn bookFrames bookFrame cover alsoHanded allBelow readRefusal cellRefusal readingOf
-b-ok g = (
-  tt,
-  (
-    tt,
-    (
-      (
-        tt,
-        (λ r. (
-          (λ m. absurd (apart m)),
-          (
-            (λ m. record { eight = refl; cut = record { short = omega arith; fits = omega arith; same = refl }; near = λ n w. near 0 n (omega arith) (λ b. apart (w .1 1 b)) }),
-            ((λ m. absurd (apart m)), tt),
-          ),
-        )),
-      ),
-      (tt, (tt, tt)),
-    ),
-  ),
-)
+b-ok g =
+    (tt, (tt, ((tt, λ r. ((λ m. absurd (apart m)), ((λ m. whole _ _ 1 104 105 refl (λ n l z. apart (l .1 1 z))), ((λ m. absurd (apart m)), tt)))), (tt, (tt, tt)))))
 
 -- so what is promised of B holds, from any start that is not refused
 pub b-promised : (s : Station) (g : Given) → startRefusal g 12800 ≡ 0 → Messages b-alone (started s g bytes) boats-calls
@@ -134,28 +117,8 @@ next-book g = refl
 
 pub next-ok : (g : Settings) → CallsOk next-alone next-calls (one-cell g) emptyBook
 unfolding CallsOk step after result admitOf admitRefusal newStation seatOf findCall first fold lowestFree hasBit withBit withoutBit leadsTo unpacked digit char trimStart trimEnd receiveOf receiveRefusal parse headOk framesOf itemAt frameOf payload unpack payloadOk wordOk pack framesWords ncsRx readFrames frameStep readFrame pieceFrame replyEnd isMember accept widened widenedAt ownCell putOf cells.accept showsOf settle grow seek next slideOf stop eventsIn handedIn bookFrames bookFrame cover alsoHanded allBelow readRefusal cellRefusal readingOf signOffOf signOffRefusal signOff bereaveAll bereaveAt clearAll clearAt unhearAll unhearAt bookEnds tally store await markOf
-next-ok g = (
-  tt,
-  (
-    (tt, λ r. ((λ m. absurd (apart m)), ((λ m. absurd (apart m)), tt))),
-    (
-      tt,
-      (
-        tt,
-        (
-          (
-            tt,
-            (λ r. (
-              (λ m. record { eight = refl; cut = record { short = omega arith; fits = omega arith; same = refl }; near = λ n w. near 0 n (omega arith) (λ b. apart (w .1 1 b)) }),
-              tt,
-            )),
-          ),
-          (tt, tt),
-        ),
-      ),
-    ),
-  ),
-)
+next-ok g =
+    (tt, ((tt, λ r. ((λ m. absurd (apart m)), ((λ m. absurd (apart m)), tt))), (tt, (tt, ((tt, λ r. ((λ m. whole _ _ 0 104 105 refl (λ n l z. apart (l .1 1 z))), tt)), (tt, tt))))))
 
 pub next-promised : (s : Station) (g : Given) → startRefusal g 6400 ≡ 0 → Messages next-alone (started s g (replicate 6400 7)) next-calls
 next-promised s g e =

@@ -29,14 +29,13 @@ use Rattle.station.specs.SignOff.{signOffRefusal}
 
 -- ---- the other boats
 
+-- all but the boats themselves
+abbrev Others : Station → Station → Type 0
+Others s r = (r .settings ≡ s .settings) × (r .wait ≡ s .wait) × (r .round ≡ s .round) × (tableOf r ≡ tableOf s) × (r .used ≡ s .used) × (r .hears ≡ s .hears)
+
 -- as the boats below k have been looked at, r is s with these changed
 pub record Bereaved (slot k : ℕ) (s r : Station) : Type 0 where
-  pub settings : r .settings ≡ s .settings
-  pub wait : r .wait ≡ s .wait
-  pub round : r .round ≡ s .round
-  pub table : tableOf r ≡ tableOf s
-  pub used : r .used ≡ s .used
-  pub hears : r .hears ≡ s .hears
+  pub others : Others s r
   pub long : length (r .members) ≡ 62
   pub member : (j : ℕ) → getD (r .members) j noMember
       ≡ cond (ltb j k && hasBit (s .used) j) (bereft slot (s .settings .misslimit) (getD (s .members) j noMember)) (getD (s .members) j noMember)
@@ -63,17 +62,12 @@ module _ (slot : ℕ) (s : Station) where
       here t e = ap (λ (u : Bool). after (u && hasBit (s .used) i) (getD (s .members) i noMember)) (lt-ltb i (i + 1) (omega arith)) ∙ ap (λ (u : Bool). after u (getD (s .members) i noMember)) e
 
       bit : (t : Bool) → hasBit (r .used) i ≡ t → hasBit (s .used) i ≡ t
-      bit t e = ap (λ (u : ℕ). hasBit u i) (sym (b .used)) ∙ e
+      bit t e = ap (λ (u : ℕ). hasBit u i) (sym (b .others .4)) ∙ e
 
       go : (t : Bool) → hasBit (r .used) i ≡ t → Bereaved slot (i + 1) s (cond t (withRecent (withSeated r i (bereft slot (r .settings .misslimit) (seated r i))) (set (r .recent) i (bereftOf slot (seated r i) (recentAt r i)))) r)
       go false e =
           record {
-            settings = b .settings;
-            wait = b .wait;
-            round = b .round;
-            table = b .table;
-            used = b .used;
-            hears = b .hears;
+            others = b .others;
             long = b .long;
             member = λ j. ⊎-elim (λ q. subst (λ (y : ℕ). getD (r .members) y noMember ≡ after (ltb y (i + 1) && hasBit (s .used) y) (getD (s .members) y noMember)) (sym q) (old ∙ sym (here false (bit false e)))) (other j) (eq-or-not j i);
           }
@@ -81,14 +75,9 @@ module _ (slot : ℕ) (s : Station) where
           let n = b .long in
           let m = bereft slot (r .settings .misslimit) (seated r i) in
           let same : m ≡ bereft slot (s .settings .misslimit) (getD (s .members) i noMember) =
-          ap (λ (g : Settings). bereft slot (g .misslimit) (seated r i)) (b .settings) ∙ ap (bereft slot (s .settings .misslimit)) old in
+          ap (λ (g : Settings). bereft slot (g .misslimit) (seated r i)) (b .others .0) ∙ ap (bereft slot (s .settings .misslimit)) old in
           record {
-            settings = b .settings;
-            wait = b .wait;
-            round = b .round;
-            table = b .table;
-            used = b .used;
-            hears = b .hears;
+            others = b .others;
             long = length-set (r .members) i m ∙ b .long;
             member = λ j. ⊎-elim (λ q. subst (λ (y : ℕ). getD (set (r .members) i m) y noMember ≡ after (ltb y (i + 1) && hasBit (s .used) y) (getD (s .members) y noMember)) (sym q)
                 (getD-set-same (r .members) i m noMember (omega arith) ∙ same ∙ sym (here true (bit true e))))
@@ -106,7 +95,7 @@ module _ (slot : ℕ) (s : Station) where
   unfolding bereaveAll
   bereaved long =
       bereave-go 62 0 s (omega arith)
-      (record { settings = refl; wait = refl; round = refl; table = refl; used = refl; hears = refl; long = long; member = λ j. ap (λ (t : Bool). after (t && hasBit (s .used) j) (getD (s .members) j noMember)) (sym (le-ltb j 0 (omega arith))) })
+      (record { others = (refl, refl, refl, refl, refl, refl); long = long; member = λ j. ap (λ (t : Bool). after (t && hasBit (s .used) j) (getD (s .members) j noMember)) (sym (le-ltb j 0 (omega arith))) })
 
 -- ---- the whole
 
@@ -128,8 +117,8 @@ module _ (slot : ℕ) (s : Station) (low : slot < 62) (long : length (s .members
   abbrev gone : Station
   gone = leave slot (struckOff slot s)
 
-  others : (i : ℕ) → (i ≡ slot → ⊥) → getD (gone .members) i noMember ≡ getD (s .members) i noMember
-  others i z = getD-set-other (s .members) slot i vacant noMember z
+  unchanged : (i : ℕ) → (i ≡ slot → ⊥) → getD (gone .members) i noMember ≡ getD (s .members) i noMember
+  unchanged i z = getD-set-other (s .members) slot i vacant noMember z
 
   left-out : (i : ℕ) → (i ≡ slot → ⊥) → hasBit (withoutBit (s .used) slot) i ≡ hasBit (s .used) i
   left-out i z = without-other (s .used) slot i (λ e. z (sym e))
@@ -138,19 +127,19 @@ module _ (slot : ℕ) (s : Station) (low : slot < 62) (long : length (s .members
   unfolding isMember
   signed-by b =
       record {
-        settings = b .settings;
-        wait = b .wait;
-        round = b .round;
-        table = b .table;
-        used = b .used;
-        hears = b .hears;
+        settings = b .others .0;
+        wait = b .others .1;
+        round = b .others .2;
+        table = b .others .3;
+        used = b .others .4;
+        hears = b .others .5;
         long = b .long;
         boat = λ i h z. b .member i
             ∙ ap (λ (t : Bool). after slot gone t (getD (gone .members) i noMember)) (ap (λ (t : Bool). ltb i 62 && t) (left-out i z) ∙ h)
-            ∙ ap (bereft slot (s .settings .misslimit)) (others i z);
+            ∙ ap (bereft slot (s .settings .misslimit)) (unchanged i z);
         empty = λ i h z. b .member i
             ∙ ap (λ (t : Bool). after slot gone t (getD (gone .members) i noMember)) (ap (λ (t : Bool). ltb i 62 && t) (left-out i z) ∙ h)
-            ∙ others i z;
+            ∙ unchanged i z;
         here = b .member slot
             ∙ ap (λ (t : Bool). after slot gone (ltb slot 62 && t) (getD (gone .members) slot noMember)) (without-same (s .used) slot)
             ∙ nothing (ltb slot 62)

@@ -1,9 +1,9 @@
 -- The definitions run over a sign-off: a boat hands over number 0, signs off, and the next holder of its slot hands over its own number 0. And a piece of a former
 -- stay is not to arrive: `former` breaks that premise alone, and the promise is refuted. By computation; assumes nothing.
-use mathlib.Core.Path.{_≡_, refl, ap, subst}
+use mathlib.Core.Path.{_≡_, refl, sym, ap, subst}
 use mathlib.Core.Bool.{cond, true}
 use mathlib.Core.List.{List, [], _∷_, _++_}
-use Prim.Native.Nat.{ℕ, _≤_}
+use Prim.Native.Nat.{ℕ, _≤_, _<_}
 use native.Mathlib.Omega.{arith}
 use lib.Dec.{eqb}
 use lib.ListN.{length, getD, replicate}
@@ -19,7 +19,7 @@ use Rattle.words.specs.Words.{heard, wordOk, payloadOk, unpack, payload, frameO
 use Rattle.out.specs.Encode.{pack, framesWords}
 use Rattle.inbox.specs.Cells.{seek, next, grow, settle}
 use Rattle.inbox.specs.Cells as cells
-use Rattle.inbox.specs.Messages.{framed, showsOf}
+use Rattle.inbox.specs.Messages.{framed, showsOf, Cut}
 use Rattle.stream.specs.Window.{slideOf}
 use Rattle.stream.specs.Table.{ownCell, putOf, accept}
 use Rattle.roster.specs.Members.{tally}
@@ -39,7 +39,7 @@ use Rattle.config.specs.Checks.{settingsOf}
 use Rattle.station.specs.Entries.{startRefusal, admitRefusal, admitOf, receiveRefusal, receiveOf, cellRefusal, readRefusal, readingOf}
 use Rattle.signoff.specs.SignOff.{bereaveAt, bereaveAll, clearAt, clearAll, unhearAt, unhearAll, strikeWait, vacant, signOff}
 use Rattle.station.specs.SignOff.{signOffRefusal, signOffOf}
-use Rattle.promise.specs.Promise.{handed, Net, net, Call, admission, reading, signing, result, outcome, step, after, started, Stays, emptyBook, cover, alsoHanded, allBelow, bookFrame, bookFrames, eventsIn, answersOf, bookEnds, CallsOk, Holds, handedIn, Messages}
+use Rattle.promise.specs.Promise.{handed, Net, net, Call, Sent, Ledger, Lowest, PieceOk, admission, reading, signing, result, outcome, step, after, started, Stays, emptyBook, cover, alsoHanded, allBelow, bookFrame, bookFrames, eventsIn, answersOf, bookEnds, CallsOk, Holds, handedIn, Messages}
 use Rattle.promise.proofs.Item3.{item-3}
 use Rattle.promise.proofs.Runs.{nought, plain, one-cell, starts, joins, hears, hi, apart, near}
 
@@ -78,39 +78,19 @@ stay-run g = record { taken = refl; freed = refl; gone = refl; silent = refl; no
 
 -- the premises hold of it
 
+-- of number 0 as one piece, of two bytes, while number 1 is not handed over
+pub whole : (M : Sent) (l : Ledger) (s a b : ℕ) → M .text s 0 ≡ a ∷ b ∷ [] → ((n : ℕ) → Lowest l s n → 1 < n → ⊥) → PieceOk M l s 0 0 (framed (a ∷ b ∷ []))
+whole M l s a b e f =
+    record {
+      eight = refl;
+      cut = subst (λ (m : List ℕ). Cut (framed m) 0 (framed (a ∷ b ∷ []))) (sym e) (record { short = omega arith; fits = omega arith; same = refl });
+      near = λ n w. near 0 n (omega arith) (f n w);
+    }
+
 pub stay-ok : (g : Settings) → CallsOk hi-then-ho stay-calls (one-cell g) emptyBook
 unfolding CallsOk step after result admitOf admitRefusal newStation seatOf findCall first fold lowestFree hasBit withBit withoutBit leadsTo unpacked digit char trimStart trimEnd receiveOf receiveRefusal parse headOk framesOf itemAt frameOf payload unpack payloadOk wordOk pack framesWords ncsRx readFrames frameStep readFrame pieceFrame replyEnd isMember accept widened widenedAt ownCell putOf cells.accept showsOf settle grow seek next slideOf stop eventsIn handedIn bookFrames bookFrame cover alsoHanded allBelow readRefusal cellRefusal readingOf signOffOf signOffRefusal signOff bereaveAll bereaveAt clearAll clearAt unhearAll unhearAt bookEnds tally
-stay-ok g = (
-  tt,
-  (
-    (
-      tt,
-      (λ r. (
-        (λ m. record { eight = refl; cut = record { short = omega arith; fits = omega arith; same = refl }; near = λ n w. near 0 n (omega arith) (λ b. apart (w .1 1 b)) }),
-        tt,
-      )),
-    ),
-    (
-      tt,
-      (
-        tt,
-        (
-          tt,
-          (
-            (
-              tt,
-              (λ r. (
-                (λ m. record { eight = refl; cut = record { short = omega arith; fits = omega arith; same = refl }; near = λ n w. near 0 n (omega arith) (λ b. apart (w .1 1 b)) }),
-                tt,
-              )),
-            ),
-            (tt, tt),
-          ),
-        ),
-      ),
-    ),
-  ),
-)
+stay-ok g =
+    (tt, ((tt, λ r. ((λ m. whole _ _ 0 104 105 refl (λ n l z. apart (l .1 1 z))), tt)), (tt, (tt, (tt, ((tt, λ r. ((λ m. whole _ _ 0 104 111 refl (λ n l z. apart (l .1 1 z))), tt)), (tt, tt)))))))
 
 short : (s t k : ℕ) → true ≡ true → length (hi-then-ho .text s t k) ≤ 2046
 short s t k on = cond-keeps (λ (l : List ℕ). length l ≤ 2046) (eqb t 0) (104 ∷ 105 ∷ []) (104 ∷ 111 ∷ []) (λ _. omega arith) (λ _. omega arith)
