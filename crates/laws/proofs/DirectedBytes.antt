@@ -59,7 +59,15 @@ holds-reported queue slot q bs t n h =
     let r = most-cases (q .reported) n (q .reported + n) (omega arith) (omega arith) in
     let g = most-cases (q .kept) (leastOf n (q .posted)) (mostOf (q .reported) n) (omega (arith, w .told, r .0)) (omega (arith, l .0, r .1)) in
     record {
-      numbers = record { total = w .total; space = omega (arith, w .space, m .0); kept = m .2; told = g .2; most = ap (λ (x : ℕ). mostOf x n) (w .most); few = w .few };
+      numbers = record {
+        total = w .total;
+        space = omega (arith, w .space, m .0);
+        kept = m .2;
+        told = g .2;
+        most = ap (λ (x : ℕ). mostOf x n)
+            (w .most);
+        few = w .few;
+      };
       fine = h .fine;
       bytes = λ o k i. h .bytes o (omega (arith, m .0)) i;
     }

@@ -68,13 +68,15 @@ over-alike : (s : Station) (slot source : ℕ) → Alike s (turnOverIn s slot so
 over-alike s slot source = cond-keeps (Alike s) (isMember (s .used) source) _ s (λ _. (refl, refl)) (λ _. (refl, refl))
 
 -- a burst is word back, or has no frame of it
-module _ {F : Type 0} {now : Float} {lent : List ℕ} {s : Station} (P : Said → Type 0) (back : F → (slot : ℕ) → isMember (s .used) slot ≡ true → P (directBurst s lent slot))
+module _ {F : Type 0} {now : Float} {lent : List ℕ} {s : Station} (P : Said → Type 0)
+    (back : F → (slot : ℕ) → isMember (s .used) slot ≡ true → P (directBurst s lent slot))
     (other : (x : Said) → Alike s (x .station) → Other (x .words) → P x) where
   sends-cases : {x : Said} {o : Option ℕ} → Sends F now lent s x o → P x
   unfolding acksBurst beaconOf
   sends-cases Sends.nothing = other _ (refl, refl) Other.none
   sends-cases Sends.closing = other _ (refl, refl) (other-tiny kClose 0 (s .settings .beaconlevel))
-  sends-cases (Sends.again r e z) = other _ (refl, refl) (poll-other (s .settings) (isMember (s .used) (r .slot)) (memberAt s (r .slot)) (r .slot) (r .relayfor) true)
+  sends-cases (Sends.again r e z) =
+      other _ (refl, refl) (poll-other (s .settings) (isMember (s .used) (r .slot)) (memberAt s (r .slot)) (r .slot) (r .relayfor) true)
   sends-cases (Sends.beacon f e) = other (beaconOf s now) (refl, refl) (beacon-other s now)
   sends-cases (Sends.acks f e) = other (acksBurst s) (refl, refl) (acks-other s)
   sends-cases (Sends.list f e) =
@@ -124,7 +126,8 @@ module _ (queue : List ℕ) (posted : ℕ → List ℕ) (told : ℕ → ℕ) whe
       let level = reachLevel s slot in
       let h : Holds queue slot q (posted slot) (told slot) = subst (λ (j : ℕ). Holds queue slot (getD (s .queues) j emptyQueue) (posted slot) (told slot)) (sym (index-is slot l)) (k .each slot l) in
       let m = most-least (q .reported) (q .kept) (ltb (q .reported) (q .kept)) refl in
-      subst (λ (n : ℕ). DownFrames posted told (headWords level 0 0 level ++ downFrames (roomAt (s .settings) level) queue slot (payloadAt (s .settings) level) n (firstOf q))) (sym (h .numbers .total))
+      subst (λ (n : ℕ). DownFrames posted told
+      (headWords level 0 0 level ++ downFrames (roomAt (s .settings) level) queue slot (payloadAt (s .settings) level) n (firstOf q))) (sym (h .numbers .total))
       (down-burst posted told queue slot l (h .fine) (omega (arith, h .numbers)) level (roomAt (s .settings) level) (payloadAt (s .settings) level) (firstOf q)
       (least-le (getD (s .settings .payloads) level 0) 255) (omega (arith, h .numbers .most, m .0)) (λ j a b. h .bytes j (omega (arith, m .1)) b))
 
@@ -133,7 +136,8 @@ module _ (queue : List ℕ) (posted : ℕ → List ℕ) (told : ℕ → ℕ) whe
   fine-word s slot here k = (down-ok s slot (member-lt (s .used) slot here) k, kept-sent (s .queues) (indexOf slot) (s .round .number) (index-lt slot) k)
 
   fine-spoken : {F : Type 0} {now : Float} {n : ℕ} {s : Station} {x : Said} {a b o : Option ℕ} → Spoken uncelled F now queue n s x a b o → Keeps s → Fine x
-  fine-spoken {s = s} (Spoken.burst b) k = sends-cases Fine (λ f slot here. fine-word s slot here k) (λ x h o. (down-other posted told o, keeps-from (h .1) k)) b
+  fine-spoken {s = s} (Spoken.burst b) k =
+      sends-cases Fine (λ f slot here. fine-word s slot here k) (λ x h o. (down-other posted told o, keeps-from (h .1) k)) b
   fine-spoken (Spoken.events {x = x} q h e m) k =
       let f = fine-spoken m (keeps-from (h .boats (λ n. n) .1) k) in
       (down-first posted told (x .words) (events-other e) (f .0), f .1)

@@ -299,7 +299,8 @@ module _ (queue : List ℕ) (posted : ℕ → List ℕ) where
 
     tiny-alike : (h : Head) (s : Station) → Alike s (cond (eqb (h .hi) kIdle) (idleEnd a (h .extra) s) (nothingMore s) .station)
     tiny-alike h s =
-        cond-keeps (λ (e : Ended). Alike s (e .station)) (eqb (h .hi) kIdle) _ _ (λ _. spoken-alike (idle-spoken uncelled tt (a .time) [] 0 a tt (h .extra) s)) (λ _. (refl, refl))
+        cond-keeps (λ (e : Ended). Alike s (e .station)) (eqb (h .hi) kIdle) _ _ (λ _. spoken-alike (idle-spoken uncelled tt (a .time) [] 0 a tt (h .extra) s))
+        (λ _. (refl, refl))
 
     rx-by : {told : ℕ → ℕ} (t : Bool) (b : Burst) (x : Reading) → length (x .seen) ≡ 0 → In told (x .station)
         → In (toldBy (cond t [] (b .frames)) 0 (cond t (tinyBurst a (b .head) x) (fullBurst a (b .head) (readFrames a (b .frames) x)) .seen) told)
@@ -308,7 +309,8 @@ module _ (queue : List ℕ) (posted : ℕ → List ℕ) where
     rx-by true b x e k = sound-alike (x .station) (tinyBurst a (b .head) x .station) (tiny-alike (b .head) (x .station)) k
     rx-by {told} false b x e k =
         let y = readFrames a (b .frames) x in
-        sound-alike (y .station) (replyEnd a (b .head) y .station) (spoken-alike (reply-spoken uncelled tt (a .time) [] 0 a tt (b .head) y)) (sound-frames (b .frames) x 0 told e k)
+        sound-alike (y .station) (replyEnd a (b .head) y .station) (spoken-alike (reply-spoken uncelled tt (a .time) [] 0 a tt (b .head) y))
+        (sound-frames (b .frames) x 0 told e k)
 
   pub rx-sound : {told : ℕ → ℕ} (s : Station) (b : Burst) (snr now : Float) (store : List ℕ) → In told s
       → In (toldBy (framesBy (parsed b)) 0 (ncsRx s b snr now store .seen) told) (ncsRx s b snr now store .station)

@@ -250,7 +250,8 @@ sound-by false r d o ws v k s f =
     (sound-before r (markIf d ++ (sentIn ws ++ v)) (drewIf d ++ ((burstsIn ws ++ overIf o) ++ k))
     (sound-mark d (sentIn ws ++ v) ((burstsIn ws ++ overIf o) ++ k) (sound-burst v k s f)))
 
-sound-call : (c : Call) (n : Net) (v : List ℕ) (k : List TurnEvent) → ((slot : ℕ) → c ≡ signing slot → ⊥) → Logged (outcome c n .words) (behindOf c n) → Sound v k → Sound (logOf c n ++ v) (turnEvents c n ++ k)
+sound-call : (c : Call) (n : Net) (v : List ℕ) (k : List TurnEvent) → ((slot : ℕ) → c ≡ signing slot → ⊥) → Logged (outcome c n .words) (behindOf c n)
+    → Sound v k → Sound (logOf c n ++ v) (turnEvents c n ++ k)
 unfolding logOf turnEvents
 sound-call c n v k z s f =
     let e = events-are c n z in
@@ -272,7 +273,8 @@ unfolding logFrom trace after step
 sound [] n z o l = sound-none
 sound (c ∷ cs) n z o l =
     let e = settings-stay (step-walk all tt tt tt c n (λ words snr now lent room numbers q. tt)) in
-    sound-call c n (logFrom cs (step c n)) (trace cs (step c n)) (z .0) (reports c n (z .0) o (l (c ∷ []))) (sound cs (step c n) (z .1) (subst Sendable (sym e) o) (λ ds. l (c ∷ ds)))
+    sound-call c n (logFrom cs (step c n)) (trace cs (step c n)) (z .0) (reports c n (z .0) o (l (c ∷ [])))
+    (sound cs (step c n) (z .1) (subst Sendable (sym e) o) (λ ds. l (c ∷ ds)))
 
 new-settings : (g : Settings) (count : ℕ) → newStation g count .settings ≡ g
 unfolding newStation

@@ -91,7 +91,8 @@ down-ok s queue slot =
     let g = s .settings in
     let q = queueAt s slot in
     let level = reachLevel s slot in
-    burst-level level (downFrames (roomAt g level) queue slot (payloadAt g level) (q .posted) (firstOf q)) (reach-lt g (s .used) (seated s slot) (memberAt s (seated s slot .via)))
+    burst-level level (downFrames (roomAt g level) queue slot (payloadAt g level) (q .posted) (firstOf q))
+    (reach-lt g (s .used) (seated s slot) (memberAt s (seated s slot .via)))
     (frames-less (least-le (getD (g .rooms) level 0) 64) (frames-downs (roomAt g level) queue slot (payloadAt g level) (q .posted) (firstOf q) (least-le (getD (g .payloads) level 0) 255)))
     (word-other s queue slot)
 
@@ -120,7 +121,8 @@ module _ {F : Type 0} {now : Float} {lent : List ℕ} where
   sends-logged (Sends.ack r n heard e) g l = burst-ack _ _ (r .slot)
   sends-logged (Sends.idle r e) g l = burst-none (some (r .slot))
 
-  logged : {A : Allowed} {n : ℕ} {s : Station} {x : Said} {a b o : Option ℕ} → Spoken A F now lent n s x a b o → Sendable (s .settings) → LinksHold (x .station) → Logged (x .words) o
+  logged : {A : Allowed} {n : ℕ} {s : Station} {x : Said} {a b o : Option ℕ} → Spoken A F now lent n s x a b o → Sendable (s .settings)
+      → LinksHold (x .station) → Logged (x .words) o
   logged {x} (Spoken.burst b) g l = record { events = []; burst = x .words; words = refl; mute = mute-none; ok = sends-logged b g l }
   logged (Spoken.events {ws = ws} q h e k) g l =
       let f = logged k (subst Sendable (sym (h .settings)) g) l in
@@ -145,7 +147,8 @@ logged-unless n s store o behind f = by (eqb n 0)
     by false l = logged-mute [] behind mute-none
 
 -- one that returns no burst
-logged-quiet : (n : ℕ) (s t : Station) (store old ws : List ℕ) → Mute ws → LinksHold (unless n s store (done t old ws) .station) → Logged (unless n s store (done t old ws) .words) none
+logged-quiet : (n : ℕ) (s t : Station) (store old ws : List ℕ) → Mute ws → LinksHold (unless n s store (done t old ws) .station)
+    → Logged (unless n s store (done t old ws) .words) none
 logged-quiet n s t store old ws m = logged-unless n s store (done t old ws) none (λ l. logged-mute ws none m)
 
 logged-receive : (p : Parsed words.Burst) (n : ℕ) (s : Station) (snr now : Float) (store : List ℕ) → Sendable (s .settings)
@@ -153,26 +156,32 @@ logged-receive : (p : Parsed words.Burst) (n : ℕ) (s : Station) (snr now : Flo
     → Logged (unless n s store (receiveBy p s snr now store) .words) (ofBurst p none (λ b. ncsRx s b snr now store .over))
 logged-receive malformed n s snr now store g = logged-unless n s store (refused 3 s store) none (λ l. logged-mute [] none mute-none)
 logged-receive (parsed b) n s snr now store g =
-    logged-unless n s store (receiveBy (parsed b) s snr now store) (ncsRx s b snr now store .over) (λ l. logged (rx-spoken all tt now [] tt s b snr store tt) g l)
+    logged-unless n s store (receiveBy (parsed b) s snr now store) (ncsRx s b snr now store .over)
+    (λ l. logged (rx-spoken all tt now [] tt s b snr store tt) g l)
 
-pub reports : (c : Call) (n : Net) → ((slot : ℕ) → c ≡ signing slot → ⊥) → Sendable (n .station .settings) → LinksHold (outcome c n .station) → Logged (outcome c n .words) (behindOf c n)
+pub reports : (c : Call) (n : Net) → ((slot : ℕ) → c ≡ signing slot → ⊥) → Sendable (n .station .settings) → LinksHold (outcome c n .station)
+    → Logged (outcome c n .words) (behindOf c n)
 unfolding result admitOf receiveOf nextOf postOf sentOf closeOf freeOf onTxDone
 reports (admission packed relay now room) n f g =
     let s = n .station in
     let seat = seatOf s (unpackCall packed) in
     let a = admitted s (unpackCall packed) relay now in
-    logged-quiet (admitRefusal room now (s .used) relay (isFull seat)) s (a .station) [] [] (a .words) (admit-calm seat s (unpackCall packed) (viaFor s seat relay) now .quiet)
+    logged-quiet (admitRefusal room now (s .used) relay (isFull seat)) s (a .station) [] [] (a .words)
+    (admit-calm seat s (unpackCall packed) (viaFor s seat relay) now .quiet)
 reports (reception words snr now lent room numbers) n f g =
-    logged-receive (parse words) (receiveRefusal room (length (lentTo lent (n .store))) (n .station .count) now snr (parse words)) (n .station) snr now (lentTo lent (n .store)) g
+    logged-receive (parse words) (receiveRefusal room (length (lentTo lent (n .store))) (n .station .count) now snr (parse words)) (n .station) snr now
+    (lentTo lent (n .store)) g
 reports (decision now queue room) n f g =
     let s = n .station in
-    logged-unless (nextRefusal now (length queue) room) s [] (done (ncsNext s now queue .station) [] (ncsNext s now queue .words)) none (λ l. logged (next-spoken all tt now queue s) g l)
+    logged-unless (nextRefusal now (length queue) room) s [] (done (ncsNext s now queue .station) [] (ncsNext s now queue .words)) none
+    (λ l. logged (next-spoken all tt now queue s) g l)
 reports (posting slot message queue) n f g =
     logged-quiet (postRefusal (length queue) (n .station .used) slot (queueAt (n .station) slot) (length message)) (n .station) _ queue _ [] mute-none
 reports (sending now) n f g = logged-quiet (check1 now 0) (n .station) (onTxDone (n .station) now) [] [] [] mute-none
 reports (closing count) n f g = logged-quiet (closeRefusal count) (n .station) _ [] [] [] mute-none
 reports (reading cell lent) n f g =
-    logged-quiet (readRefusal (length (lentTo lent (n .store))) (n .station .count) (n .station .landed) cell) (n .station) (n .station) (n .store) (n .store) [] mute-none
+    logged-quiet (readRefusal (length (lentTo lent (n .store))) (n .station .count) (n .station .landed) cell) (n .station) (n .station) (n .store)
+    (n .store) [] mute-none
 reports (freeing cell) n f g = logged-quiet (cellRefusal (n .station .count) (n .station .landed) cell) (n .station) _ [] [] [] mute-none
 reports (charging figures) n f g = logged-quiet (duesRefusal figures) (n .station) (n .station) (n .store) (n .store) [] mute-none
 reports (signing slot) n f g = absurd (f slot refl)

@@ -50,14 +50,20 @@ differ used i j h f e = never-both (hasBit used i) (subst (λ (y : ℕ). hasBit 
 pub index-has : (used slot : ℕ) → isMember used slot ≡ true → hasBit used (indexOf slot) ≡ true
 index-has used slot h = ap (hasBit used) (index-is slot (member-lt used slot h)) ∙ member-has used slot h
 
--- other boats, or other cells
+-- other boats, another row, other cells
 with-boats : {i : ℕ} {ms new : List Member} {hears : List ℕ} {a n r : ℕ} {y : Turn} {busy : ℕ} {owners : List ℕ} → Blank i ms hears a n r y busy owners
     → getD new i noMember ≡ vacant → ((j : ℕ) → hasBit (getD new j noMember .tried) i ≡ false) → Blank i new hears a n r y busy owners
 with-boats b m t = record { member = m; row = b .row; toack = b .toack; treenews = b .treenews; list = b .list; tried = t; turn = b .turn; cells = b .cells }
 
+with-row : {i : ℕ} {ms : List Member} {hears new : List ℕ} {a n r : ℕ} {y : Turn} {busy : ℕ} {owners : List ℕ} → Blank i ms hears a n r y busy owners
+    → ((j : ℕ) → j < 62 → getD new (i * 62 + j) 0 ≡ 63) → Blank i ms new a n r y busy owners
+with-row b w =
+    record { member = b .member; row = w; toack = b .toack; treenews = b .treenews; list = b .list; tried = b .tried; turn = b .turn; cells = b .cells }
+
 with-cells : {i : ℕ} {ms : List Member} {hears : List ℕ} {a n r : ℕ} {y : Turn} {busy free : ℕ} {owners new : List ℕ} → Blank i ms hears a n r y busy owners
     → ((c : ℕ) → hasBit free c ≡ true → getD new c 0 / 4294967296 ≡ i → ⊥) → Blank i ms hears a n r y free new
-with-cells b f = record { member = b .member; row = b .row; toack = b .toack; treenews = b .treenews; list = b .list; tried = b .tried; turn = b .turn; cells = f }
+with-cells b f =
+    record { member = b .member; row = b .row; toack = b .toack; treenews = b .treenews; list = b .list; tried = b .tried; turn = b .turn; cells = f }
 
 module _ (i : ℕ) (low : i < 62) where
   -- a boat written, whose tried list does not name the slot
@@ -72,7 +78,8 @@ module _ (i : ℕ) (low : i < 62) where
         blank = λ f.
             let b = k .blank f in
             let n : i ≡ j → ⊥ = λ e. differ (s .used) i j h f (sym e) in
-            with-boats b (getD-set-other (s .members) j i m noMember n ∙ b .member) (set-every (λ (x : Member). hasBit (x .tried) i ≡ false) (s .members) j m (t f b) (b .tried));
+            with-boats b (getD-set-other (s .members) j i m noMember n ∙ b .member)
+            (set-every (λ (x : Member). hasBit (x .tried) i ≡ false) (s .members) j m (t f b) (b .tried));
       }
 
   -- with its tried list as it was
@@ -132,11 +139,8 @@ module _ (i : ℕ) (low : i < 62) where
         wide = length-set (s .hears) (r * 62 + c) q ∙ k .wide;
         many = k .many;
         held = k .held;
-        blank = λ f.
-            let b = k .blank f in
-            let w : (j : ℕ) → j < 62 → getD (set (s .hears) (r * 62 + c) q) (i * 62 + j) 0 ≡ 63 =
-            λ j a. getD-set-other (s .hears) (r * 62 + c) (i * 62 + j) q 0 (λ z. differ (s .used) i r here f (omega arith)) ∙ b .row j a in
-            record { member = b .member; row = w; toack = b .toack; treenews = b .treenews; list = b .list; tried = b .tried; turn = b .turn; cells = b .cells };
+        blank = λ f. let b = k .blank f in
+            with-row b (λ j a. getD-set-other (s .hears) (r * 62 + c) (i * 62 + j) q 0 (λ z. differ (s .used) i r here f (omega arith)) ∙ b .row j a);
       }
 
   -- a cell is freed
@@ -182,7 +186,10 @@ module _ (i : ℕ) (low : i < 62) where
             blank = λ f. let b = k .blank f in
                 with-cells b
                 (λ d u e.
-                ⊎-elim (λ x. owns n (let v = y .low in omega arith) f (ap (λ (v : ℕ). v / 4294967296) (sym (ap (λ (v : ℕ). getD (set (s .owners) c (ownerOf slot n)) v 0) x ∙ getD-set-same (s .owners) c (ownerOf slot n) 0 (omega arith))) ∙ e))
-                (λ x. b .cells d (sym (with-other (s .busy) c d (λ v. x (sym v))) ∙ u) (ap (λ (v : ℕ). v / 4294967296) (sym (getD-set-other (s .owners) c d (ownerOf slot n) 0 x)) ∙ e))
+                ⊎-elim (λ x. owns n (let v = y .low in omega arith) f
+                (ap (λ (v : ℕ). v / 4294967296)
+                (sym (ap (λ (v : ℕ). getD (set (s .owners) c (ownerOf slot n)) v 0) x ∙ getD-set-same (s .owners) c (ownerOf slot n) 0 (omega arith))) ∙ e))
+                (λ x. b .cells d (sym (with-other (s .busy) c d (λ v. x (sym v))) ∙ u)
+                (ap (λ (v : ℕ). v / 4294967296) (sym (getD-set-other (s .owners) c d (ownerOf slot n) 0 x)) ∙ e))
                 (eq-or-not d c));
           }

@@ -72,7 +72,7 @@ boats-run g = record { events = refl; book = refl; read = refl }
 pub b-ok : (g : Settings) → CallsOk b-alone boats-calls (two-cells g) emptyBook
 unfolding CallsOk step after result admitOf admitRefusal newStation seatOf findCall first lowestFree hasBit withBit withoutBit leadsTo unpacked digit char trimStart trimEnd receiveOf receiveRefusal parse headOk framesOf itemAt frameOf payload unpack payloadOk wordOk pack framesWords ncsRx readFrames frameStep readFrame pieceFrame replyEnd isMember accept widened widenedAt ownCell putOf cells.accept showsOf settle grow store await seek next slideOf markOf stop eventsIn handedIn bookFrames bookFrame cover alsoHanded allBelow readRefusal cellRefusal readingOf
 b-ok g =
-    (tt, (tt, ((tt, λ r. ((λ m. absurd (apart m)), ((λ m. whole _ _ 1 104 105 refl (λ n l z. apart (l .1 1 z))), ((λ m. absurd (apart m)), tt)))), (tt, (tt, tt)))))
+    (tt, (tt, ((tt, λ r. ((λ m. absurd (apart m)), ((λ m. whole _ _ 1 104 105 refl refl), ((λ m. absurd (apart m)), tt)))), (tt, (tt, tt)))))
 
 -- so what is promised of B holds, from any start that is not refused
 pub b-promised : (s : Station) (g : Given) → startRefusal g 12800 ≡ 0 → Messages b-alone (started s g bytes) boats-calls
@@ -118,7 +118,7 @@ next-book g = refl
 pub next-ok : (g : Settings) → CallsOk next-alone next-calls (one-cell g) emptyBook
 unfolding CallsOk step after result admitOf admitRefusal newStation seatOf findCall first fold lowestFree hasBit withBit withoutBit leadsTo unpacked digit char trimStart trimEnd receiveOf receiveRefusal parse headOk framesOf itemAt frameOf payload unpack payloadOk wordOk pack framesWords ncsRx readFrames frameStep readFrame pieceFrame replyEnd isMember accept widened widenedAt ownCell putOf cells.accept showsOf settle grow seek next slideOf stop eventsIn handedIn bookFrames bookFrame cover alsoHanded allBelow readRefusal cellRefusal readingOf signOffOf signOffRefusal signOff bereaveAll bereaveAt clearAll clearAt unhearAll unhearAt bookEnds tally store await markOf
 next-ok g =
-    (tt, ((tt, λ r. ((λ m. absurd (apart m)), ((λ m. absurd (apart m)), tt))), (tt, (tt, ((tt, λ r. ((λ m. whole _ _ 0 104 105 refl (λ n l z. apart (l .1 1 z))), tt)), (tt, tt))))))
+    (tt, ((tt, λ r. ((λ m. absurd (apart m)), ((λ m. absurd (apart m)), tt))), (tt, (tt, ((tt, λ r. ((λ m. whole _ _ 0 104 105 refl refl), tt)), (tt, tt))))))
 
 pub next-promised : (s : Station) (g : Given) → startRefusal g 6400 ≡ 0 → Messages next-alone (started s g (replicate 6400 7)) next-calls
 next-promised s g e =

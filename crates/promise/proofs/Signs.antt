@@ -95,7 +95,12 @@ module _ (slot : ℕ) (s : Station) where
   unfolding bereaveAll
   bereaved long =
       bereave-go 62 0 s (omega arith)
-      (record { others = (refl, refl, refl, refl, refl, refl); long = long; member = λ j. ap (λ (t : Bool). after (t && hasBit (s .used) j) (getD (s .members) j noMember)) (sym (le-ltb j 0 (omega arith))) })
+      (record {
+        others = (refl, refl, refl, refl, refl, refl);
+        long = long;
+        member = λ j. ap
+            (λ (t : Bool). after (t && hasBit (s .used) j) (getD (s .members) j noMember)) (sym (le-ltb j 0 (omega arith)));
+      })
 
 -- ---- the whole
 
@@ -163,12 +168,14 @@ pub record Beside (slot : ℕ) (s r : Station) : Type 0 where
 
 pub sign-beside : (s : Station) (slot : ℕ) → Beside slot s (signOff s slot)
 unfolding signOff bereaveAll
-sign-beside s slot = fold-keeps (Beside slot s) (bereaveAt slot) one 62 0 (leave slot (struckOff slot s)) (record { settings = refl; wait = refl; round = refl; table = refl })
+sign-beside s slot =
+    fold-keeps (Beside slot s) (bereaveAt slot) one 62 0 (leave slot (struckOff slot s)) (record { settings = refl; wait = refl; round = refl; table = refl })
   where
     one : (i : ℕ) (r : Station) → Beside slot s r → Beside slot s (bereaveAt slot i r)
     one i r h =
         unfold bereaveAt in
-        cond-keeps (Beside slot s) (hasBit (r .used) i) _ r (λ _. record { settings = h .settings; wait = h .wait; round = h .round; table = h .table }) (λ _. h)
+        cond-keeps (Beside slot s) (hasBit (r .used) i) _ r (λ _. record { settings = h .settings; wait = h .wait; round = h .round; table = h .table })
+        (λ _. h)
 
 -- ---- its cells
 

@@ -1,5 +1,5 @@
--- What a decision and a reception say: events, then one of the bursts or none, made by a station that a chain reaches. What holds of the events and of each burst
--- holds of all words. Assumes nothing.
+-- What a decision and a reception say: events, then one of the bursts or none, made by a station that a chain reaches. What holds of the events and
+-- of each burst holds of all words. Assumes nothing.
 use mathlib.Core.Path.{_≡_, refl, sym, ap, _∙_, subst}
 use mathlib.Core.Logic.{inl}
 use Prim.Native.Nat.{ℕ, _+_, _-_, _/_, _%_, _≤_, _<_}
@@ -70,7 +70,8 @@ againOf r s =
 abbrev pub saidAt : Ended → Said
 saidAt e = said (e .station) (e .burst)
 
--- The station s sends one burst, or none: what it leaves and its words, and the slot the waiting for whose reply ends behind it. Those with frames where F allows them
+-- The station s sends one burst, or none: what it leaves and its words, and the slot the waiting for whose reply ends behind it. Bursts with frames stand
+-- here where F allows them.
 pub data Sends (F : Type 0) (now : Float) (lent : List ℕ) (s : Station) : Said → Option ℕ → Type 0 where
   nothing : Sends F now lent s (said s []) none
   closing : Sends F now lent s (closingOf s now) none
@@ -94,8 +95,8 @@ pub record Reaches (A : Allowed) (s t : Station) (y : Turn) : Type 0 where
   pub settings : t .settings ≡ s .settings
   pub boats : (A .cells → ⊥) → (t .used ≡ s .used) × (t .queues ≡ s .queues)
 
--- From the station s on: n events at most and a burst come to x; before them the waiting for one slot's reply ended and a list was drawn up, behind them the
--- waiting for another's ends
+-- What is said from the station s on, and the station left, x: n events at most, then a burst. And what the words do not show: the slot the waiting for
+-- whose reply ended before them, the list that was drawn up, the slot the waiting for whose reply ends behind them.
 pub data Spoken (A : Allowed) (F : Type 0) (now : Float) (lent : List ℕ) : ℕ → Station → Said → Option ℕ → Option ℕ → Option ℕ → Type 0 where
   burst : {n : ℕ} {s : Station} {x : Said} {o : Option ℕ} → Sends F now lent s x o → Spoken A F now lent n s x none none o
   events : {n k j : ℕ} {s t : Station} {x : Said} {ws : List ℕ} {m o : Option ℕ} → k + n ≤ j → Reaches A s t (s .wait .turn) → Events (A .cells) k ws
@@ -105,7 +106,7 @@ pub data Spoken (A : Allowed) (F : Type 0) (now : Float) (lent : List ℕ) : ℕ
   late : {n : ℕ} {s t : Station} {x : Said} {m o : Option ℕ} (r : Reply) → s .wait .turn ≡ Waiting r → Reaches A s t Idle → Spoken A F now lent n t x none m o
       → Spoken A F now lent n s x (some (r .slot)) m o
 
--- no event, n at most
+-- on to a station, with no event
 led : {A : Allowed} {F : Type 0} {now : Float} {lent : List ℕ} {n : ℕ} {s t : Station} {x : Said} {m o : Option ℕ} → Reaches A s t (s .wait .turn)
     → Spoken A F now lent n t x none m o → Spoken A F now lent n s x none m o
 led {n} h k = events {n = n} {k = 0} {j = n} (omega arith) h Events.none k
@@ -122,7 +123,8 @@ module _ (A : Allowed) (allowed : A .turns) {F : Type 0} {now : Float} {lent : L
   sends-walk {s} (acks f e) =
       walk.more start (turned allowed _ _ _ walk.sends (record { toack = none-left s (s .round .toack); treenews = none-left s (s .round .treenews) }) refl)
   sends-walk {s} (list f e) =
-      turn A s (listTold s) _ _ _ allowed walk.sends refl refl refl (told-walk A s (withRound s (withRxdirty (s .round) false)) (calm A s s _ _ refl refl refl refl start))
+      turn A s (listTold s) _ _ _ allowed walk.sends refl refl refl
+      (told-walk A s (withRound s (withRxdirty (s .round) false)) (calm A s s _ _ refl refl refl refl start))
   sends-walk {s} (word f e slot here) = queue A s _ slot _ here (walk.sent (s .round .number)) (turn A s s _ _ _ allowed walk.sends refl refl refl start)
   sends-walk {s} (poll e slot h) = turn A s s _ _ _ allowed (walk.polls slot h) refl refl refl start
   sends-walk {s} (pollack r n heard e l) = turn A s s _ _ _ allowed (walk.goes r _ _ e) refl refl refl start
@@ -137,30 +139,25 @@ module _ (A : Allowed) (allowed : A .turns) {F : Type 0} {now : Float} {lent : L
 
 -- ---- the stages before the burst leave the list, the settings, the boats and their queues alone
 
-record Same (s t : Station) : Type 0 where
-  wait : t .wait ≡ s .wait
-  list : t .round .list ≡ s .round .list
-  settings : t .settings ≡ s .settings
-  used : t .used ≡ s .used
-  queues : t .queues ≡ s .queues
+abbrev Same : Station → Station → Type 0
+Same s t = (t .wait ≡ s .wait) × (t .round .list ≡ s .round .list) × (t .settings ≡ s .settings) × (t .used ≡ s .used) × (t .queues ≡ s .queues)
 
 abbrev same : (s : Station) → Same s s
-same s = record { wait = refl; list = refl; settings = refl; used = refl; queues = refl }
+same s = (refl, refl, refl, refl, refl)
 
 abbrev SameSaid : Station → Said → Type 0
 SameSaid s x = Same s (x .station)
 
--- a station with the five of s
 module _ (A : Allowed) where
   reaches : {s t : Station} → Chain A s t → Same s t → Reaches A s t (s .wait .turn)
-  reaches c h = record { chain = c; turn = ap (λ (w : Wait). w .turn) (h .wait); list = h .list; settings = h .settings; boats = λ _. (h .used, h .queues) }
+  reaches c h = record { chain = c; turn = ap (λ (w : Wait). w .turn) (h .0); list = h .1; settings = h .2; boats = λ _. (h .3, h .4) }
 
   self : (s : Station) → Reaches A s s (s .wait .turn)
   self s = reaches start (same s)
 
   promote-with : (s : Station) (l : Level) (i : ℕ) (x : Said) → SameSaid s x → SameSaid s (promoteWith l i x)
   promote-with s Unheard i x h = h
-  promote-with s (Decibels snr) i x h = record { wait = h .wait; list = h .list; settings = h .settings; used = h .used; queues = h .queues }
+  promote-with s (Decibels snr) i x h = h
 
   promote-same : (s : Station) (floor : Float) (i : ℕ) (x : Said) → SameSaid s x → SameSaid s (promoteAt floor i x)
   unfolding promoteAt
@@ -170,9 +167,7 @@ module _ (A : Allowed) where
   unfolding moveAt
   move-same s leaves c x h =
       cond-keeps (SameSaid s) (mustMove leaves (x .station) c) _ x
-      (λ _. cond-keeps (SameSaid s) (eqb (newRelay (x .station) c) 63) x _ (λ _. h)
-      (λ _. record { wait = h .wait; list = h .list; settings = h .settings; used = h .used; queues = h .queues }))
-      (λ _. h)
+      (λ _. cond-keeps (SameSaid s) (eqb (newRelay (x .station) c) 63) x _ (λ _. h) (λ _. h)) (λ _. h)
 
   reach-rerouted : (s : Station) → Reaches A s (rerouteOf s .station) (s .wait .turn)
   unfolding rerouteOf moveAll promoteAll
@@ -186,30 +181,29 @@ module _ (A : Allowed) where
   reach-told s =
       let u = withRound s (withRxdirty (s .round) false) in
       reaches (told-walk A s u (calm A s s _ _ refl refl refl refl start))
-      (fold-keeps (Same s) tellAt (λ i t h. record { wait = h .wait; list = h .list; settings = h .settings; used = h .used; queues = h .queues }) 62 0 u
-      (record { wait = refl; list = refl; settings = refl; used = refl; queues = refl }))
+      (fold-keeps (Same s) tellAt (λ i t h. h) 62 0 u (same s))
 
   reach-hurried : (s : Station) (now : Float) → Reaches A s (hurried s now) (s .wait .turn)
   reach-hurried s now =
       cond-keeps (λ (t : Station). Reaches A s t (s .wait .turn)) (s .round .activity) _ s
-      (λ _. record { chain = calm A s s _ _ refl refl refl refl start; turn = refl; list = refl; settings = refl; boats = λ _. (refl, refl) }) (λ _. self s)
+      (λ _. reaches (calm A s s _ _ refl refl refl refl start) (same s)) (λ _. self s)
 
   -- no answer again: the missed poll counts, the waiting ends, and what came of the turn is noted
   reach-late : A .turns → (s : Station) (r : Reply) → s .wait .turn ≡ Waiting r
       → Reaches A s (turnOverIn (missedIn (withWait s idleWait) (r .slot)) (r .slot) (r .relayfor)) Idle
   reach-late allowed s r e =
-      let v = missedIn (withWait s idleWait) (r .slot) in
-      let a : Same (withWait s idleWait) v = cond-keeps (Same (withWait s idleWait)) (isMember (s .used) (r .slot)) _ (withWait s idleWait) (λ _. record { wait = refl; list = refl; settings = refl; used = refl; queues = refl }) (λ _. same (withWait s idleWait)) in
-      let b : Same (withWait s idleWait) (turnOverIn v (r .slot) (r .relayfor)) =
-      cond-keeps (Same (withWait s idleWait)) (isMember (v .used) (r .relayfor)) _ v (λ _. record { wait = a .wait; list = a .list; settings = a .settings; used = a .used; queues = a .queues }) (λ _. a) in
+      let w = withWait s idleWait in
+      let v = missedIn w (r .slot) in
+      let a : Same w v = cond-keeps (Same w) (isMember (s .used) (r .slot)) _ w (λ _. same w) (λ _. same w) in
+      let b : Same w (turnOverIn v (r .slot) (r .relayfor)) = cond-keeps (Same w) (isMember (v .used) (r .relayfor)) _ v (λ _. a) (λ _. a) in
       record {
         chain = cond-keeps (λ (t : Station). Chain A s (turnOverIn t (r .slot) (r .relayfor))) (isMember (s .used) (r .slot)) _ (withWait s idleWait)
             (λ here. over-walk A s _ r idleWait _ allowed e (λ u. walk.ends) refl (count A s s (r .slot) (memberAt s (r .slot)) _ here walk.none start))
             (λ _. over-walk A s s r idleWait (s .totals) allowed e (λ u. walk.ends) refl start);
-        turn = ap (λ (w : Wait). w .turn) (b .wait);
-        list = b .list;
-        settings = b .settings;
-        boats = λ _. (b .used, b .queues);
+        turn = ap (λ (v : Wait). v .turn) (b .0);
+        list = b .1;
+        settings = b .2;
+        boats = λ _. (b .3, b .4);
       }
 
 -- ---- the next decision
@@ -306,10 +300,10 @@ module _ (A : Allowed) (allowed : A .turns) (now : Float) (lent : List ℕ) wher
   round-end : (s : Station) (P : Decision → Type 0) → s .wait .turn ≡ Idle → s .round .list ≡ 0 → Leads 124 s P → P (roundEnd s now lent)
   unfolding roundEnd
   round-end s P e z f =
-      let h : Reaches A s (withRound s (withRxsent (s .round) (s .round .number))) (s .wait .turn) =
-      record { chain = calm A s s _ _ refl refl refl refl start; turn = refl; list = refl; settings = refl; boats = λ _. (refl, refl) } in
+      let u = withRound s (withRxsent (s .round) (s .round .number)) in
+      let h : Reaches A s u (s .wait .turn) = reaches A (calm A s s _ _ refl refl refl refl start) (same s) in
       cond-keeps P (eqb (s .round .number) 0 || eqb (s .round .rxsent) (s .round .number)) _ _ (λ _. reroute-stage s P e z f)
-      (λ _. list-stage (withRound s (withRxsent (s .round) (s .round .number))) P e z (λ x m k. f x m (led h k)))
+      (λ _. list-stage u P e z (λ x m k. f x m (led h k)))
 
   act-by : (a : Act) (s : Station) (P : Decision → Type 0) → actOf (s .round) (s .used) now ≡ a → s .wait .turn ≡ Idle → Leads 124 s P → P (actBy a s now lent)
   act-by act.Wait s P q e f = f _ none (burst nothing)
@@ -359,7 +353,8 @@ module _ (A : Allowed) (allowed : A .turns) (now : Float) (lent : List ℕ) wher
     idle-by Sending slot s e = burst nothing
     idle-by (Waiting r) slot s e =
         cond-keeps (Ends s) (eqb (r .slot) slot) _ _
-        (λ q. subst (λ (i : ℕ). Spoken A ⊥ now lent n s (said (turnOverIn (oneReply (withWait s idleWait)) i (r .relayfor)) []) none none (some i)) (eqb-true (r .slot) slot q)
+        (λ q. subst (λ (i : ℕ). Spoken A ⊥ now lent n s (said (turnOverIn (oneReply (withWait s idleWait)) i (r .relayfor)) []) none none (some i))
+        (eqb-true (r .slot) slot q)
         (burst (idle r e))) (λ _. burst nothing)
 
     pub idle-spoken : (extra : ℕ) (s : Station) → Ends s (idleEnd a extra s)
@@ -367,10 +362,11 @@ module _ (A : Allowed) (allowed : A .turns) (now : Float) (lent : List ℕ) wher
     idle-spoken extra s =
         let t = idleHeard a extra s in
         let w = ap (λ (v : Wait). v .turn) (idle-wait a extra s) in
-        let b : Same s t = cond-keeps (Same s) (isMember (s .used) (extra % 64)) _ s (λ _. record { wait = refl; list = refl; settings = refl; used = refl; queues = refl }) (λ _. same s) in
+        let b : Same s t = cond-keeps (Same s) (isMember (s .used) (extra % 64)) _ s (λ _. same s) (λ _. same s) in
         led (reaches A (idle-heard A a ok allowed s extra s start) b) (idle-by (s .wait .turn) (extra % 64) t w)
 
-    answer-by : (b : Bool) (r : Reply) (i heard : ℕ) (s : Station) → (b ≡ true → r .turnbursts < 3) → s .wait .turn ≡ Waiting r → Ends s (answerBy b r i heard s)
+    answer-by : (b : Bool) (r : Reply) (i heard : ℕ) (s : Station) → (b ≡ true → r .turnbursts < 3) → s .wait .turn ≡ Waiting r
+        → Ends s (answerBy b r i heard s)
     answer-by true r i heard s l e = burst (pollack r i heard e (l refl))
     answer-by false r i heard s l e = burst (ack r i heard e)
 
@@ -381,18 +377,21 @@ module _ (A : Allowed) (allowed : A .turns) (now : Float) (lent : List ℕ) wher
         let s = x .station in
         let i = h .hi % 4 in
         let t = replyHeard a (r .slot) i (oneReply s) in
-        let b : Same s t = cond-keeps (Same s) (isMember (s .used) (r .slot)) _ (oneReply s) (λ _. record { wait = refl; list = refl; settings = refl; used = refl; queues = refl }) (λ _. record { wait = refl; list = refl; settings = refl; used = refl; queues = refl }) in
+        let b : Same s t = cond-keeps (Same s) (isMember (s .used) (r .slot)) _ (oneReply s) (λ _. same s) (λ _. same s) in
         cond-keeps (Ends s) (isReply h (x .sender) r) _ _
         (λ _. led (reaches A (reply-heard A a ok allowed s (r .slot) i (oneReply s) (calm A s s _ _ refl refl refl refl start)) b)
-        (answer-by (goesOn h (x .more) r) r i (x .heard) t (λ g. ltb-true (r .turnbursts) 3 (and-true (eqb (h .hi / 4 % 2) 1 || x .more) (ltb (r .turnbursts) 3) g .1)) (ap (λ (v : Wait). v .turn) (b .wait) ∙ e)))
+        (answer-by (goesOn h (x .more) r) r i (x .heard) t
+        (λ g. ltb-true (r .turnbursts) 3 (and-true (eqb (h .hi / 4 % 2) 1 || x .more) (ltb (r .turnbursts) 3) g .1)) (ap (λ (v : Wait). v .turn) (b .0) ∙ e)))
         (λ _. burst nothing)
 
     pub reply-spoken : (h : Head) (x : Reading) → Ends (x .station) (replyEnd a h x)
     unfolding replyEnd
     reply-spoken h x = reply-by (x .station .wait .turn) h x refl
 
-  pub rx-spoken : A .cells → (s : Station) (b : words.Burst) (level : Float) (store : List ℕ) → A .level level
-      → Spoken A ⊥ now lent (mostIn (b .frames)) s (said (ncsRx s b level now store .station) (ncsRx s b level now store .words)) none none (ncsRx s b level now store .over)
+  abbrev Heard : Station → words.Burst → Received → Type 0
+  Heard s b r = Spoken A ⊥ now lent (mostIn (b .frames)) s (said (r .station) (r .words)) none none (r .over)
+
+  pub rx-spoken : A .cells → (s : Station) (b : words.Burst) (level : Float) (store : List ℕ) → A .level level → Heard s b (ncsRx s b level now store)
   unfolding ncsRx
   rx-spoken cells s b level store ok =
       let g = airOf s (b .head) level now in
@@ -412,11 +411,12 @@ module _ (A : Allowed) (allowed : A .turns) (now : Float) (lent : List ℕ) wher
         settings = c .settings;
         boats = λ no. absurd (no cells);
       } in
-      cond-keeps (λ (r : Received). Spoken A ⊥ now lent (mostIn (b .frames)) s (said (r .station) (r .words)) none none (r .over)) (eqb (b .head .code) tiny) _ _
+      cond-keeps (Heard s b) (eqb (b .head .code) tiny) _ _
       (λ _. cond-keeps (λ (e : Ended). Spoken A ⊥ now lent (mostIn (b .frames)) s (saidAt e) none none (e .over)) (eqb (b .head .hi) kIdle) _ _
       (λ _. led h (idle-spoken (mostIn (b .frames)) g ok (b .head .extra) u))
       (λ _. led h (burst nothing)))
-      (λ _. led h (events {n = 0} {j = mostIn (b .frames)} (omega arith) v (frames-events (A .cells) g cells (b .frames) 0 x Events.none) (reply-spoken 0 g ok (b .head) y)))
+      (λ _. led h (events {n = 0} {j = mostIn (b .frames)} (omega arith) v (frames-events (A .cells) g cells (b .frames) 0 x Events.none)
+      (reply-spoken 0 g ok (b .head) y)))
 
 -- ---- their chains
 
@@ -424,5 +424,6 @@ module _ (A : Allowed) (allowed : A .turns) where
   pub next-walk : (s : Station) (now : Float) (lent : List ℕ) → Chain A s (ncsNext s now lent .station)
   next-walk s now lent = spoken-walk A allowed (next-spoken A allowed now lent s)
 
-  pub rx-walk : A .cells → (s : Station) (b : words.Burst) (level now : Float) (store : List ℕ) → A .level level → Chain A s (ncsRx s b level now store .station)
+  pub rx-walk : A .cells → (s : Station) (b : words.Burst) (level now : Float) (store : List ℕ) → A .level level
+      → Chain A s (ncsRx s b level now store .station)
   rx-walk cells s b level now store ok = spoken-walk A allowed (rx-spoken A allowed now [] cells s b level store ok)

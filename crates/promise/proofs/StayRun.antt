@@ -1,7 +1,7 @@
 -- The definitions run over a sign-off: a boat hands over number 0, signs off, and the next holder of its slot hands over its own number 0. And a piece of a former
 -- stay is not to arrive: `former` breaks that premise alone, and the promise is refuted. By computation; assumes nothing.
 use mathlib.Core.Path.{_≡_, refl, sym, ap, subst}
-use mathlib.Core.Bool.{cond, true}
+use mathlib.Core.Bool.{cond, true, false}
 use mathlib.Core.List.{List, [], _∷_, _++_}
 use Prim.Native.Nat.{ℕ, _≤_, _<_}
 use native.Mathlib.Omega.{arith}
@@ -10,7 +10,7 @@ use lib.ListN.{length, getD, replicate}
 use Rattle.bits.specs.Loop.{first, fold}
 use Rattle.bits.specs.Mask.{hasBit, withBit, withoutBit, lowestFree}
 use Rattle.bits.specs.Stop.{stop}
-use Rattle.bits.proofs.Lists.{cond-keeps}
+use Rattle.bits.proofs.Lists.{cond-keeps, never-both}
 use Rattle.level.specs.declared.Level.the-variants.{Unheard}
 use Rattle.level.specs.declared.Clock.the-variants.{At}
 use Rattle.wire.specs.Call.{digit, char, trimStart, trimEnd, unpacked, packCall}
@@ -79,18 +79,18 @@ stay-run g = record { taken = refl; freed = refl; gone = refl; silent = refl; no
 -- the premises hold of it
 
 -- of number 0 as one piece, of two bytes, while number 1 is not handed over
-pub whole : (M : Sent) (l : Ledger) (s a b : ℕ) → M .text s 0 ≡ a ∷ b ∷ [] → ((n : ℕ) → Lowest l s n → 1 < n → ⊥) → PieceOk M l s 0 0 (framed (a ∷ b ∷ []))
+pub whole : (M : Sent) (l : Ledger) (s a b : ℕ) → M .text s 0 ≡ a ∷ b ∷ [] → l .handed s 1 ≡ false → PieceOk M l s 0 0 (framed (a ∷ b ∷ []))
 whole M l s a b e f =
     record {
       eight = refl;
       cut = subst (λ (m : List ℕ). Cut (framed m) 0 (framed (a ∷ b ∷ []))) (sym e) (record { short = omega arith; fits = omega arith; same = refl });
-      near = λ n w. near 0 n (omega arith) (f n w);
+      near = λ n w. near 0 n (omega arith) (λ z. never-both (l .handed s 1) (w .1 1 z) f);
     }
 
 pub stay-ok : (g : Settings) → CallsOk hi-then-ho stay-calls (one-cell g) emptyBook
 unfolding CallsOk step after result admitOf admitRefusal newStation seatOf findCall first fold lowestFree hasBit withBit withoutBit leadsTo unpacked digit char trimStart trimEnd receiveOf receiveRefusal parse headOk framesOf itemAt frameOf payload unpack payloadOk wordOk pack framesWords ncsRx readFrames frameStep readFrame pieceFrame replyEnd isMember accept widened widenedAt ownCell putOf cells.accept showsOf settle grow seek next slideOf stop eventsIn handedIn bookFrames bookFrame cover alsoHanded allBelow readRefusal cellRefusal readingOf signOffOf signOffRefusal signOff bereaveAll bereaveAt clearAll clearAt unhearAll unhearAt bookEnds tally
 stay-ok g =
-    (tt, ((tt, λ r. ((λ m. whole _ _ 0 104 105 refl (λ n l z. apart (l .1 1 z))), tt)), (tt, (tt, (tt, ((tt, λ r. ((λ m. whole _ _ 0 104 111 refl (λ n l z. apart (l .1 1 z))), tt)), (tt, tt)))))))
+    (tt, ((tt, λ r. ((λ m. whole _ _ 0 104 105 refl refl), tt)), (tt, (tt, (tt, ((tt, λ r. ((λ m. whole _ _ 0 104 111 refl refl), tt)), (tt, tt)))))))
 
 short : (s t k : ℕ) → true ≡ true → length (hi-then-ho .text s t k) ≤ 2046
 short s t k on = cond-keeps (λ (l : List ℕ). length l ≤ 2046) (eqb t 0) (104 ∷ 105 ∷ []) (104 ∷ 111 ∷ []) (λ _. omega arith) (λ _. omega arith)

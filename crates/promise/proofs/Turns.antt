@@ -109,7 +109,8 @@ module _ (r : Run) (n : Net) (e : Rel r (n .station .wait .turn)) (l : Low (n .s
       → Fine left r (unless n s store (receiveBy b s snr now store) .station) (said (unless n s store (receiveBy b s snr now store)) [] (overIf (ofBurst b none (λ b. ncsRx s b snr now store .over))))
   receive-by malformed n snr now store = fine-unless left r n s store (refused 3 s store) [] [] same same
   receive-by (parsed b) n snr now store =
-      fine-unless left r n s store (receiveBy (parsed b) s snr now store) [] (overIf (ncsRx s b snr now store .over)) (spoken-fine (rx-spoken all tt now [] tt s b snr store tt) r e l) same
+      fine-unless left r n s store (receiveBy (parsed b) s snr now store) [] (overIf (ncsRx s b snr now store .over))
+      (spoken-fine (rx-spoken all tt now [] tt s b snr store tt) r e l) same
 
   fine-receive : (words : List ℕ) (snr now : Float) (store : List ℕ) (room : ℕ)
       → Fine left r (receiveOf s words snr now store room .station) (said (receiveOf s words snr now store room) [] (overIf (ofBurst (parse words) none (λ b. ncsRx s b snr now store .over))))

@@ -65,7 +65,8 @@ admit-calm (Known i) s call via now = record { wait = refl; list = refl; setting
 admit-calm (Free i) s call via now = record { wait = refl; list = refl; settings = refl; quiet = events-mute (admit-events ⊥ (Free i) s call via now) }
 admit-calm Full s call via now = calm-start s
 
-pub frames-calm : (a : Air) (fs : List Heard) (s : Station) (store : List ℕ) → Calm s (said (readFrames a fs (firstReading s store) .station) (readFrames a fs (firstReading s store) .words))
+pub frames-calm : (a : Air) (fs : List Heard) (s : Station) (store : List ℕ)
+    → Calm s (said (readFrames a fs (firstReading s store) .station) (readFrames a fs (firstReading s store) .words))
 frames-calm a fs s store =
     let x = firstReading s store in
     let k = chain-keeps (Still s) (change-still s) (frames-walk untimed a tt tt s fs x start) (refl, refl, refl) in

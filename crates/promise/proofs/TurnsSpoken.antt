@@ -63,7 +63,8 @@ fine-from {r} {t} {es} a b e f = subst (λ (m : ℕ). Fine (slotsIn m) r t es) e
 -- ### Bursts
 
 -- no poll and no acknowledgement, in a turn or not
-fine-other : (t : Station) (ws : List ℕ) (r : Run) → burstsIn ws ≡ [] → Rel r (t .wait .turn) → Low (t .round .list) → Fine (slotsIn (t .round .list)) r t (burstsIn ws ++ [])
+fine-other : (t : Station) (ws : List ℕ) (r : Run) → burstsIn ws ≡ [] → Rel r (t .wait .turn) → Low (t .round .list)
+    → Fine (slotsIn (t .round .list)) r t (burstsIn ws ++ [])
 fine-other t ws r b e l = subst (λ (es : List TurnEvent). Fine (slotsIn (t .round .list)) r t (es ++ [])) (sym b) (fine-none r t e l)
 
 -- where no turn runs, its end is waited for
@@ -82,7 +83,8 @@ pub beacon-other : (s : Station) (now : Float) → burstsIn (beaconOf s now .wor
 unfolding beaconOf
 beacon-other s now =
     w.other-burst (s .settings .beaconlevel) (ctrlWords (beaconPayload (s .settings) (beaconAcks s)) ++ chunkWords cAcks 18 (beaconRows s))
-    (w.quiet-both (ctrlWords (beaconPayload (s .settings) (beaconAcks s))) (chunkWords cAcks 18 (beaconRows s)) (w.quiet-ctrl (beaconPayload (s .settings) (beaconAcks s)))
+    (w.quiet-both (ctrlWords (beaconPayload (s .settings) (beaconAcks s))) (chunkWords cAcks 18 (beaconRows s))
+    (w.quiet-ctrl (beaconPayload (s .settings) (beaconAcks s)))
     (w.quiet-chunk-words cAcks 18 (beaconRows s)))
 
 pub list-other : (s : Station) → burstsIn (listWords s) ≡ []
@@ -91,7 +93,8 @@ list-other s = w.other-burst (leastDirect s) (chunkWords cRxlist 21 (listRows s)
 pub word-other : (s : Station) (lent : List ℕ) (slot : ℕ) → burstsIn (directBurst s lent slot .words) ≡ []
 unfolding directBurst
 word-other s lent slot =
-    w.down-burst (s .settings) lent slot (queueAt s slot) (reachLevel s slot) (reach-lt (s .settings) (s .used) (seated s slot) (memberAt s (seated s slot .via)))
+    w.down-burst (s .settings) lent slot (queueAt s slot) (reachLevel s slot)
+    (reach-lt (s .settings) (s .used) (seated s slot) (memberAt s (seated s slot .via)))
 
 -- a turn begins
 fine-poll : (s : Station) (slot : ℕ) (r : Run) → lowestBit (s .round .list) ≡ found.At slot → Rel r Idle → Low (s .round .list)
@@ -130,12 +133,14 @@ fine-pollack q n heard s (turn x p a) g e l =
       run = turn x p (suc a);
       rel = (e .0, omega arith, omega arith, omega arith, omega arith, e .5);
       low = l;
-      keeps = λ k h. subst (λ (es : List TurnEvent). Acc (slotsIn (s .round .list)) (turn x p a) ((es ++ []) ++ k)) (sym (w.pollack-burst s (q .slot) n heard (e .5))) (e .0, omega arith, h);
+      keeps = λ k h. subst (λ (es : List TurnEvent). Acc (slotsIn (s .round .list)) (turn x p a) ((es ++ []) ++ k))
+          (sym (w.pollack-burst s (q .slot) n heard (e .5))) (e .0, omega arith, h);
     }
 
 -- what came of a turn is noted
 over-alike : (s : Station) (slot source : ℕ) → (turnOverIn s slot source .wait ≡ s .wait) × (turnOverIn s slot source .round .list ≡ s .round .list)
-over-alike s slot source = cond-keeps (λ t. (t .wait ≡ s .wait) × (t .round .list ≡ s .round .list)) (isMember (s .used) source) _ s (λ _. (refl, refl)) (λ _. (refl, refl))
+over-alike s slot source =
+    cond-keeps (λ t. (t .wait ≡ s .wait) × (t .round .list ≡ s .round .list)) (isMember (s .used) source) _ s (λ _. (refl, refl)) (λ _. (refl, refl))
 
 -- the turn ends, with the acknowledgement or by K_IDLE
 fine-ack : (q : Reply) (n heard : ℕ) (s : Station) (r : Run) → Rel r (Waiting q) → Low (s .round .list)
@@ -147,7 +152,9 @@ fine-ack q n heard s (turn x p a) e l =
       run = rest;
       rel = subst (λ y. Rel rest (y .turn)) (sym (o .0)) tt;
       low = subst Low (sym (o .1)) l;
-      keeps = λ k h. subst (λ (es : List TurnEvent). Acc (slotsIn (s .round .list)) (turn x p a) ((es ++ (over (q .slot) ∷ [])) ++ k)) (sym (w.ack-burst s (q .slot) n heard (e .5)))
+      keeps =
+          λ k h. subst (λ (es : List TurnEvent). Acc (slotsIn (s .round .list)) (turn x p a) ((es ++ (over (q .slot) ∷ [])) ++ k))
+          (sym (w.ack-burst s (q .slot) n heard (e .5)))
           (e .0, omega arith, (e .0, subst (λ (m : ℕ). Acc (slotsIn m) rest k) (o .1) h));
     }
 
@@ -187,7 +194,8 @@ module _ {F : Type 0} {now : Float} {lent : List ℕ} where
   sends-fine A {s} Sends.nothing r t l = fine-other s [] r w.quiet-none t l
   sends-fine A {s} Sends.closing r t l = fine-other _ _ r (w.close-burst (s .settings .beaconlevel)) t l
   sends-fine A {s} (Sends.again q e z) r t l = fine-again q s r z (subst (Rel r) e t) l
-  sends-fine A {s} (Sends.beacon f e) r t l = fine-other (beaconOf s now .station) (beaconOf s now .words) r (beacon-other s now) (sending r (subst (Rel r) e t)) l
+  sends-fine A {s} (Sends.beacon f e) r t l =
+      fine-other (beaconOf s now .station) (beaconOf s now .words) r (beacon-other s now) (sending r (subst (Rel r) e t)) l
   sends-fine A {s} (Sends.acks f e) r t l = fine-other (acksBurst s .station) (acksBurst s .words) r (acks-other s) (sending r (subst (Rel r) e t)) l
   sends-fine A {s} {x} (Sends.list f e) r t l =
       let q = reach-told A s .list in
@@ -199,11 +207,13 @@ module _ {F : Type 0} {now : Float} {lent : List ℕ} where
   sends-fine A {s} (Sends.ack q n heard e) r t l = fine-ack q n heard s r (subst (Rel r) e t) l
   sends-fine A {s} (Sends.idle q e) r t l = fine-idle q s r (subst (Rel r) e t) l
 
-  pub spoken-fine : {A : Allowed} {n : ℕ} {s : Station} {x : Said} {a b o : Option ℕ} → Spoken A F now lent n s x a b o → (r : Run) → Rel r (s .wait .turn) → Low (s .round .list)
+  pub spoken-fine : {A : Allowed} {n : ℕ} {s : Station} {x : Said} {a b o : Option ℕ} → Spoken A F now lent n s x a b o → (r : Run) → Rel r (s .wait .turn)
+      → Low (s .round .list)
       → Fine (slotsIn (s .round .list)) r (x .station) (overIf a ++ (drewIf b ++ (burstsIn (x .words) ++ overIf o)))
   spoken-fine {A} (Spoken.burst k) r t l = sends-fine A k r t l
   spoken-fine {s} (Spoken.events {t = u} {x = x} {ws = ws} {m = m} {o = o} q h e k) r t l =
-      subst (λ (es : List TurnEvent). Fine (slotsIn (s .round .list)) r (x .station) (drewIf m ++ (es ++ overIf o))) (sym (w.quiet-first ws (x .words) (events-mute e .0)))
+      subst (λ (es : List TurnEvent). Fine (slotsIn (s .round .list)) r (x .station) (drewIf m ++ (es ++ overIf o)))
+      (sym (w.quiet-first ws (x .words) (events-mute e .0)))
       (fine-from (u .round .list) (s .round .list) (h .list) (spoken-fine k r (subst (Rel r) (sym (h .turn)) t) (subst Low (sym (h .list)) l)))
   spoken-fine {s} (Spoken.draws e z k) (turn x p a) t l = absurd (subst (Rel (turn x p a)) e t)
   spoken-fine {s} (Spoken.draws e z k) rest t l = fine-drawn (s .round .list) (listFor s (nextNumber s)) z (spoken-fine k rest t (low-list s (nextNumber s)))

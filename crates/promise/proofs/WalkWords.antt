@@ -73,7 +73,8 @@ module _ (M : Type 0) where
 
   -- ---- rerouting: 62 promotions and 62 reroutings at most
 
-  fold-events : (f : ℕ → Said → Said) → ((i n : ℕ) (x : Said) → Says n x → Says (n + 1) (f i x)) → (k i n : ℕ) (x : Said) → Says n x → Says (n + k) (fold f k i x)
+  fold-events : (f : ℕ → Said → Said) → ((i n : ℕ) (x : Said) → Says n x → Says (n + 1) (f i x)) → (k i n : ℕ) (x : Said) → Says n x
+      → Says (n + k) (fold f k i x)
   unfolding fold
   fold-events f h zero i n x e = events-less (omega arith) e
   fold-events f h (suc k) i n x e = events-less (omega arith) (fold-events f h k (suc i) (n + 1) (f i x) (h i n x e))
@@ -176,7 +177,8 @@ module _ (M : Type 0) where
           let same : Reads k x = events-less (omega arith) h in
           frame-cases (Reads k) a x same flags field p
           (cond-keeps (Reads k) (isMember (s .used) slot) _ x
-          (λ _. cond-keeps (Reads k) (r .lost) _ (keptPiece a slot r x) (λ _. cond-keeps (λ (y : Reading). Reads k (unkeptAt y)) (r .bars) _ x (λ _. same) (λ _. same))
+          (λ _. cond-keeps (Reads k) (r .lost) _ (keptPiece a slot r x)
+          (λ _. cond-keeps (λ (y : Reading). Reads k (unkeptAt y)) (r .bars) _ x (λ _. same) (λ _. same))
           (λ _. events-less (omega arith) (events-both h (piece-one (hasLanded (r .landed)) (isRelayed a s slot r) slot (a .polled) (r .cell) (r .number)))))
           (λ _. same))
           (control-cases (Reads k) a x same slot (getD p 0 0) (length p) p
