@@ -148,7 +148,7 @@ windows-hold f s says i here = window-holds f s i (says i) here
 
 -- ---- the book after the calls
 
-module _ (M : Stays) (small : (s t k : ℕ) → M .watched s t ≡ true → length (M .text s t k) ≤ 2046) where
+module _ (M : Stays) (small : (s t k : ℕ) → M .watched s t ≡ true → length (M .text s t k) ≤ 65535) where
   pub calls-tied : (cs : List Call) (n : Net) (b : Book) → Tied (sentNow M b) n b → CallsOk M cs n b → Tied (sentNow M (bookAfter M cs n b)) (after cs n) (bookAfter M cs n b)
   unfolding CallsOk after bookAfter
   calls-tied [] n b t ok = t
@@ -167,5 +167,5 @@ marks-follow s g store e cs =
           (calls-told cs n (λ x k. false) (record { view = record { tidy = t .tie .tidy; sound = t .tie .sound }; long = t .long }) (λ x k. t .tie .numbers x k refl));
       book = λ M small ok i on here.
           window-holds (bookAfter M cs n emptyBook .ledger .handed) (after cs n .station) i
-          (λ k. calls-tied M small cs n emptyBook (started-tied (sentNow M emptyBook) s g store e) ok .tie .numbers i k on) here;
+          (λ k. calls-tied M (λ s t k on. omega (arith, small s t k on)) cs n emptyBook (started-tied (sentNow M emptyBook) s g store e) ok .tie .numbers i k on) here;
     }

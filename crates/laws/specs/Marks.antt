@@ -69,7 +69,7 @@ bookAfter M (c ∷ cs) n b = bookAfter M cs (step c n) (bookCall (sentNow M b) c
 -- ---- the promise
 
 -- of the calls cs from n on, in the station last returned: the marks are those rebuilt from each boat's whole window, from all that landed, and, of each boat that is
--- watched, under item 3's premises on its messages, from what the book has handed over
+-- watched, under item 3's premises on its messages, each of at most 2,046 bytes here, from what the book has handed over
 pub record Marks (n : Net) (cs : List Call) : Type 0 where
   pub window : MarksHold (inWindow (after cs n .station)) (after cs n .station)
   pub landed : MarksHold (landedIn cs n (λ s k. false)) (after cs n .station)

@@ -16,7 +16,7 @@ use Rattle.config.specs.declared.Given.{Given}
 use Rattle.station.specs.Entries.{startRefusal}
 use Rattle.promise.specs.Promise.{TurnEvent, drew, over, poll, ack, struck, overIf, drewIf, outcome, burstBy, Net, Call, admission, reception, decision, sending, closing, reading, freeing, charging, signing, asking, result, inBook, isRefused, step, after, started, LinksHold, burstsIn, turnEvents, trace, has, View, emptyView, begins, view, Spread, OneTurn, TurnsHold, Stays, Sent, Message, Book, emptyBook, Entered, unchanged, alsoHanded, same, answersOf, bookDone, bookCall, CallOk, AtCall, Once, Stayed, stayed, handedIn, alsoStayed, OnceInStay, CallsOk, Holds, posting}
 use Rattle.promise.proofs.CallEvents.{overOf, drewOf, behindOf, events-are}
-use Rattle.promise.proofs.Item3.{item-3}
+use Rattle.promise.proofs.Item3.{item-3-short}
 
 -- ---- the calls
 
@@ -219,7 +219,7 @@ Before =
 pub before : Before
 before s g store e cs z =
     let n = started s g store in
-    let p = item-3 s g store e cs in
+    let p = item-3-short s g store e cs in
     record {
       links = p .links;
       turns = turns-before emptyView (trace cs n) (none-trace cs n z) (p .turns);

@@ -1,5 +1,5 @@
 -- With every boat watched item 3 is what it said of all boats together: the definitions below are of that statement, with no boat's being watched in them, polls and
--- acknowledgements counted apart, and `everyone` is it, from `item-3`. Assumes nothing.
+-- acknowledgements counted apart, and `everyone` is it, from `item-3-short`. Assumes nothing.
 use mathlib.Core.Path.{_≡_, refl, sym, ap, _∙_, subst}
 use mathlib.Core.Bool.{Bool, true, false, not, cond, _&&_}
 use mathlib.Core.Option.{Option, none, some}
@@ -16,7 +16,7 @@ use Rattle.config.specs.declared.Given.{Given}
 use Rattle.station.specs.Entries.{startRefusal, readRefusal, readingOf}
 use Rattle.promise.specs.Promise as now
 use Rattle.promise.specs.Promise.{Net, InBook, brings, reads, frees, ends, changesNothing, Call, inBook, step, after, started, LinksHold, TurnEvent, drew, over, poll, ack, struck, has, View, emptyView, begins, view, Spread, trace, Message, Ledger, Book, emptyBook, Entered, unchanged, cover, alsoHanded, allBelow, isBoats, framesBy, Event2, enter, enterAll, named, Answers, answersOf, bookEnds, Lowest, LentOk, Pairs, Rising, Once, Stayed, stayed, OnceInStay}
-use Rattle.promise.proofs.Item3.{item-3}
+use Rattle.promise.proofs.Item3.{item-3-short}
 
 -- ---- the statement: turns
 
@@ -326,7 +326,7 @@ holds-same M count (c ∷ cs) n b h =
 pub everyone : Everyone
 everyone s g store e cs =
     let n = started s g store in
-    let p = item-3 s g store e cs in
+    let p = item-3-short s g store e cs in
     record {
       links = p .links;
       turns = turns-same emptyView (trace cs n) (p .turns);

@@ -1,23 +1,25 @@
 -- The book alone: what a piece covers, what is covered whole; and of one cell, that it lands exactly where all is covered. Assumes nothing.
-use mathlib.Core.Path.{_≡_, refl, sym, ap, _∙_, subst}
-use mathlib.Core.Bool.{Bool, true, false, cond, _&&_, _||_}
+use mathlib.Core.Path.{_≡_, refl, sym, ap, _∙_}
+use mathlib.Core.Bool.{Bool, true, false, not, cond, _&&_, _||_}
 use mathlib.Core.List.{List}
-use mathlib.Core.Logic.{inr, ⊎-elim}
-use Prim.Native.Nat.{ℕ, zero, suc, _+_, _≤_, _<_, zero-le}
+use mathlib.Core.Logic.{_⊎_, inl, inr, ⊎-elim}
+use Prim.Native.Nat.{ℕ, zero, suc, _+_, _/_, _%_, _≤_, _<_, zero-le}
 use native.Mathlib.Omega.{arith}
-use lib.ListN.{length, getD, take, drop, length-drop, getD-replicate}
+use lib.ListN.{length, getD, take, drop, length-take, length-drop, getD-replicate}
 use lib.Seq.{getD-take, getD-drop, length-take-le, ext-getD}
 use lib.Dec.{leb, ltb, eqb}
 use borrow.Author.Tests.{leb-true, ltb-true, eqb-true, lt-ltb, le-leb, eq-eqb, ne-eqb}
 use Rattle.bits.proofs.Lists.{cases, le-or-lt, eq-or-not, and-true, never-both}
-use Rattle.inbox.specs.Cells.{Held, held, offset, size}
+use Rattle.inbox.specs.Cells.{Held, held, offset, size, placeAt}
 use Rattle.inbox.specs.declared.cell.Cell.{Cell}
-use Rattle.inbox.specs.declared.keep.Kept.the-variants.{Needless}
-use Rattle.inbox.specs.Keeping.{keptOf}
+use Rattle.inbox.specs.declared.keep.Kept.{Kept}
+use Rattle.inbox.specs.declared.keep.Kept.the-variants.{Needless, Yes, Late, Overlong, Long, NoCell, NoPlace}
+use Rattle.inbox.specs.Keeping.{shorterOf, fullOf, keptOf}
+use Rattle.inbox.specs.Sizes.{messageRoom, numberLimit}
 use Rattle.inbox.specs.Messages.{empty, announced, landed, framed, Cut}
 use Rattle.inbox.specs.Stores.{bodySize, bodyOf}
-use Rattle.inbox.proofs.Joined.{AtPlace, Inv, More, accept-inv}
-use Rattle.inbox.proofs.Rule.{needless-same, kept-room}
+use Rattle.inbox.proofs.Joined.{Inv}
+use Rattle.inbox.proofs.Search.{place-starts}
 use Rattle.promise.specs.Promise.{same, inside, cover, alsoHanded, allBelow}
 
 -- ---- a test of every number below n
@@ -101,14 +103,49 @@ handed-self s k f = rw (same-self s k)
 abbrev pub Cov : (ℕ → Bool) → ℕ → Type 0
 Cov f i = f i ≡ true
 
-module _ (body : List ℕ) (f : ℕ → Bool) (h : Held) (v : Inv (framed body) (Cov f) h) where
+-- the bytes of a message, the two of its length among them, that a cell has room for
+abbrev pub partOf : List ℕ → List ℕ
+partOf body = take 2048 (framed body)
+
+pub part-room : (body : List ℕ) → length (partOf body) ≤ 2048
+part-room body = let n = length-take 2048 (framed body) in omega arith
+
+part-within : (body : List ℕ) → length (partOf body) ≤ 2 + length body
+part-within body = let n = length-take 2048 (framed body) in omega arith
+
+-- a piece that ends at 2,048 or before is cut from them
+pub cut-part : (body : List ℕ) (o : ℕ) (p : List ℕ) → Cut (framed body) o p → o + length p ≤ 2048 → Cut (partOf body) o p
+cut-part body o p cut ends =
+    record {
+      short = cut .short;
+      fits = fits;
+      same = ext-getD 0 p (take (length p) (drop o (partOf body)))
+          (sym (length-take-le (length p) (drop o (partOf body)) (omega (arith, length-drop o (partOf body), fits)))) at;
+    }
+  where
+    fits : o + length p ≤ length (partOf body)
+    fits = let n = length-take 2048 (framed body) in let c = cut .fits in omega arith
+
+    at : (i : ℕ) → i < length p → getD p i 0 ≡ getD (take (length p) (drop o (partOf body))) i 0
+    at i a =
+        ap (λ (q : List ℕ). getD q i 0) (cut .same)
+        ∙ getD-take (length p) (drop o (framed body)) i 0 a
+        ∙ getD-drop o (framed body) i 0
+        ∙ sym (getD-take 2048 (framed body) (o + i) 0 (omega arith))
+        ∙ sym (getD-drop o (partOf body) i 0)
+        ∙ sym (getD-take (length p) (drop o (partOf body)) i 0 a)
+
+module _ (body : List ℕ) (small : length body ≤ 65535) (f : ℕ → Bool) (h : Held) (v : Inv (partOf body) (Cov f) h) where
   fresh-end : f (h .cell .joined) ≡ true → ⊥
   fresh-end c =
       ⊎-elim (λ b. omega arith) (λ p. let q = v .1 (p .0) (p .1) (omega arith) in omega arith)
       (v .0 .all (h .cell .joined) c)
 
   says-of : 2 ≤ h .cell .joined → announced (h .bytes) ≡ length body
-  says-of a = let m = v .0 .small in let b₀ = v .0 .same 0 (omega arith) in let b₁ = v .0 .same 1 (omega arith) in omega arith
+  says-of a =
+      let b₀ : getD (h .bytes) 0 0 ≡ length body % 256 = v .0 .same 0 (omega arith) in
+      let b₁ : getD (h .bytes) 1 0 ≡ length body / 256 % 256 = v .0 .same 1 (omega arith) in
+      omega arith
 
   whole-of : landed h ≡ true → h .cell .joined ≡ 2 + length body
   whole-of e =
@@ -117,15 +154,19 @@ module _ (body : List ℕ) (f : ℕ → Bool) (h : Held) (v : Inv (framed body) 
       let b : 2 + announced (h .bytes) ≤ h .cell .joined = leb-true _ _ (t .1) in
       let n = says-of a in
       let w = v .0 .within in
+      let m = part-within body in
       omega arith
 
   bytes-at : landed h ≡ true → (i : ℕ) → i < length body → getD (take (length body) (drop 2 (h .bytes))) i 0 ≡ getD body i 0
   bytes-at e i a =
       let w = whole-of e in
+      let m = v .0 .within in
+      let r = part-room body in
       let q : 2 + i ≡ suc (suc i) = omega arith in
       getD-take (length body) (drop 2 (h .bytes)) i 0 a
       ∙ getD-drop 2 (h .bytes) i 0
       ∙ v .0 .same (2 + i) (omega arith)
+      ∙ getD-take 2048 (framed body) (2 + i) 0 (omega arith)
       ∙ ap (λ (x : ℕ). getD (framed body) x 0) q
 
   -- what is read of a landed message
@@ -133,7 +174,8 @@ module _ (body : List ℕ) (f : ℕ → Bool) (h : Held) (v : Inv (framed body) 
   landed-bytes e =
       let w = whole-of e in
       let r = v .0 .room in
-      let m = v .0 .small in
+      let m = v .0 .within in
+      let p = part-room body in
       let n : length (take (length body) (drop 2 (h .bytes))) ≡ length body =
       length-take-le _ _ (omega (arith, length-drop 2 (h .bytes))) in
       let u : announced (h .bytes) ≡ length body = says-of (omega arith) in
@@ -175,16 +217,37 @@ empty-inv M bs f small room off = (
     none-waits : (k : ℕ) → k < 16 → 0 < offset (empty bs .cell) k + size (empty bs .cell) k → ⊥
     none-waits k a b = let z = getD-replicate {A = ℕ} 16 k 0 0 a in omega arith
 
--- a piece that changes nothing has all its bytes covered
-pub needless-covered : (F : List ℕ) (f : ℕ → Bool) (x : Cell) (bs : List ℕ) → Inv F (Cov f) (held x bs) → (number o : ℕ) (p : List ℕ) (over room : Bool) → Cut F o p
-    → keptOf number o (length p) over room x ≡ Needless → (i : ℕ) → o ≤ i → i < o + length p → f i ≡ true
-needless-covered F f x bs v number o p over room cut q i a b =
-    let w = accept-inv F (Cov f) (held x bs) (v .0) (v .1) o p cut (kept-room number o over room x bs p (inr q)) in
-    let u : Inv F (More (Cov f) o (length p)) (held x bs) = subst (Inv F (More (Cov f) o (length p))) (needless-same number o over room x bs p q) w in
-    ⊎-elim (λ c. v .0 .below i c) (λ c. at-place c) (u .0 .all i (inr (a, b)))
+-- ---- a piece that changes nothing has all its bytes covered
+
+refused-not : (a b c d e : Bool) → cond a Late (cond b Overlong (cond c Long (cond d NoCell (cond e NoPlace Yes)))) ≡ Needless → ⊥
+refused-not true b c d e q = let z : _≡_ {A = ℕ} 0 1 = cc in omega arith
+refused-not false true c d e q = let z : _≡_ {A = ℕ} 0 1 = cc in omega arith
+refused-not false false true d e q = let z : _≡_ {A = ℕ} 0 1 = cc in omega arith
+refused-not false false false true e q = let z : _≡_ {A = ℕ} 0 1 = cc in omega arith
+refused-not false false false false true q = let z : _≡_ {A = ℕ} 0 1 = cc in omega arith
+refused-not false false false false false q = let z : _≡_ {A = ℕ} 0 1 = cc in omega arith
+
+-- it is empty, or joined, or not longer than one that waits where it starts
+needless-by : (a b c : Bool) (r : Kept) → (r ≡ Needless → ⊥) → cond a Needless (cond b Needless (cond c Needless r)) ≡ Needless → (a ≡ true) ⊎ ((b ≡ true) ⊎ (c ≡ true))
+needless-by true b c r z q = inl refl
+needless-by false true c r z q = inr (inl refl)
+needless-by false false true r z q = inr (inr refl)
+needless-by false false false r z q = absurd (z q)
+
+pub needless-covered : (F : List ℕ) (f : ℕ → Bool) (x : Cell) (bs : List ℕ) → Inv F (Cov f) (held x bs) → (number o n : ℕ) (over room : Bool)
+    → keptOf number o n over room x ≡ Needless → (i : ℕ) → o ≤ i → i < o + n → f i ≡ true
+needless-covered F f x bs v number o n over room q i a b =
+    ⊎-elim (λ t. let z = eqb-true n 0 t in absurd (omega arith))
+    (λ r. ⊎-elim (λ t. let z = leb-true (o + n) (x .joined) t in v .0 .below i (omega arith)) (λ t. waits t) r)
+    (needless-by (eqb n 0) (leb (o + n) (x .joined)) (shorterOf x o n) _
+    (refused-not (leb numberLimit number) over (ltb messageRoom (o + n)) (not room) (fullOf x o)) q)
   where
-    at-place : AtPlace (held x bs) i → f i ≡ true
-    at-place c =
-        ⊎-elim (λ e. v .0 .below i (omega (arith, c .3)))
-        (λ e. v .0 .waits (c .0) (c .1) e .covered i (c .2) (c .3))
-        (le-or-lt (offset x (c .0) + size x (c .0)) (x .joined))
+    waits : shorterOf x o n ≡ true → f i ≡ true
+    waits t =
+        let u = and-true (ltb (x .joined) o && ltb (placeAt x o) 16) _ t in
+        let y = and-true (ltb (x .joined) o) _ (u .0) in
+        let past = ltb-true (x .joined) o (y .0) in
+        let low = ltb-true (placeAt x o) 16 (y .1) in
+        let long = leb-true n (size x (placeAt x o)) (u .1) in
+        let starts = place-starts x o low in
+        v .0 .waits (placeAt x o) low (omega arith) .covered i (omega arith) (omega arith)

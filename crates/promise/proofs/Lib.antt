@@ -23,6 +23,7 @@ pub mod Ledgers
 pub mod Modest
 pub mod Ties
 pub mod Pieces
+pub mod Barred
 pub mod Fits
 pub mod Others
 pub mod Quiet
@@ -42,6 +43,7 @@ pub mod Everyone
 pub mod CallEvents
 pub mod Before
 pub mod Runs
+pub mod ClaimsRun
 pub mod StayRun
 pub mod StruckRun
 pub mod BoatsRun

@@ -84,11 +84,11 @@ start-tied M g store room =
       tie = record {
         tidy = start-tidy count store some-cell (cells-most (length store / 6400)) in-store;
         sound = λ s. subst Sound (sym (fresh s)) sound-fresh;
-        free = λ s k on. ap (λ (w : Window). barredOf w k) (fresh s) ∙ fresh-free k;
+        claimed = λ s k on q. absurd (never-both _ q (ap (λ (w : Window). barredOf w k) (fresh s) ∙ fresh-free k));
         numbers = λ s k on. sym (ap (λ (w : Window). handedOf w k) (fresh s) ∙ fresh-none k);
         says = λ s k. none-below (length (M .text s k));
         cells = λ c a. subst (λ (u : Use). FineAt M (emptyBook .ledger) u (heldAt (viewOf (newStation g count) store) c)) (sym (free c)) tt;
-        bare = λ s k on h z i. refl;
+        bare = λ s k on h free z i. refl;
         entries = λ c. sym (ap (entryOf M) (free c));
       };
       long = length-replicate 62 (newMember blankCall 63 nought);
@@ -303,15 +303,15 @@ module _ (M : Sent) (n : Net) (b : Book) (tied : Tied M n b) (cell : ℕ) (is : 
       record {
         tidy = freed-tidy t₀ (n .store) (tied .tie .tidy) cell;
         sound = tied .tie .sound;
-        free = tied .tie .free;
+        claimed = tied .tie .claimed;
         numbers = tied .tie .numbers;
         says = tied .tie .says;
         cells = λ d a.
             ⊎-elim (λ q. subst (λ (u : Use). FineAt M (b .ledger) u (heldAt (viewOf (n .station) (n .store)) d)) (sym (use-here d q)) tt)
             (λ z. subst (λ (u : Use). FineAt M (b .ledger) u (heldAt (viewOf (n .station) (n .store)) d)) (sym (use-there d z)) (tied .tie .cells d a))
             (eq-or-not d cell);
-        bare = λ s k on h nowhere.
-            tied .tie .bare s k on h
+        bare = λ s k on h free nowhere.
+            tied .tie .bare s k on h free
             (λ d q.
             ⊎-elim (λ i. comes-open (hasBit (t₀ .busy) cell) (hasBit (t₀ .landed) cell) (getD (t₀ .owners) cell 0) s k (sym (ap (useAt t₀) i) ∙ q) is) (λ i. nowhere d (use-there d i ∙ q)) (eq-or-not d cell));
         entries = λ d.
@@ -378,7 +378,7 @@ record RxDone (M : Sent) (count : ℕ) (l : Ledger) (e : ℕ → Option Message)
   pub got : receptions.Received M count (eventsIn (r .words)) (h .out) (viewOf (r .station) (r .store)) (h .left) (l .handed) e
   pub long : length (r .station .members) ≡ 62
 
-module _ (M : Sent) (small : (s k : ℕ) → M .watched s ≡ true → length (M .text s k) ≤ 2046) (n : Net) (b : Book) (tied : Tied M n b) (numbers : List ℕ) (snr now : Float) where
+module _ (M : Sent) (small : (s k : ℕ) → M .watched s ≡ true → length (M .text s k) ≤ 65535) (n : Net) (b : Book) (tied : Tied M n b) (numbers : List ℕ) (snr now : Float) where
   module _ (u : Burst) (fine : FineBurst u) where
     abbrev frames : List Heard
     frames = framesBy (parsed u)
@@ -630,8 +630,8 @@ signing-good M slot n b tied =
     matched true f m = m
     matched false f m = ends-match slot b f m
 
-module _ (M : Stays) (small : (s t k : ℕ) → M .watched s t ≡ true → length (M .text s t k) ≤ 2046) where
-  small-now : (b : Book) (s k : ℕ) → sentNow M b .watched s ≡ true → length (sentNow M b .text s k) ≤ 2046
+module _ (M : Stays) (small : (s t k : ℕ) → M .watched s t ≡ true → length (M .text s t k) ≤ 65535) where
+  small-now : (b : Book) (s k : ℕ) → sentNow M b .watched s ≡ true → length (sentNow M b .text s k) ≤ 65535
   small-now b s k = small s (b .stay s) k
 
   pub call-good : (c : Call) (n : Net) (b : Book) → Tied (sentNow M b) n b → CallOk (sentNow M b) (inBook c) (answersOf c n) b → StayGood M c n b
@@ -680,7 +680,7 @@ module _ (M : Stays) (small : (s t k : ℕ) → M .watched s t ≡ true → leng
       (stayed-once (b .stay) (e .out) f (b .ledger .handed) (m .now) (g .once))
       (calls-once cs (step c n) (e .left) (allStayed (stayed (b .stay) (e .out)) f) (g .matches f m) (g .tied) (ok .1))
 
-pub messages-kept : (M : Stays) → ((s t k : ℕ) → M .watched s t ≡ true → length (M .text s t k) ≤ 2046) → (s : Station) (g : Given) (store : List ℕ) → startRefusal g (length store) ≡ 0
+pub messages-kept : (M : Stays) → ((s t k : ℕ) → M .watched s t ≡ true → length (M .text s t k) ≤ 65535) → (s : Station) (g : Given) (store : List ℕ) → startRefusal g (length store) ≡ 0
     → (cs : List Call) → CallsOk M cs (started s g store) emptyBook → Messages M (started s g store) cs
 messages-kept M small s g store e cs ok =
     let t = started-tied (sentNow M emptyBook) s g store e in

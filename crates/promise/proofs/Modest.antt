@@ -17,12 +17,13 @@ use Rattle.inbox.specs.Cells.{Held, accept}
 use Rattle.inbox.specs.Messages.{empty, Cut, announced, framed, claims, showsOf}
 use Rattle.inbox.proofs.Joined.{Inv, accept-inv}
 use Rattle.inbox.proofs.Claims.{short-claims, shows-two, shows-wait, shows-empty, shows-begin}
+use Rattle.promise.proofs.Ledgers.{partOf, cut-part}
 
 module _ (body : List ℕ) (small : length body ≤ 2046) where
   two-say : (x y : ℕ) → x ≡ getD (framed body) 0 0 → y ≡ getD (framed body) 1 0 → ltb 2046 (x + 256 * y) ≡ false
   two-say x y a b = le-ltb 2046 (x + 256 * y) (omega arith)
 
-  pub inv-modest : (C : ℕ → Type 0) (h : Held) → Inv (framed body) C h → claims h ≡ false
+  pub inv-modest : (C : ℕ → Type 0) (h : Held) → Inv (partOf body) C h → claims h ≡ false
   inv-modest C h v =
       ⊎-elim
       (λ a.
@@ -34,11 +35,11 @@ module _ (body : List ℕ) (small : length body ≤ 2046) where
       (le-or-lt 2 (h .cell .joined))
 
   -- of the cell that it comes into
-  pub shows-modest : (C : ℕ → Type 0) (h : Held) → Inv (framed body) C h → (o : ℕ) (p : List ℕ) → Cut (framed body) o p → showsOf h o p ≡ false
+  pub shows-modest : (C : ℕ → Type 0) (h : Held) → Inv (partOf body) C h → (o : ℕ) (p : List ℕ) → Cut (framed body) o p → showsOf h o p ≡ false
   unfolding showsOf
   shows-modest C h v o p cut =
       ⊎-elim
-      (λ a. inv-modest _ (accept h o p) (accept-inv (framed body) C h (v .0) (v .1) o p cut (λ l m. absurd (omega arith))))
+      (λ a. inv-modest _ (accept h o p) (accept-inv (partOf body) C h (v .0) (v .1) o p (cut-part body o p cut (omega (arith, cut .fits))) (λ l m. absurd (omega arith))))
       (λ a.
       let r = v .0 .room in
       ⊎-elim

@@ -60,7 +60,7 @@ swapped =
     ∷ reading 0 handed
     ∷ []
 
--- 65,536 bytes, of which the two length bytes say 0
+-- 65,536 bytes, one more than the premise allows: the two length bytes say 0. So its bound is tight
 pub too-long : List ℕ
 too-long = replicate 65536 0
 

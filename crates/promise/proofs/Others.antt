@@ -4,7 +4,7 @@ use mathlib.Core.Bool.{Bool, true, false, cond}
 use mathlib.Core.Option.{Option, none, some}
 use mathlib.Core.List.{List, []}
 use mathlib.Core.Logic.{_⊎_, inl, inr, ⊎-elim}
-use Prim.Native.Nat.{ℕ, _+_, _*_, _/_, _%_, _^_, _≤_, _<_}
+use Prim.Native.Nat.{ℕ, _+_, _*_, _%_, _^_, _≤_, _<_}
 use native.Mathlib.Omega.{arith}
 use lib.ListN.{length, getD}
 use lib.Seq.{getD-set-same}
@@ -12,27 +12,23 @@ use borrow.Author.Tests.{eq-eqb, ne-eqb}
 use Rattle.bits.specs.Mask.{hasBit, withBit, withoutBit}
 use Rattle.bits.proofs.Laws.{with-same, without-same}
 use Rattle.bits.proofs.Lists.{cases, le-or-lt, eq-or-not, never-both}
-use Rattle.wire.specs.declared.number.Number.the-variants.{Is}
-use Rattle.wire.specs.Numbers.{widened}
 use Rattle.inbox.specs.declared.cell.Cell.{Cell}
 use Rattle.inbox.specs.declared.keep.Kept.the-variants.{Yes}
 use Rattle.inbox.specs.Cells.{Held, held}
-use Rattle.inbox.specs.declared.store.Landed.the-variants.{NotYet}
 use Rattle.inbox.specs.Stores.{cellOf}
 use Rattle.inbox.proofs.Rule.{KeptIs, yes-is}
 use Rattle.stream.specs.declared.window.Window.{Window}
 use Rattle.stream.specs.declared.table.Room.{Room}
 use Rattle.stream.specs.declared.table.Room.the-variants.{Own, Free, Full}
-use Rattle.stream.specs.Window.{handedOf, landOf, barredOf, barOf}
-use Rattle.stream.specs.Table.{Table, Accepted, accept, cellAt, cellFor, hasRoom, ownerOf, cellCount, placeOf, tableRoom, isOver, hasLanded, freedTable, barredTable}
-use Rattle.stream.proofs.Rooms.{RoomIs, cells-are}
+use Rattle.stream.specs.Window.{handedOf, landOf, barredOf}
+use Rattle.stream.specs.Table.{Table, Accepted, accept, cellAt, cellFor, hasRoom, ownerOf, cellCount, placeOf, tableRoom, isOver, hasLanded}
+use Rattle.stream.proofs.Rooms.{RoomIs}
 use Rattle.stream.proofs.Tables.{Tidy, place-below, place-in, table-room}
-use Rattle.stream.proofs.Windows.{Sound, sound-next}
-use Rattle.stream.proofs.Accepts.{answerOf, cellIn, putAs, accept-cases, widen-most, SameCell, same-cell, accept-other}
+use Rattle.stream.proofs.Accepts.{answerOf, cellIn, putAs, accept-cases, SameCell, accept-other}
 use Rattle.promise.specs.Promise.{Sent, Message, Ledger, Event2, enter}
 use Rattle.promise.proofs.Ties.{View, Use, Vacant, Comes, Whole, useOf, useAt, heldAt, FineAt, entryOf, Tie, not-vacant, comes-is, use-comes, use-whole, use-vacant, filling-comes}
-use Rattle.promise.proofs.Pieces.{windowsAfter, viewAfter, viewBarred, eventFor, Joint}
-use Rattle.promise.proofs.Fits.{FitView, accept-bar, piece-fit, barred-fit}
+use Rattle.promise.proofs.Pieces.{windowsAfter, viewAfter, eventFor, Joint}
+use Rattle.promise.proofs.Fits.{FitView, piece-fit}
 
 -- ---- what a cell is for
 
@@ -96,7 +92,7 @@ module _ (M : Sent) (v : View) (l : Ledger) (e : ℕ → Option Message) (tie : 
         record {
           tidy = fit .tidy;
           sound = fit .sound;
-          free = λ a b on. ap (λ (w : Window). barredOf w b) (windows a (not-it a on)) ∙ tie .free a b on;
+          claimed = λ a b on q. tie .claimed a b on (sym (ap (λ (w : Window). barredOf w b) (windows a (not-it a on))) ∙ q);
           numbers = λ a b on. tie .numbers a b on ∙ sym (ap (λ (w : Window). handedOf w b) (windows a (not-it a on)));
           says = tie .says;
           cells = λ d a.
@@ -105,8 +101,8 @@ module _ (M : Sent) (v : View) (l : Ledger) (e : ℕ → Option Message) (tie : 
               subst (λ (o : Use). FineAt M l o (heldAt v′ d)) (sym (use-there d z))
               (subst (λ (g : Held). FineAt M l (useAt (v .table) d) g) (sym (held-there d z (omega arith))) (tie .cells d (omega arith))))
               (eq-or-not d c);
-          bare = λ a b on h nowhere.
-              tie .bare a b on h
+          bare = λ a b on h free nowhere.
+              tie .bare a b on h (sym (ap (λ (w : Window). barredOf w b) (windows a (not-it a on))) ∙ free)
               (λ d o.
               ⊎-elim (λ q. not-it a on (its-comes s (useAt (v .table) c) a b was (sym (ap (useAt (v .table)) q) ∙ o))) (λ z. nowhere d (use-there d z ∙ o)) (eq-or-not d c));
           entries = λ d.
@@ -123,7 +119,7 @@ pub record Stood (t : Table) (bytes : List ℕ) (x : Accepted) : Type 0 where
   pub store : x .store ≡ bytes
   pub quiet : hasLanded (x .landed) ≡ false
 
--- or its cell is touched, which was free or its own: it is free then, or its own
+-- or its cell is touched, which was free or its own: it is its own then
 pub record Touched (s : ℕ) (t : Table) (x : Accepted) : Type 0 where
   pub count : x .table .count ≡ t .count
   pub below : x .cell < t .count
@@ -133,38 +129,9 @@ pub record Touched (s : ℕ) (t : Table) (x : Accepted) : Type 0 where
   pub lands : hasLanded (x .landed) ≡ true → useAt (x .table) (x .cell) ≡ Whole s (x .number)
   pub waits : hasLanded (x .landed) ≡ false → (M : Sent) → entryOf M (useAt (x .table) (x .cell)) ≡ none
 
-module _ (t : Table) (w : Window) (store : List ℕ) (s field : ℕ) (p : List ℕ) (tidy : Tidy t store) (sound : Sound w) where
+module _ (t : Table) (w : Window) (store : List ℕ) (s field : ℕ) (p : List ℕ) (tidy : Tidy t store) where
   abbrev RoomHere : ℕ → Room → Type 0
   RoomHere k = RoomIs (t .owners) (t .busy) (t .landed) (ownerOf s k) (cellCount (t .count))
-
-  abbrev Either : Accepted → Type 0
-  Either x = Stood t store x ⊎ Touched s t x
-
-  low-number : (k : ℕ) → widened (field / 65536 % 256) (w .next) ≡ Is k → k < 2 ^ 32
-  low-number k q = let n = sound-next w sound in let m = widen-most (field / 65536 % 256) (w .next) k n q in omega arith
-
-  -- its number is barred
-  abbrev barredBy : ℕ → Room → Accepted
-  barredBy k r =
-      record { table = barredTable t r; window = barOf w k; store = store; lost = true; bars = true; landed = NotYet; cell = placeOf r; number = k }
-
-  bar-touched : (k : ℕ) → k < 2 ^ 32 → (r : Room) → RoomHere k r → Either (barredBy k r)
-  bar-touched k low (Own c) h =
-      let n = cells-are (t .count) (tidy .most) in
-      let b = h .below in
-      let q = filling-comes t c s k (h .filling) low in
-      let u : useAt (freedTable t c) c ≡ Vacant = use-vacant (hasBit (freedTable t c .busy) c) (hasBit (freedTable t c .landed) c) (getD (t .owners) c 0) (without-same (t .busy) c) in
-      inr (record {
-        count = refl;
-        below = omega arith;
-        was = subst (Its s) (sym q) refl;
-        empty = λ M. ap (entryOf M) q;
-        is = subst (Its s) (sym u) tt;
-        lands = λ f. absurd (never-both false f refl);
-        waits = λ f M. ap (entryOf M) u;
-      })
-  bar-touched k low (Free c) h = inl (record { table = refl; store = refl; quiet = refl })
-  bar-touched k low Full h = inl (record { table = refl; store = refl; quiet = refl })
 
   -- it is kept
   module _ (k : ℕ) (yes : answerOf t w store s k (field % 65536) p ≡ Yes) where
@@ -221,19 +188,14 @@ module _ (t : Table) (w : Window) (store : List ℕ) (s field : ℕ) (p : List �
           waits = λ q M. ap (entryOf M) (use-waits q);
         }
 
-  touched : Either (accept t w store s field p)
+  touched : accept t w store s field p .lost ≡ false → Stood t store (accept t w store s field p) ⊎ Touched s t (accept t w store s field p)
   touched =
-      accept-cases t w store s field p Either
-      (λ q. inl (record { table = refl; store = refl; quiet = refl }))
-      (λ k q h. inl (record { table = refl; store = refl; quiet = refl }))
-      (λ k o a q c z. inl (record { table = refl; store = refl; quiet = refl }))
-      (λ k o q. bar-touched k (low-number k (o .is)) (tableRoom t s k) (table-room t store tidy s k))
-      (λ k o q. inr (put-touched k q))
-
-  bars-quiet : accept t w store s field p .bars ≡ true → hasLanded (accept t w store s field p .landed) ≡ false
-  bars-quiet =
-      accept-cases t w store s field p (λ x. x .bars ≡ true → hasLanded (x .landed) ≡ false)
-      (λ q b. refl) (λ k q h b. refl) (λ k o a q c z b. refl) (λ k o q b. refl) (λ k o q b. absurd (never-both false b refl))
+      accept-cases t w store s field p (λ x. x .lost ≡ false → Stood t store x ⊎ Touched s t x)
+      (λ q z. inl (record { table = refl; store = refl; quiet = refl }))
+      (λ k q h z. inl (record { table = refl; store = refl; quiet = refl }))
+      (λ k o a q c y z. inl (record { table = refl; store = refl; quiet = refl }))
+      (λ k o q z. absurd (never-both true refl z))
+      (λ k o q z. inr (put-touched k q))
 
 -- ---- the piece
 
@@ -244,9 +206,6 @@ module _ (M : Sent) (v : View) (l : Ledger) (e : ℕ → Option Message) (tie : 
 
   fit : FitView v
   fit = record { tidy = tie .tidy; sound = tie .sound }
-
-  done : Stood (v .table) (v .store) r ⊎ Touched s (v .table) r
-  done = touched (v .table) (v .windows s) (v .store) s field p (tie .tidy) (tie .sound s)
 
   same-else : (d : ℕ) → (d ≡ r .cell → ⊥) → 6400 * d + 6400 ≤ length (v .store) → SameCell (v .table) (r .table) (v .store) (r .store) d
   same-else = accept-other (v .table) (v .windows s) (v .store) s field p (tie .tidy) short
@@ -295,33 +254,5 @@ module _ (M : Sent) (v : View) (l : Ledger) (e : ℕ → Option Message) (tie : 
   -- it is heard
   pub aside-good : r .lost ≡ false → Joint M l (viewAfter v s r) l (eventFor s r) [] e
   aside-good kept =
-      ⊎-elim (λ h. stood-by h (hasLanded (r .landed)) refl) (λ h. touched-by h (hasLanded (r .landed)) refl (piece-fit v s field p fit short kept)) done
-
-  -- its number is barred
-  pub aside-barred : r .bars ≡ true → Tie M (viewBarred v s r) l e
-  aside-barred bars = ⊎-elim stood-barred touched-barred done
-    where
-      f : FitView (viewBarred v s r)
-      f = barred-fit v s field p fit short bars
-
-      store-is : r .store ≡ v .store
-      store-is = accept-bar (v .table) (v .windows s) (v .store) s field p bars .1
-
-      windows-are : (a : ℕ) → (a ≡ s → ⊥) → viewBarred v s r .windows a ≡ v .windows a
-      windows-are a z = ap (λ (u : Bool). cond u (barOf (v .windows a) (r .number)) (v .windows a)) (ne-eqb s a (λ i. z (sym i)))
-
-      same-there : (d : ℕ) → (d ≡ r .cell → ⊥) → 6400 * d + 6400 ≤ length (v .store) → SameCell (v .table) (r .table) (v .store) (v .store) d
-      same-there d z a = subst (λ (y : List ℕ). SameCell (v .table) (r .table) (v .store) y d) store-is (same-else d z a)
-
-      touched-barred : Touched s (v .table) r → Tie M (viewBarred v s r) l e
-      touched-barred h =
-          aside-tie M v l e tie s off (viewBarred v s r) (r .cell) f (h .count) windows-are same-there (h .was) (h .is) e
-          (tie .entries (r .cell) ∙ h .empty M ∙ sym (h .waits (bars-quiet (v .table) (v .windows s) (v .store) s field p (tie .tidy) (tie .sound s) bars) M)) (λ d z. refl)
-
-      stood-barred : Stood (v .table) (v .store) r → Tie M (viewBarred v s r) l e
-      stood-barred h =
-          let u : Its s (useAt (v .table) (v .table .count)) = subst (Its s) (sym (beyond (v .table) (v .store) (tie .tidy) (v .table .count) (omega arith))) tt in
-          aside-tie M v l e tie s off (viewBarred v s r) (v .table .count) f (ap (λ (t : Table). t .count) (h .table)) windows-are
-          (λ d z a. subst (λ (t : Table). SameCell (v .table) t (v .store) (v .store) d) (sym (h .table)) (same-cell (v .table) (v .store) d))
-          u (subst (λ (t : Table). Its s (useAt t (v .table .count))) (sym (h .table)) u) e
-          (tie .entries (v .table .count) ∙ ap (λ (t : Table). entryOf M (useAt t (v .table .count))) (sym (h .table))) (λ d z. refl)
+      ⊎-elim (λ h. stood-by h (hasLanded (r .landed)) refl) (λ h. touched-by h (hasLanded (r .landed)) refl (piece-fit v s field p fit short kept))
+      (touched (v .table) (v .windows s) (v .store) s field p (tie .tidy) kept)

@@ -1,12 +1,12 @@
 -- One piece of a boat keeps the tie: the station lands a message exactly where the book hands one over. Assumes nothing.
 use mathlib.Core.Path.{_≡_, refl, sym, ap, _∙_, subst}
-use mathlib.Core.Bool.{Bool, true, false, not, cond, _&&_, _||_}
+use mathlib.Core.Bool.{Bool, true, false, not, cond, _&&_}
 use mathlib.Core.Option.{Option, none, some}
 use mathlib.Core.List.{List, [], _∷_}
 use mathlib.Core.Logic.{inl, inr, ⊎-elim}
 use Prim.Native.Nat.{ℕ, _+_, _*_, _/_, _%_, _^_, _≤_, _<_}
 use native.Mathlib.Omega.{arith}
-use lib.ListN.{length, getD, replicate, length-replicate}
+use lib.ListN.{length, getD}
 use lib.Seq.{getD-set-same}
 use lib.Dec.{eqb}
 use borrow.Author.Tests.{eq-eqb, ne-eqb}
@@ -22,21 +22,21 @@ use Rattle.inbox.specs.declared.keep.Kept.the-variants.{Needless, Yes, Late, Ov
 use Rattle.inbox.specs.declared.store.Landed.the-variants.{Bytes, NotYet}
 use Rattle.inbox.specs.Cells.{Held, held}
 use Rattle.inbox.specs.Stores.{cellOf, inCell}
-use Rattle.inbox.specs.Messages.{announced, landed, framed, showsOf}
+use Rattle.inbox.specs.Messages.{announced, landed}
 use Rattle.inbox.proofs.Joined.{Inv, More, same-loose, accept-inv}
 use Rattle.inbox.proofs.Apart.{in-length, in-same, in-other}
-use Rattle.inbox.proofs.Rule.{KeptIs, yes-is, over-is, kept-room}
+use Rattle.inbox.proofs.Rule.{KeptIs, yes-is, kept-room}
 use Rattle.stream.specs.declared.window.Window.{Window}
 use Rattle.stream.specs.declared.table.Taken.{Taken}
 use Rattle.stream.specs.Window.{handedOf, landOf, barredOf, barOf}
-use Rattle.stream.specs.Table.{Table, Accepted, accepted, passed, took, noCell, cellAt, cellFor, hasRoom, ownerOf, tableRoom, isOver, heldFor, changes, bars, hasLanded, keptTable}
+use Rattle.stream.specs.Table.{Table, Accepted, accepted, passed, took, noCell, cellAt, cellFor, hasRoom, ownerOf, tableRoom, isOver, changes, isLost, hasLanded, keptTable}
 use Rattle.stream.specs.Table as table
 use Rattle.stream.proofs.Tables.{Tidy, kept-tidy, kept-other, place-below, place-in, room-only}
 use Rattle.stream.proofs.Windows.{Sound, sound-next, sound-land, land-at, land-bars, handed-low, next-not-handed}
-use Rattle.stream.proofs.Accepts.{leftAs, barredAs, answerOf, cellIn, heldAfter, putAs, accept-cases, after-length, after-fits}
+use Rattle.stream.proofs.Accepts.{leftAs, answerOf, cellIn, heldAfter, putAs, accept-cases, kept-modest, after-length, after-fits}
 use Rattle.promise.specs.Promise.{Sent, Message, Ledger, Entered, unchanged, same, inside, cover, alsoHanded, allBelow, completes, bookPiece, Event2, enter, Lowest, PieceOk}
-use Rattle.promise.proofs.Ledgers.{of-all, same-true, cover-other, cover-same, cover-nothing, inside-true, inside-of, handed-other, handed-self, Cov, landed-bytes, landed-is, needless-covered, one-or}
-use Rattle.promise.proofs.Ties.{View, Comes, Whole, useOf, useAt, heldAt, Tie, use-comes, use-whole, Aim, aim, now-inv, shows-none, put-tie}
+use Rattle.promise.proofs.Ledgers.{of-all, same-true, cover-other, cover-same, cover-nothing, inside-true, inside-of, handed-other, handed-self, Cov, partOf, cut-part, landed-bytes, landed-is, one-or}
+use Rattle.promise.proofs.Ties.{View, Comes, Whole, useOf, useAt, heldAt, Tie, use-comes, use-whole, Aim, aim, needless-here, put-tie}
 
 -- ---- what a piece comes to, on both sides
 
@@ -104,7 +104,7 @@ or-same : (t : Bool) → cond t true true ≡ true
 or-same true = refl
 or-same false = refl
 
-is-same : (k j : ℕ) → Is k ≡ Is j → k ≡ j
+pub is-same : (k j : ℕ) → Is k ≡ Is j → k ≡ j
 is-same k j q = cc
 
 -- a piece that covers f, handing its message over or not
@@ -114,7 +114,7 @@ enterBy b s k l f =
     (unchanged (record { covered = f; handed = l .handed }))
 
 module _ (M : Sent) (v : View) (l : Ledger) (e : ℕ → Option Message) (tie : Tie M v l e)
-    (s k field : ℕ) (p : List ℕ) (on : M .watched s ≡ true) (small : length (M .text s k) ≤ 2046) (ok : PieceOk M l s k field p) where
+    (s k field : ℕ) (p : List ℕ) (on : M .watched s ≡ true) (small : length (M .text s k) ≤ 65535) (ok : PieceOk M l s k field p) where
   abbrev w : Window
   w = v .windows s
 
@@ -125,7 +125,7 @@ module _ (M : Sent) (v : View) (l : Ledger) (e : ℕ → Option Message) (tie : 
   lowest-is = (tie .numbers s (w .next) on ∙ next-not-handed w, λ j a. tie .numbers s j on ∙ handed-low w j a)
 
   -- the number is made whole
-  is-number : widened (field / 65536 % 256) (w .next) ≡ Is k
+  pub is-number : widened (field / 65536 % 256) (w .next) ≡ Is k
   is-number =
       let n = ok .near (w .next) lowest-is in
       let z = sound-next w (tie .sound s) in
@@ -147,42 +147,28 @@ module _ (M : Sent) (v : View) (l : Ledger) (e : ℕ → Option Message) (tie : 
   still : Still M l v l e
   still = record { tie = tie; handed = refl }
 
+  -- of a piece that is heard
   abbrev Fair : Accepted → Type 0
-  Fair x = Good M l e v s x (cond (x .lost) (unchanged l) (bookPiece M s k o (length p) l))
+  Fair x = x .lost ≡ false → Good M l e v s x (bookPiece M s k o (length p) l)
 
   quiet : bookPiece M s k o (length p) l ≡ unchanged l → Joint M l v (bookPiece M s k o (length p) l .left) none (bookPiece M s k o (length p) l .out) e
   quiet q = subst (λ (n : Entered Ledger). Joint M l v (n .left) none (n .out) e) (sym q) still
-
-  left-by : (a : Kept) → changes a ≡ false → bars a ≡ false → (a ≡ Needless → bookPiece M s k o (length p) l ≡ unchanged l) → (c : ℕ)
-      → Fair (leftAs (v .table) w (v .store) c k a)
-  left-by Needless q z h c = quiet (h refl)
-  left-by Yes q z h c = absurd (never-both true refl q)
-  left-by Late q z h c = still
-  left-by Overlong q z h c = absurd (never-both true refl z)
-  left-by Long q z h c = still
-  left-by NoCell q z h c = still
-  left-by NoPlace q z h c = still
 
   -- whether the piece claims too much
   abbrev over : Bool
   over = isOver (barredOf w k) (v .store) (tableRoom (v .table) s k) (cellAt (v .table) (cellIn (v .table) s k)) o p
 
-  -- a piece of a message of at most 2,046 bytes claims no more
-  never-over : l .handed s k ≡ false → answerOf (v .table) w (v .store) s k o p ≡ Overlong → ⊥
-  never-over hand q =
-      never-both over
-      (over-is k o (length p) over (hasRoom (tableRoom (v .table) s k)) (cellFor (tableRoom (v .table) s k) (cellAt (v .table) (cellIn (v .table) s k))) q .claimed)
-      (ap (λ (b : Bool). b || showsOf (heldFor (tableRoom (v .table) s k) (cellAt (v .table) (cellIn (v .table) s k)) (v .store)) o p) (tie .free s k on)
-      ∙ shows-none M v l e tie s k on small low-k hand o p (ok .cut))
+  is-needless : (a : Kept) → changes a ≡ false → isLost a ≡ false → a ≡ Needless
+  is-needless Needless q z = refl
+  is-needless Yes q z = absurd (never-both true refl q)
+  is-needless Late q z = absurd (never-both true refl z)
+  is-needless Overlong q z = absurd (never-both true refl z)
+  is-needless Long q z = absurd (never-both true refl z)
+  is-needless NoCell q z = absurd (never-both true refl z)
+  is-needless NoPlace q z = absurd (never-both true refl z)
 
-  left-fair : l .handed s k ≡ false → (a : Kept) → answerOf (v .table) w (v .store) s k o p ≡ a → changes a ≡ false → bars a ≡ false
-      → Fair (leftAs (v .table) w (v .store) (cellIn (v .table) s k) k a)
-  left-fair hand a q c y =
-      left-by a c y (λ z.
-      let y = now-inv M v l e tie s k on small low-k hand (replicate 6144 0) (omega (arith, length-replicate {A = ℕ} 6144 0)) in
-      quiet-book (needless-covered (framed (M .text s k)) (l .covered s k)
-      (cellFor (tableRoom (v .table) s k) (cellAt (v .table) (cellIn (v .table) s k))) (y .0) (y .1) k o p over (hasRoom (tableRoom (v .table) s k)) (ok .cut) (q ∙ z)))
-      (cellIn (v .table) s k)
+  left-fair : (a : Kept) → answerOf (v .table) w (v .store) s k o p ≡ a → changes a ≡ false → Fair (leftAs (v .table) w (v .store) (cellIn (v .table) s k) k a)
+  left-fair a q c z = quiet (quiet-book (needless-here M v l e tie s k on low-k o (length p) over (q ∙ is-needless a c z)))
 
   -- ---- a kept piece
   module _ (hand : l .handed s k ≡ false) (yes : answerOf (v .table) w (v .store) s k o p ≡ Yes) where
@@ -201,18 +187,22 @@ module _ (M : Sent) (v : View) (l : Ledger) (e : ℕ → Option Message) (tie : 
     kept : KeptIs k o (length p) over (hasRoom (tableRoom (v .table) s k)) x
     kept = yes-is k o (length p) over (hasRoom (tableRoom (v .table) s k)) x yes
 
+    -- its number is not barred
+    free : barredOf w k ≡ false
+    free = kept-modest (v .table) w (v .store) s field p (tie .tidy) (ok .cut .short) k yes .0
+
     m : Aim M v l s k c x
-    m = aim M v l e tie s k on small low-k hand (kept .celled)
+    m = aim M v l e tie s k on low-k hand free (kept .celled)
 
     long : length (h .bytes) ≡ 6400
     long = after-length (v .table) w (v .store) s field p (tie .tidy) (ok .cut .short) k yes
 
-    after-inv : Inv (framed (M .text s k)) (Cov (covers s k)) h
+    after-inv : Inv (partOf (M .text s k)) (Cov (covers s k)) h
     after-inv =
-        let u = accept-inv (framed (M .text s k)) (Cov (l .covered s k)) (held x (cellOf (v .store) c)) (m .inv .0) (m .inv .1) o p (ok .cut)
+        let u = accept-inv (partOf (M .text s k)) (Cov (l .covered s k)) (held x (cellOf (v .store) c)) (m .inv .0) (m .inv .1) o p (cut-part (M .text s k) o p (ok .cut) (kept .fits))
         (kept-room k o over (hasRoom (tableRoom (v .table) s k)) x (cellOf (v .store) c) p (inl yes)) in
-        subst (λ (g : ℕ → Bool). Inv (framed (M .text s k)) (Cov g) h) (sym (cover-same s k o (length p) (l .covered))) (
-          same-loose (framed (M .text s k)) (More (Cov (l .covered s k)) o (length p)) (Cov (λ i. cond (inside o (length p) i) true (l .covered s k i))) h (u .0)
+        subst (λ (g : ℕ → Bool). Inv (partOf (M .text s k)) (Cov g) h) (sym (cover-same s k o (length p) (l .covered))) (
+          same-loose (partOf (M .text s k)) (More (Cov (l .covered s k)) o (length p)) (Cov (λ i. cond (inside o (length p) i) true (l .covered s k i))) h (u .0)
               (λ i d.
               ⊎-elim (λ y. ap (λ (t : Bool). cond (inside o (length p) i) true t) y ∙ or-same (inside o (length p) i))
               (λ y. ap (λ (t : Bool). cond t true (l .covered s k i)) (inside-of o (length p) i (y .0) (y .1))) d)
@@ -226,7 +216,7 @@ module _ (M : Sent) (v : View) (l : Ledger) (e : ℕ → Option Message) (tie : 
     lands-iff : completes M s k l covers ≡ landed h
     lands-iff =
         ap (λ (t : Bool). not t && allBelow (2 + length (M .text s k)) (covers s k)) hand
-        ∙ sym (landed-is (M .text s k) (covers s k) h after-inv)
+        ∙ sym (landed-is (M .text s k) small (covers s k) h after-inv)
 
     cov-other : (a b : ℕ) → same s k a b ≡ false → covers a b ≡ l .covered a b
     cov-other a b t = cover-other s k o (length p) (l .covered) a b t
@@ -291,7 +281,7 @@ module _ (M : Sent) (v : View) (l : Ledger) (e : ℕ → Option Message) (tie : 
         (use-comes _ _ _ s k (busy-here false is) (without-same (v .table .landed) c) (owner-here false is) low-k)
         (held-here false is (v .windows)) (use-there false is) (held-there false is (v .windows))
         (record { covered = covers; handed = l .handed }) (record { cov = cov-other; hand = λ a b q. refl }) e
-        (tie .sound) (tie .free) (tie .numbers) says
+        (tie .sound) (λ a b. refl) (tie .numbers) says
         (λ i. record { not-yet = hand; inv = after-inv })
         (λ q. refl) (tie .entries c ∙ m .unlanded) (λ d z. refl)
       where
@@ -302,7 +292,7 @@ module _ (M : Sent) (v : View) (l : Ledger) (e : ℕ → Option Message) (tie : 
             at true q =
                 let r = same-true s k a b q in
                 let here : l .handed s k ≡ allBelow (2 + length (M .text s k)) (covers s k) =
-                hand ∙ sym is ∙ landed-is (M .text s k) (covers s k) h after-inv in
+                hand ∙ sym is ∙ landed-is (M .text s k) small (covers s k) h after-inv in
                 subst (λ (y : ℕ). l .handed a y ≡ allBelow (2 + length (M .text a y)) (covers a y)) (r .1)
                 (subst (λ (y : ℕ). l .handed y k ≡ allBelow (2 + length (M .text y k)) (covers y k)) (r .0) here)
             at false q = tie .says a b ∙ ap (allBelow (2 + length (M .text a b))) (sym (cov-other a b q))
@@ -327,13 +317,13 @@ module _ (M : Sent) (v : View) (l : Ledger) (e : ℕ → Option Message) (tie : 
 
     sound′ : (a : ℕ) → Sound (win′ a)
     sound′ a =
-        ⊎-elim (λ q. subst Sound (sym (win-here a q)) (sound-land w (tie .sound s) k (tie .free s k on) (kept .low) next-le (omega (arith, next-near))))
+        ⊎-elim (λ q. subst Sound (sym (win-here a q)) (sound-land w (tie .sound s) k free (kept .low) next-le (omega (arith, next-near))))
         (λ z. subst Sound (sym (win-there a z)) (tie .sound a)) (eq-or-not a s)
 
-    free′ : (a b : ℕ) → M .watched a ≡ true → barredOf (win′ a) b ≡ false
-    free′ a b i =
-        ⊎-elim (λ q. ap (λ (y : Window). barredOf y b) (win-here a q) ∙ land-bars w (tie .sound s) k (tie .free s k on) next-le b ∙ tie .free s b on)
-        (λ z. ap (λ (y : Window). barredOf y b) (win-there a z) ∙ tie .free a b i) (eq-or-not a s)
+    bars′ : (a b : ℕ) → barredOf (win′ a) b ≡ barredOf (v .windows a) b
+    bars′ a b =
+        ⊎-elim (λ q. ap (λ (y : Window). barredOf y b) (win-here a q) ∙ land-bars w (tie .sound s) k free next-le b ∙ ap (λ (y : ℕ). barredOf (v .windows y) b) (sym q))
+        (λ z. ap (λ (y : Window). barredOf y b) (win-there a z)) (eq-or-not a s)
 
     numbers′ : (a b : ℕ) → M .watched a ≡ true → alsoHanded s k (l .handed) a b ≡ handedOf (win′ a) b
     unfolding alsoHanded
@@ -364,8 +354,8 @@ module _ (M : Sent) (v : View) (l : Ledger) (e : ℕ → Option Message) (tie : 
         (record { covered = covers; handed = alsoHanded s k (l .handed) })
         (record { cov = cov-other; hand = λ a b q. handed-other s k (l .handed) a b q })
         (enter c (some (record { slot = s; number = k })) e)
-        sound′ free′ numbers′ says
-        (λ i. landed-bytes (M .text s k) (covers s k) h after-inv is)
+        sound′ bars′ numbers′ says
+        (λ i. landed-bytes (M .text s k) small (covers s k) h after-inv is)
         (λ q. absurd (never-both (alsoHanded s k (l .handed) s k) (handed-self s k (l .handed)) q))
         (rw (eq-eqb c c refl, on))
         (λ d z. rw (ne-eqb c d (λ q. z (sym q))))
@@ -377,7 +367,7 @@ module _ (M : Sent) (v : View) (l : Ledger) (e : ℕ → Option Message) (tie : 
             at true q =
                 let r = same-true s k a b q in
                 let here : alsoHanded s k (l .handed) s k ≡ allBelow (2 + length (M .text s k)) (covers s k) =
-                handed-self s k (l .handed) ∙ sym is ∙ landed-is (M .text s k) (covers s k) h after-inv in
+                handed-self s k (l .handed) ∙ sym is ∙ landed-is (M .text s k) small (covers s k) h after-inv in
                 subst (λ (y : ℕ). alsoHanded s k (l .handed) a y ≡ allBelow (2 + length (M .text a y)) (covers a y)) (r .1)
                 (subst (λ (y : ℕ). alsoHanded s k (l .handed) y k ≡ allBelow (2 + length (M .text y k)) (covers y k)) (r .0) here)
             at false q =
@@ -389,7 +379,7 @@ module _ (M : Sent) (v : View) (l : Ledger) (e : ℕ → Option Message) (tie : 
         ⊎-elim (λ a. omega arith) (λ a. absurd (never-both (l .handed s y) (lowest-is .1 y a) q)) (le-or-lt (w .next) y)
 
     put-fair : Fair (putAs (v .table) w (v .store) s k o p)
-    put-fair =
+    put-fair heard =
         subst (λ (t : Bool). Good M l e v s (putAs (v .table) w (v .store) s k o p) (enterBy t s k l covers)) (sym lands-iff) (at (landed h) refl)
       where
         at : (b : Bool) → landed h ≡ b
@@ -414,22 +404,14 @@ module _ (M : Sent) (v : View) (l : Ledger) (e : ℕ → Option Message) (tie : 
   pub piece-good : Fair (table.accept (v .table) w (v .store) s field p)
   piece-good =
       accept-cases (v .table) w (v .store) s field p Fair
-      (λ q. absurd (not-before (sym q ∙ is-number)))
+      (λ q z. absurd (not-before (sym q ∙ is-number)))
       (λ j q h. subst (λ (y : ℕ). handedOf w y ≡ true → Fair (passed (v .table) w (v .store) y)) (is-same k j (sym is-number ∙ q))
-      (λ t. quiet (quiet-book (handed-covered (tie .numbers s k on ∙ t)))) h)
-      (λ j q a. subst (λ (y : ℕ). handedOf w y ≡ false → answerOf (v .table) w (v .store) s y o p ≡ a → changes a ≡ false → bars a ≡ false → Fair (leftAs (v .table) w (v .store) (cellIn (v .table) s y) y a))
-      (is-same k j (sym is-number ∙ q .is)) (λ t. left-fair (tie .numbers s k on ∙ t) a) (q .fresh))
-      (λ j q. subst (λ (y : ℕ). handedOf w y ≡ false → answerOf (v .table) w (v .store) s y o p ≡ Overlong → Fair (barredAs (v .table) w (v .store) s y))
-      (is-same k j (sym is-number ∙ q .is)) (λ t a. absurd (never-over (tie .numbers s k on ∙ t) a)) (q .fresh))
+      (λ t z. quiet (quiet-book (handed-covered (tie .numbers s k on ∙ t)))) h)
+      (λ j q a r c z. subst (λ (y : ℕ). answerOf (v .table) w (v .store) s y o p ≡ a → Fair (leftAs (v .table) w (v .store) (cellIn (v .table) s y) y a))
+      (is-same k j (sym is-number ∙ q .is)) (λ t. left-fair a t c) r)
+      (λ j q a z. absurd (never-both true refl z))
       (λ j q. subst (λ (y : ℕ). handedOf w y ≡ false → answerOf (v .table) w (v .store) s y o p ≡ Yes → Fair (putAs (v .table) w (v .store) s y o p))
       (is-same k j (sym is-number ∙ q .is)) (λ t. put-fair (tie .numbers s k on ∙ t)) (q .fresh))
     where
       not-before : Before ≡ Is k → ⊥
       not-before q = let z : _≡_ {A = ℕ} 0 1 = cc in omega arith
-
-  pub piece-unbarred : table.accept (v .table) w (v .store) s field p .bars ≡ false
-  piece-unbarred =
-      accept-cases (v .table) w (v .store) s field p (λ x. x .bars ≡ false) (λ q. refl) (λ j q h. refl) (λ j q a r c z. refl)
-      (λ j q. subst (λ (y : ℕ). handedOf w y ≡ false → answerOf (v .table) w (v .store) s y o p ≡ Overlong → true ≡ false)
-      (is-same k j (sym is-number ∙ q .is)) (λ t a. absurd (never-over (tie .numbers s k on ∙ t) a)) (q .fresh))
-      (λ j q a. refl)

@@ -19,8 +19,9 @@ use Rattle.frames.specs.Frames.{frameStep, readFrames}
 use Rattle.promise.specs.Promise.{Sent, Message, Ledger, Entered, unchanged, same, alsoHanded, bookPiece, isBoats, isWatched, bookFrame, bookFrames, Event2, eventsIn, enter, enterAll, named, FrameOk, FramesOk, Pairs, Later, Rising, Once}
 use Rattle.promise.proofs.Ledgers.{same-true, same-self, handed-self, handed-other}
 use Rattle.promise.proofs.Ties.{View, Tie}
-use Rattle.promise.proofs.Pieces.{alsoOne, Joint, viewAfter, eventFor, Good, piece-good, piece-unbarred}
-use Rattle.promise.proofs.Others.{aside-good, aside-barred}
+use Rattle.promise.proofs.Pieces.{alsoOne, Joint, viewAfter, eventFor, piece-good}
+use Rattle.promise.proofs.Barred.{barred-good}
+use Rattle.promise.proofs.Others.{aside-good}
 use Rattle.promise.proofs.Quiet.{viewOf}
 use Rattle.promise.proofs.QuietRx.{untouched}
 use Rattle.promise.proofs.Readings.{frame-runs, chain-count}
@@ -166,7 +167,7 @@ book-by M flags field p k used marked l q r = rw (q, r) (at (M .watched (flags %
     at true = refl
     at false = refl
 
-module _ (M : Sent) (small : (s k : ℕ) → M .watched s ≡ true → length (M .text s k) ≤ 2046) (x y : Reading) (l : Ledger) (e : ℕ → Option Message) (tie : Tie M (viewIn x) l e)
+module _ (M : Sent) (small : (s k : ℕ) → M .watched s ≡ true → length (M .text s k) ≤ 65535) (x y : Reading) (l : Ledger) (e : ℕ → Option Message) (tie : Tie M (viewIn x) l e)
     (k : ℕ) (few : x .frame < 64) (clear : hasBit (x .unkept) (x .frame) ≡ false) where
   abbrev m : Bool
   m = hasBit (y .unkept) (x .frame)
@@ -182,19 +183,13 @@ module _ (M : Sent) (small : (s k : ℕ) → M .watched s ≡ true → length (M
   book-read h fine ok (unkept flags field p b q z s) =
       subst (Read M l e x y) (sym (book-marked M flags field p k (x .station .used) m l (marked (sym (s .mask))))) (still-read _ s)
   book-read h fine ok (barred flags field p b q s) =
-      subst (Read M l e x y) (sym (book-marked M flags field p k (x .station .used) m l (marked (sym (s .mask))))) (at (M .watched (flags % 64)) refl)
-    where
-      at : (t : Bool) → M .watched (flags % 64) ≡ t → Read M l e x y (unchanged l)
-      at true on =
-          absurd (never-both (offeredIn x flags field p .bars) q
-          (piece-unbarred M (viewIn x) l e tie (flags % 64) k field p on (small (flags % 64) k on) (ok (ap (λ (t : Bool). t && isBoats flags (x .station .used)) on ∙ b))))
-      at false off =
-          record {
-            event = none;
-            joint = record { tie = subst (λ (v : View). Tie M v l e) (sym (s .view)) (aside-barred M (viewIn x) l e tie (flags % 64) field p off (omega (arith, fine .2)) q); handed = refl };
-            events = s .events;
-            long = s .long;
-          }
+      subst (Read M l e x y) (sym (book-marked M flags field p k (x .station .used) m l (marked (sym (s .mask)))))
+      (record {
+        event = none;
+        joint = record { tie = subst (λ (v : View). Tie M v l e) (sym (s .view)) (barred-good M (viewIn x) l e tie (flags % 64) k field p (small (flags % 64) k) (λ on. ok (ap (λ (t : Bool). t && isBoats flags (x .station .used)) on ∙ b)) q); handed = refl };
+        events = s .events;
+        long = s .long;
+      })
   book-read h fine ok (piece flags field p b q s) =
       subst (Read M l e x y) (sym (book-by M flags field p k (x .station .used) m l b (ap (λ (m : ℕ). hasBit m (x .frame)) (s .mask) ∙ clear))) (at (M .watched (flags % 64)) refl)
     where
@@ -215,8 +210,8 @@ module _ (M : Sent) (small : (s k : ℕ) → M .watched s ≡ true → length (M
 
       at : (t : Bool) → M .watched (flags % 64) ≡ t → Read M l e x y (cond t n (unchanged l))
       at true on =
-          read-as n (subst (λ (t : Bool). Good M l e (viewIn x) (flags % 64) r (cond t (unchanged l) n)) q
-          (piece-good M (viewIn x) l e tie (flags % 64) k field p on (small (flags % 64) k on) (ok (ap (λ (t : Bool). t && isBoats flags (x .station .used)) on ∙ b))))
+          read-as n
+          (piece-good M (viewIn x) l e tie (flags % 64) k field p on (small (flags % 64) k on) (ok (ap (λ (t : Bool). t && isBoats flags (x .station .used)) on ∙ b)) q)
       at false off = read-as (unchanged l) (aside-good M (viewIn x) l e tie (flags % 64) field p off (omega (arith, fine .2)) q)
 
 -- ---- the running values
@@ -302,7 +297,7 @@ words-join first x es mid last p q =
     ∙ append-assoc first (alsoOne x []) es
     ∙ ap (λ (w : List Event2). first ++ w) (join-one x es)
 
-module _ (M : Sent) (small : (s k : ℕ) → M .watched s ≡ true → length (M .text s k) ≤ 2046) (a : Air) (numbers : List ℕ) where
+module _ (M : Sent) (small : (s k : ℕ) → M .watched s ≡ true → length (M .text s k) ≤ 65535) (a : Air) (numbers : List ℕ) where
   -- one frame, with the book's answers for it
   step-read : (f : Heard) → Fine f → (x : Reading) (i : ℕ) (l : Ledger) (e : ℕ → Option Message) → Ready x i → i < 64 → Tie M (viewOf (x .station) (x .store)) l e
       → length (x .station .members) ≡ 62 → (u : ℕ) (b : Bool) → x .station .used ≡ u → hasBit (frameStep a f x .unkept) i ≡ b → FrameOk M l f (getD numbers i 0) u

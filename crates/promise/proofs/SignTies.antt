@@ -14,7 +14,6 @@ use Rattle.bits.proofs.Laws.{without-same, without-other}
 use Rattle.bits.proofs.Lists.{cond-keeps, eq-or-not, never-both}
 use Rattle.inbox.specs.Cells.{Held, held}
 use Rattle.inbox.specs.Stores.{cellOf}
-use Rattle.inbox.specs.Messages.{framed}
 use Rattle.inbox.proofs.Joined.{Inv}
 use Rattle.stream.specs.declared.window.Window.{Window}
 use Rattle.stream.specs.Window.{handedOf, freshOf, barredOf}
@@ -30,7 +29,7 @@ use Rattle.net.specs.Net.{isMember}
 use Rattle.net.proofs.Laws.{index-is, member-lt, member-is}
 use Rattle.signoff.specs.SignOff.{bereft, isCellOf, clearAll, signOff}
 use Rattle.promise.specs.Promise.{Sent, Message, Ledger, Book, strikeEntry, bookEnds, allBelow}
-use Rattle.promise.proofs.Ledgers.{Cov, none-below}
+use Rattle.promise.proofs.Ledgers.{Cov, partOf, none-below}
 use Rattle.promise.proofs.Modest.{fresh-free}
 use Rattle.promise.proofs.Ties.{Use, Vacant, Comes, Whole, useOf, useAt, heldAt, FineAt, entryOf, Tie, not-whole, comes-is}
 use Rattle.promise.proofs.Quiet.{windowAt, viewOf}
@@ -179,8 +178,8 @@ module _ (N N′ : Sent) (slot : ℕ) (watch : (s : ℕ) → (s ≡ slot → ⊥
           let z : o / 4294967296 ≡ slot → ⊥ = λ w. never-both (eqb (o / 4294967296) slot) (eq-eqb (o / 4294967296) slot w) q in
           λ on. record {
             not-yet = ends-there slot b (o / 4294967296) (o % 4294967296) z ∙ f (sym (watch (o / 4294967296) z) ∙ on) .not-yet;
-            inv = subst (λ (body : List ℕ). Inv (framed body) (Cov (l₁ .covered (o / 4294967296) (o % 4294967296))) h) (sym (others (o / 4294967296) (o % 4294967296) z))
-                (subst (λ (g : ℕ → Bool). Inv (framed (N .text (o / 4294967296) (o % 4294967296))) (Cov g) h) (sym (covered-there slot b (o / 4294967296) (o % 4294967296) z)) (f (sym (watch (o / 4294967296) z) ∙ on) .inv));
+            inv = subst (λ (body : List ℕ). Inv (partOf body) (Cov (l₁ .covered (o / 4294967296) (o % 4294967296))) h) (sym (others (o / 4294967296) (o % 4294967296) z))
+                (subst (λ (g : ℕ → Bool). Inv (partOf (N .text (o / 4294967296) (o % 4294967296))) (Cov g) h) (sym (covered-there slot b (o / 4294967296) (o % 4294967296) z)) (f (sym (watch (o / 4294967296) z) ∙ on) .inv));
           }
 
   entry-by : (x y : Bool) (o : ℕ) → strikeEntry slot (entryOf N (useOf x y o)) ≡ entryOf N′ (cond (x && eqb (o / 4294967296) slot) Vacant (useOf x y o))
@@ -230,24 +229,27 @@ module _ (N N′ : Sent) (slot : ℕ) (watch : (s : ℕ) → (s ≡ slot → ⊥
       (λ z. ends-there slot b s k z ∙ tie .says s k ∙ ap (λ (body : List ℕ). allBelow (2 + length body) (b .ledger .covered s k)) (sym (others s k z)) ∙ ap (allBelow (2 + length (N′ .text s k))) (sym (covered-there slot b s k z)))
       (eq-or-not s slot)
 
-  bare-is : (s k : ℕ) → N′ .watched s ≡ true → l₁ .handed s k ≡ false → ((c : ℕ) → useAt (tableOf r) c ≡ Comes s k → ⊥) → (i : ℕ) → l₁ .covered s k i ≡ false
-  bare-is s k on h nowhere i =
+  bare-is : (s k : ℕ) → N′ .watched s ≡ true → l₁ .handed s k ≡ false → barredOf (windowAt r s) k ≡ false → ((c : ℕ) → useAt (tableOf r) c ≡ Comes s k → ⊥) → (i : ℕ) → l₁ .covered s k i ≡ false
+  bare-is s k on h free nowhere i =
       ⊎-elim (λ e. subst (λ (y : ℕ). l₁ .covered y k i ≡ false) (sym e) (ap (λ (g : ℕ → Bool). g i) (covered-here slot b k)))
       (λ z. ap (λ (g : ℕ → Bool). g i) (covered-there slot b s k z)
-      ∙ tie .bare s k (sym (watch s z) ∙ on) (sym (ends-there slot b s k z) ∙ h) (λ c q. nowhere c (use-is c ∙ ap (λ (e : Bool). cond e Vacant (useAt t₀ c)) (not-its slot t₀ c s k q z) ∙ q)) i)
+      ∙ tie .bare s k (sym (watch s z) ∙ on) (sym (ends-there slot b s k z) ∙ h) (sym (ap (λ (w : Window). barredOf w k) (there-same s z)) ∙ free) (λ c q. nowhere c (use-is c ∙ ap (λ (e : Bool). cond e Vacant (useAt t₀ c)) (not-its slot t₀ c s k q z) ∙ q)) i)
       (eq-or-not s slot)
 
-  free-is : (s k : ℕ) → N′ .watched s ≡ true → barredOf (windowAt r s) k ≡ false
-  free-is s k on =
-      ⊎-elim (λ e. ap (λ (y : ℕ). barredOf (windowAt r y) k) e ∙ ap (λ (w : Window). barredOf w k) here-fresh ∙ fresh-free k)
-      (λ z. ap (λ (w : Window). barredOf w k) (there-same s z) ∙ tie .free s k (sym (watch s z) ∙ on)) (eq-or-not s slot)
+  claimed-is : (s k : ℕ) → N′ .watched s ≡ true → barredOf (windowAt r s) k ≡ true → 2046 < length (N′ .text s k)
+  claimed-is s k on q =
+      ⊎-elim (λ e. absurd (never-both (barredOf (windowAt r s) k) q (ap (λ (y : ℕ). barredOf (windowAt r y) k) e ∙ ap (λ (w : Window). barredOf w k) here-fresh ∙ fresh-free k)))
+      (λ z.
+      subst (λ (body : List ℕ). 2046 < length body) (sym (others s k z))
+      (tie .claimed s k (sym (watch s z) ∙ on) (sym (ap (λ (w : Window). barredOf w k) (there-same s z)) ∙ q)))
+      (eq-or-not s slot)
 
   pub sign-tie : Tie N′ (viewOf r store) l₁ (bookEnds slot b .entry)
   sign-tie =
       record {
         tidy = subst (λ (t : Table). Tidy t store) (sym (signs .table)) (cleared-tidy slot t₀ store (tie .tidy));
         sound = sound-is;
-        free = free-is;
+        claimed = claimed-is;
         numbers = numbers-is;
         says = says-is;
         cells = λ c a.

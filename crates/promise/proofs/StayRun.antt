@@ -92,8 +92,8 @@ unfolding CallsOk step after result admitOf admitRefusal newStation seatOf findC
 stay-ok g =
     (tt, ((tt, λ r. ((λ m. whole _ _ 0 104 105 refl refl), tt)), (tt, (tt, (tt, ((tt, λ r. ((λ m. whole _ _ 0 104 111 refl refl), tt)), (tt, tt)))))))
 
-short : (s t k : ℕ) → true ≡ true → length (hi-then-ho .text s t k) ≤ 2046
-short s t k on = cond-keeps (λ (l : List ℕ). length l ≤ 2046) (eqb t 0) (104 ∷ 105 ∷ []) (104 ∷ 111 ∷ []) (λ _. omega arith) (λ _. omega arith)
+short : (s t k : ℕ) → true ≡ true → length (hi-then-ho .text s t k) ≤ 65535
+short s t k on = cond-keeps (λ (l : List ℕ). length l ≤ 65535) (eqb t 0) (104 ∷ 105 ∷ []) (104 ∷ 111 ∷ []) (λ _. omega arith) (λ _. omega arith)
 
 -- and so does what item 3 promises, from any start that is not refused
 pub stay-promised : (s : Station) (g : Given) → startRefusal g 6400 ≡ 0 → Messages hi-then-ho (started s g (replicate 6400 7)) stay-calls

@@ -2,14 +2,16 @@
 use mathlib.Core.Path.{_≡_, refl, sym, ap, _∙_, subst}
 use mathlib.Core.Bool.{Bool, true, false, cond}
 use mathlib.Core.Option.{Option, none, some}
-use mathlib.Core.List.{List}
-use mathlib.Core.Logic.{_⊎_, ⊎-elim}
+use mathlib.Core.List.{List, []}
+use mathlib.Core.Logic.{⊎-elim}
 use Prim.Native.Nat.{ℕ, _+_, _/_, _%_, _^_, _≤_, _<_}
 use native.Mathlib.Omega.{arith}
-use lib.ListN.{length, getD}
+use lib.ListN.{length, getD, replicate, length-replicate}
 use Rattle.bits.specs.Mask.{hasBit}
 use Rattle.bits.proofs.Lists.{eq-or-not, never-both}
 use Rattle.inbox.specs.declared.cell.Cell.{Cell}
+use Rattle.inbox.specs.declared.keep.Kept.the-variants.{Needless}
+use Rattle.inbox.specs.Keeping.{keptOf}
 use Rattle.inbox.specs.Cells.{Held, held}
 use Rattle.inbox.specs.Stores.{cellOf, bodyOf}
 use Rattle.inbox.specs.Messages.{emptyCell, framed, Cut, showsOf}
@@ -24,7 +26,7 @@ use Rattle.stream.proofs.Rooms.{filling-own, RoomIs, cells-are}
 use Rattle.stream.proofs.Tables.{filling, Tidy, table-room}
 use Rattle.stream.proofs.Windows.{Sound}
 use Rattle.promise.specs.Promise.{Sent, Message, Ledger, same, allBelow}
-use Rattle.promise.proofs.Ledgers.{Cov, same-true, same-self, empty-inv}
+use Rattle.promise.proofs.Ledgers.{Cov, partOf, part-room, same-true, same-self, empty-inv, needless-covered}
 use Rattle.promise.proofs.Modest.{shows-modest, empty-modest}
 
 -- the cells, the store, and for each slot its window
@@ -54,7 +56,7 @@ heldAt v c = held (cellAt (v .table) c) (cellOf (v .store) c)
 -- a cell that a message of this body comes into, of which f is covered
 pub record Coming (body : List ℕ) (f : ℕ → Bool) (handed : Bool) (h : Held) : Type 0 where
   pub not-yet : handed ≡ false
-  pub inv : Inv (framed body) (Cov f) h
+  pub inv : Inv (partOf body) (Cov f) h
 
 -- nothing is known of a cell of a boat that is not watched
 abbrev pub FineAt : Sent → Ledger → Use → Held → Type 0
@@ -71,15 +73,15 @@ entryOf M (Whole s k) = some (record { slot = s; number = cond (M .watched s) k 
 pub record Tie (M : Sent) (v : View) (l : Ledger) (e : ℕ → Option Message) : Type 0 where
   pub tidy : Tidy (v .table) (v .store)
   pub sound : (s : ℕ) → Sound (v .windows s)
-  -- no message of a watched boat claims too much, so no number is barred
-  pub free : (s k : ℕ) → M .watched s ≡ true → barredOf (v .windows s) k ≡ false
+  -- what is barred claims too much
+  pub claimed : (s k : ℕ) → M .watched s ≡ true → barredOf (v .windows s) k ≡ true → 2046 < length (M .text s k)
   -- handed over in the book is handed over in the window
   pub numbers : (s k : ℕ) → M .watched s ≡ true → l .handed s k ≡ handedOf (v .windows s) k
   -- the book alone: handed over is covered whole
   pub says : (s k : ℕ) → l .handed s k ≡ allBelow (2 + length (M .text s k)) (l .covered s k)
   pub cells : (c : ℕ) → c < v .table .count → FineAt M l (useAt (v .table) c) (heldAt v c)
-  -- a message that has no cell and is not handed over has no byte covered
-  pub bare : (s k : ℕ) → M .watched s ≡ true → l .handed s k ≡ false → ((c : ℕ) → useAt (v .table) c ≡ Comes s k → ⊥) → (i : ℕ) → l .covered s k i ≡ false
+  -- a message that has no cell, is not handed over and not barred has no byte covered
+  pub bare : (s k : ℕ) → M .watched s ≡ true → l .handed s k ≡ false → barredOf (v .windows s) k ≡ false → ((c : ℕ) → useAt (v .table) c ≡ Comes s k → ⊥) → (i : ℕ) → l .covered s k i ≡ false
   -- the book's entries are the landed cells
   pub entries : (c : ℕ) → e c ≡ entryOf M (useAt (v .table) c)
 
@@ -138,13 +140,13 @@ filling-comes t c s k f z = use-comes _ _ _ s k (f .taken) (f .open-yet) (f .hol
 
 pub record Aim (M : Sent) (v : View) (l : Ledger) (s k c : ℕ) (x : Cell) : Type 0 where
   pub below : c < v .table .count
-  pub inv : Inv (framed (M .text s k)) (Cov (l .covered s k)) (held x (cellOf (v .store) c))
+  pub inv : Inv (partOf (M .text s k)) (Cov (l .covered s k)) (held x (cellOf (v .store) c))
   pub others : (d : ℕ) → (d ≡ c → ⊥) → useAt (v .table) d ≡ Comes s k → ⊥
   pub here : (a b : ℕ) → useAt (v .table) c ≡ Comes a b → (s ≡ a) × (k ≡ b)
   pub unlanded : entryOf M (useAt (v .table) c) ≡ none
 
 module _ (M : Sent) (v : View) (l : Ledger) (e : ℕ → Option Message) (tie : Tie M v l e)
-    (s k : ℕ) (on : M .watched s ≡ true) (small : length (M .text s k) ≤ 2046) (low : k < 2 ^ 32) (hand : l .handed s k ≡ false) where
+    (s k : ℕ) (on : M .watched s ≡ true) (low : k < 2 ^ 32) where
   aim-has : (c : ℕ) → c < v .table .count → filling (v .table) c (ownerOf s k) → Aim M v l s k c (cellAt (v .table) c)
   aim-has c a f =
       let q = filling-comes (v .table) c s k f low in
@@ -158,59 +160,35 @@ module _ (M : Sent) (v : View) (l : Ledger) (e : ℕ → Option Message) (tie : 
         unlanded = ap (entryOf M) q;
       }
 
-  aim-new : (c : ℕ) → c < v .table .count → hasBit (v .table .busy) c ≡ false → ((d : ℕ) → useAt (v .table) d ≡ Comes s k → ⊥) → Aim M v l s k c emptyCell
-  aim-new c a q nowhere =
-      let r = tie .tidy .room in
-      let n = cell-length (v .store) c (omega arith) in
-      let w = use-vacant (hasBit (v .table .busy) c) (hasBit (v .table .landed) c) (getD (v .table .owners) c 0) q in
-      record {
-        below = a;
-        inv = empty-inv (framed (M .text s k)) (cellOf (v .store) c) (l .covered s k) (omega (arith, small)) (omega arith) (tie .bare s k on hand nowhere);
-        others = λ d z r. nowhere d r;
-        here = λ a b r. not-vacant a b (sym w ∙ r);
-        unlanded = ap (entryOf M) w;
-      }
-
   abbrev RoomHere : Room → Type 0
   RoomHere = RoomIs (v .table .owners) (v .table .busy) (v .table .landed) (ownerOf s k) (cellCount (v .table .count))
 
-  -- a message for which no own cell was found comes into none
-  no-cell : ((d : ℕ) → d < cellCount (v .table .count) → isOwn (v .table .busy) (v .table .landed) d (getD (v .table .owners) d 0) (ownerOf s k) ≡ false)
-      → (d : ℕ) → useAt (v .table) d ≡ Comes s k → ⊥
-  no-cell off d q =
-      let f = comes-filling (v .table) d s k q in
-      let b = tie .tidy .within d (f .taken) in
-      let n = cells-are (v .table .count) (tie .tidy .most) in
-      never-both _ (filling-own (v .table .owners) (v .table .busy) (v .table .landed) (ownerOf s k) d f) (off d (omega arith))
-
-  aim-by : (r : Room) → RoomHere r → hasRoom r ≡ true → Aim M v l s k (placeOf r) (cellFor r (cellAt (v .table) (placeOf r)))
-  aim-by (Own c) w h =
-      let n = cells-are (v .table .count) (tie .tidy .most) in let b = w .below in aim-has c (omega arith) (w .filling)
-  aim-by (Free c) w h =
-      let n = cells-are (v .table .count) (tie .tidy .most) in let b = w .below in aim-new c (omega arith) (w .unused) (no-cell (w .none))
-  aim-by Full w h = absurd (never-both true refl (sym h))
-
-  pub aim : hasRoom (tableRoom (v .table) s k) ≡ true
-      → Aim M v l s k (placeOf (tableRoom (v .table) s k)) (cellFor (tableRoom (v .table) s k) (cellAt (v .table) (placeOf (tableRoom (v .table) s k))))
-  aim h = aim-by (tableRoom (v .table) s k) (table-room (v .table) (v .store) (tie .tidy) s k) h
-
-  -- also where there is no room: the numbers stand with some bytes
-  pub now-inv : (zs : List ℕ) → 6144 ≤ length zs
-      → (bs : List ℕ) × Inv (framed (M .text s k)) (Cov (l .covered s k)) (held (cellFor (tableRoom (v .table) s k) (cellAt (v .table) (placeOf (tableRoom (v .table) s k)))) bs)
-  now-inv zs z = go (tableRoom (v .table) s k) (table-room (v .table) (v .store) (tie .tidy) s k)
+  -- a piece that changes nothing has its bytes covered: in the cell that the message comes into, and where there is none it is empty
+  pub needless-here : (o n : ℕ) (over : Bool)
+      → keptOf k o n over (hasRoom (tableRoom (v .table) s k)) (cellFor (tableRoom (v .table) s k) (cellAt (v .table) (placeOf (tableRoom (v .table) s k)))) ≡ Needless
+      → (i : ℕ) → o ≤ i → i < o + n → l .covered s k i ≡ true
+  needless-here o n over = go (tableRoom (v .table) s k) (table-room (v .table) (v .store) (tie .tidy) s k)
     where
-      go : (r : Room) → RoomHere r → (bs : List ℕ) × Inv (framed (M .text s k)) (Cov (l .covered s k)) (held (cellFor r (cellAt (v .table) (placeOf r))) bs)
-      go (Own c) w =
-          let n = cells-are (v .table .count) (tie .tidy .most) in
-          let b = w .below in
-          (cellOf (v .store) c, aim-has c (omega arith) (w .filling) .inv)
-      go (Free c) w = (zs, empty-inv (framed (M .text s k)) zs (l .covered s k) (omega (arith, small)) z (tie .bare s k on hand (no-cell (w .none))))
-      go Full w = (zs, empty-inv (framed (M .text s k)) zs (l .covered s k) (omega (arith, small)) z (tie .bare s k on hand (no-cell (w .none))))
+      none-there : (room : Bool) → keptOf k o n over room emptyCell ≡ Needless → (i : ℕ) → o ≤ i → i < o + n → l .covered s k i ≡ true
+      none-there room q i a b =
+          let zs : List ℕ = replicate 6144 0 in
+          let m = length-replicate {A = ℕ} 6144 0 in
+          let v₀ = empty-inv [] zs (λ (j : ℕ). false) (omega arith) (omega arith) (λ j. refl) in
+          absurd (never-both false (needless-covered [] (λ (j : ℕ). false) emptyCell zs v₀ k o n over room q i a b) refl)
 
-  -- a piece of the message shows no length above 2,046
-  pub shows-none : (o : ℕ) (p : List ℕ) → Cut (framed (M .text s k)) o p
+      go : (r : Room) → RoomHere r → keptOf k o n over (hasRoom r) (cellFor r (cellAt (v .table) (placeOf r))) ≡ Needless
+          → (i : ℕ) → o ≤ i → i < o + n → l .covered s k i ≡ true
+      go (Own c) w q =
+          let m = cells-are (v .table .count) (tie .tidy .most) in
+          let b = w .below in
+          needless-covered (partOf (M .text s k)) (l .covered s k) (cellAt (v .table) c) (cellOf (v .store) c) (aim-has c (omega arith) (w .filling) .inv) k o n over true q
+      go (Free c) w q = none-there true q
+      go Full w q = none-there false q
+
+  -- a piece of a message of at most 2,046 bytes shows no more
+  pub shows-none : length (M .text s k) ≤ 2046 → (o : ℕ) (p : List ℕ) → Cut (framed (M .text s k)) o p
       → showsOf (heldFor (tableRoom (v .table) s k) (cellAt (v .table) (placeOf (tableRoom (v .table) s k))) (v .store)) o p ≡ false
-  shows-none o p cut = go (tableRoom (v .table) s k) (table-room (v .table) (v .store) (tie .tidy) s k)
+  shows-none small o p cut = go (tableRoom (v .table) s k) (table-room (v .table) (v .store) (tie .tidy) s k)
     where
       go : (r : Room) → RoomHere r → showsOf (heldFor r (cellAt (v .table) (placeOf r)) (v .store)) o p ≡ false
       go (Own c) w =
@@ -219,6 +197,40 @@ module _ (M : Sent) (v : View) (l : Ledger) (e : ℕ → Option Message) (tie : 
           shows-modest (M .text s k) small (Cov (l .covered s k)) (heldAt v c) (aim-has c (omega arith) (w .filling) .inv) o p cut
       go (Free c) w = empty-modest (M .text s k) small o p cut
       go Full w = empty-modest (M .text s k) small o p cut
+
+  module _ (hand : l .handed s k ≡ false) (free : barredOf (v .windows s) k ≡ false) where
+    aim-new : (c : ℕ) → c < v .table .count → hasBit (v .table .busy) c ≡ false → ((d : ℕ) → useAt (v .table) d ≡ Comes s k → ⊥) → Aim M v l s k c emptyCell
+    aim-new c a q nowhere =
+        let r = tie .tidy .room in
+        let n = cell-length (v .store) c (omega arith) in
+        let w = use-vacant (hasBit (v .table .busy) c) (hasBit (v .table .landed) c) (getD (v .table .owners) c 0) q in
+        record {
+          below = a;
+          inv = empty-inv (partOf (M .text s k)) (cellOf (v .store) c) (l .covered s k) (part-room (M .text s k)) (omega arith) (tie .bare s k on hand free nowhere);
+          others = λ d z r. nowhere d r;
+          here = λ a b r. not-vacant a b (sym w ∙ r);
+          unlanded = ap (entryOf M) w;
+        }
+
+    -- a message for which no own cell was found comes into none
+    no-cell : ((d : ℕ) → d < cellCount (v .table .count) → isOwn (v .table .busy) (v .table .landed) d (getD (v .table .owners) d 0) (ownerOf s k) ≡ false)
+        → (d : ℕ) → useAt (v .table) d ≡ Comes s k → ⊥
+    no-cell off d q =
+        let f = comes-filling (v .table) d s k q in
+        let b = tie .tidy .within d (f .taken) in
+        let n = cells-are (v .table .count) (tie .tidy .most) in
+        never-both _ (filling-own (v .table .owners) (v .table .busy) (v .table .landed) (ownerOf s k) d f) (off d (omega arith))
+
+    aim-by : (r : Room) → RoomHere r → hasRoom r ≡ true → Aim M v l s k (placeOf r) (cellFor r (cellAt (v .table) (placeOf r)))
+    aim-by (Own c) w h =
+        let n = cells-are (v .table .count) (tie .tidy .most) in let b = w .below in aim-has c (omega arith) (w .filling)
+    aim-by (Free c) w h =
+        let n = cells-are (v .table .count) (tie .tidy .most) in let b = w .below in aim-new c (omega arith) (w .unused) (no-cell (w .none))
+    aim-by Full w h = absurd (never-both true refl (sym h))
+
+    pub aim : hasRoom (tableRoom (v .table) s k) ≡ true
+        → Aim M v l s k (placeOf (tableRoom (v .table) s k)) (cellFor (tableRoom (v .table) s k) (cellAt (v .table) (placeOf (tableRoom (v .table) s k))))
+    aim h = aim-by (tableRoom (v .table) s k) (table-room (v .table) (v .store) (tie .tidy) s k) h
 
 -- ---- a cell written anew
 
@@ -236,7 +248,7 @@ fine-moves M s k l l′ w (Comes a b) h z f = at (same s k a b) refl
     at false e on =
         record {
           not-yet = w .hand a b e ∙ f on .not-yet;
-          inv = subst (λ (g : ℕ → Bool). Inv (framed (M .text a b)) (Cov g) h) (sym (w .cov a b e)) (f on .inv);
+          inv = subst (λ (g : ℕ → Bool). Inv (partOf (M .text a b)) (Cov g) h) (sym (w .cov a b e)) (f on .inv);
         }
 fine-moves M s k l l′ w (Whole a b) h z f = f
 
@@ -248,7 +260,7 @@ module _ (M : Sent) (v : View) (l : Ledger) (e : ℕ → Option Message) (tie : 
     (held-there : (d : ℕ) → (d ≡ c → ⊥) → d < v .table .count → heldAt v′ d ≡ heldAt v d)
     (l′ : Ledger) (w : Apart s k l l′) (e′ : ℕ → Option Message)
     (sound : (a : ℕ) → Sound (v′ .windows a))
-    (free : (a b : ℕ) → M .watched a ≡ true → barredOf (v′ .windows a) b ≡ false)
+    (bars : (a b : ℕ) → barredOf (v′ .windows a) b ≡ barredOf (v .windows a) b)
     (numbers : (a b : ℕ) → M .watched a ≡ true → l′ .handed a b ≡ handedOf (v′ .windows a) b)
     (says : (a b : ℕ) → l′ .handed a b ≡ allBelow (2 + length (M .text a b)) (l′ .covered a b))
     (fine : FineAt M l′ u h)
@@ -268,8 +280,8 @@ module _ (M : Sent) (v : View) (l : Ledger) (e : ℕ → Option Message) (tie : 
         (fine-moves M s k l l′ w (useAt (v .table) d) (heldAt v d) (m .others d z) (tie .cells d (omega arith)))))
         (eq-or-not d c)
 
-    bare-at : (a b : ℕ) → M .watched a ≡ true → l′ .handed a b ≡ false → ((d : ℕ) → useAt (v′ .table) d ≡ Comes a b → ⊥) → (i : ℕ) → l′ .covered a b i ≡ false
-    bare-at a b on hd nowhere i = at (same s k a b) refl
+    bare-at : (a b : ℕ) → M .watched a ≡ true → l′ .handed a b ≡ false → barredOf (v′ .windows a) b ≡ false → ((d : ℕ) → useAt (v′ .table) d ≡ Comes a b → ⊥) → (i : ℕ) → l′ .covered a b i ≡ false
+    bare-at a b on hd free nowhere i = at (same s k a b) refl
       where
         at : (t : Bool) → same s k a b ≡ t → l′ .covered a b i ≡ false
         at true q =
@@ -278,7 +290,7 @@ module _ (M : Sent) (v : View) (l : Ledger) (e : ℕ → Option Message) (tie : 
             absurd (nowhere c (use-here ∙ stays hs ∙ ap (λ (y : ℕ). Comes y k) (r .0) ∙ ap (Comes a) (r .1)))
         at false q =
             ap (λ (g : ℕ → Bool). g i) (w .cov a b q)
-            ∙ tie .bare a b on (sym (w .hand a b q) ∙ hd)
+            ∙ tie .bare a b on (sym (w .hand a b q) ∙ hd) (sym (bars a b) ∙ free)
             (λ d o.
             ⊎-elim (λ j.
             let r = m .here a b (sym (ap (useAt (v .table)) j) ∙ o) in
@@ -291,7 +303,7 @@ module _ (M : Sent) (v : View) (l : Ledger) (e : ℕ → Option Message) (tie : 
         record {
           tidy = tidy;
           sound = sound;
-          free = free;
+          claimed = λ a b on q. tie .claimed a b on (sym (bars a b) ∙ q);
           numbers = numbers;
           says = says;
           cells = fine-at;

@@ -590,11 +590,12 @@ pub record Messages (M : Stays) (n : Net) (cs : List Call) : Type 0 where
 -- ---- the promise
 
 -- of the calls cs from n on: relay links end, in the roster last returned; turns are fair and bounded; and whichever boats are watched, where their messages are at
--- most 2,046 bytes long, after the two of the length, and their pieces meet the premises, each is handed over exactly as sent, once, when its kept pieces cover it
+-- most 65,535 bytes long, as two bytes of length can say, and their pieces meet the premises, each is handed over exactly as sent, once, when its kept pieces cover it.
+-- No kept piece ends above 2,048: so one of more than 2,046 bytes, which claims too much (U4), is never covered whole: it is neither handed over nor landed
 pub record Promise (n : Net) (cs : List Call) : Type 0 where
   pub links : LinksHold (after cs n .station)
   pub turns : TurnsHold emptyView (trace cs n)
-  pub messages : (M : Stays) → ((s t k : ℕ) → M .watched s t ≡ true → length (M .text s t k) ≤ 2046) → CallsOk M cs n emptyBook → Messages M n cs
+  pub messages : (M : Stays) → ((s t k : ℕ) → M .watched s t ≡ true → length (M .text s t k) ≤ 65535) → CallsOk M cs n emptyBook → Messages M n cs
 
 -- item 3: from a start that is not refused, of any calls
 abbrev pub Item3 : Type 0

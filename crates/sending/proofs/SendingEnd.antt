@@ -116,8 +116,8 @@ module _ (slot : ℕ) (low : slot < 62) (bodies : List (List ℕ)) (small : (k :
   on : eqb slot slot ≡ true
   on = eq-eqb slot slot refl
 
-  small-all : (s t k : ℕ) → eqb s slot ≡ true → length (getD bodies k []) ≤ 2046
-  small-all s t k q = small k
+  small-all : (s t k : ℕ) → eqb s slot ≡ true → length (getD bodies k []) ≤ 65535
+  small-all s t k q = let a = small k in omega arith
 
   -- ---- the premises of item 3
 
