@@ -19,7 +19,7 @@ use Rattle.net.specs.declared.Station.{Station}
 use Rattle.net.specs.declared.Round.{Round}
 use Rattle.net.specs.declared.Totals.{Totals}
 use Rattle.net.specs.declared.Wait.{Wait}
-use Rattle.net.specs.State.{indexOf, withMembers, withWait, withRound, withTotals, withRxsent}
+use Rattle.net.specs.State.{indexOf, withMembers, withWait, withRound, withTotals, withList, withRxsent}
 use Rattle.net.specs.Net.{isMember, isIdle, Said, said, Did}
 use Rattle.bursts.specs.Bursts.{acksBurst, rxListBurst}
 use Rattle.bursts.specs.Direct.{directedTo, directBurst, slotOr255}
@@ -31,8 +31,8 @@ use Rattle.next.specs.declared.Act.{Act}
 use Rattle.next.specs.declared.Act.the-variants as act
 use Rattle.next.specs.declared.Late.{Late}
 use Rattle.next.specs.Next.{dueOf, drawn, ncsNext}
-use Rattle.next.specs.Code.Decision.{saidAfter, lateOf, lateWords, lateMember, lateSource, lateWait, lateTotals, lateRound, lateStation, lateSays, actIn, isSeldom, reroutedThen, reroutingOf, listThen, roundThen, seldomOf, frontOf, pollIf, directTo, directIf, wordThen, nextStraight}
-use Rattle.next.proofs.Stages.{next-is}
+use Rattle.next.specs.Code.Decision.{saidAfter, lateOf, lateWords, lateMember, lateSource, lateWait, lateTotals, lateRound, lateStation, lateSays, actIn, isSeldom, reroutedThen, reroutingOf, listThen, roundThen, seldomOf, frontOf, pollWait, pollTotals, pollList, pollSource, pollWords, pollIf, directTo, directIf, wordThen, nextStraight}
+use Rattle.next.proofs.Stages.{poll-is, next-is}
 
 -- nothing is written
 pub did-none : (s : Station) (l : List ℕ) (i : ℕ) → Did (said s []) s l i l i
@@ -120,6 +120,15 @@ direct-lt a s to e n = by (eqb (frontOf (s .wait) (s .round .list) a) 255) e
     by : (b : Bool) → to ≡ cond b 255 (slotOr255 (directedTo s slot)) → to < 62
     by true q = absurd (n q)
     by false q = rw q (slot-or (directedTo s slot) (λ i h. directed-lt s slot i h) (λ h. n (q ∙ h)))
+
+-- the poll, with what each of its calls gives
+pub poll-did : (x : Act) (d : Station) {slot source i list : ℕ} {here : Bool} {v : Wait} {u : Totals} {l m : List ℕ} {j k : ℕ}
+    → slot ≡ frontOf (d .wait) (d .round .list) x → source ≡ pollSource d slot → i ≡ indexOf slot → here ≡ isMember (d .used) slot
+    → Wrote l j (pollWords (d .settings) here (getD (d .members) i noMember) slot source) m k
+    → v ≡ pollWait (d .wait) slot source → u ≡ pollTotals (d .totals) slot → list ≡ pollList (d .round .list) slot
+    → Did (pollIf x d) (withRound (withTotals (withWait d v) u) (withList (d .round) list)) l j m k
+poll-did x d f e i h w a b c =
+    did-as (record { station = rw (c, b, a, e, f); wrote = rw (h, i, e, f) at w }) (poll-is d x)
 
 -- the station with the parts that the first stages leave
 abbrev pub laid : Station → ℕ → Member → ℕ → Member → Wait → Totals → Round → Station

@@ -51,7 +51,7 @@ true-and : (a : Bool) → a ≡ true → a && true ≡ true
 true-and true e = refl
 true-and false e = e
 
-same-cond : {A : Type 0} (b : Bool) {x y : A} → x ≡ y → cond b x y ≡ y
+pub same-cond : {A : Type 0} (b : Bool) {x y : A} → x ≡ y → cond b x y ≡ y
 same-cond true e = e
 same-cond false e = refl
 
@@ -87,7 +87,7 @@ poll-busy s a e = cond-false _ _ _ (false-and _ (mayPoll a) e)
 poll-idle : (s : Station) (a : Act) → isIdle (s .wait .turn) ≡ true → mayPoll a ≡ true → pollIf a s ≡ saidOf (pollFront s)
 poll-idle s a e f = cond-true _ _ _ (ap (λ (b : Bool). isIdle (s .wait .turn) && b) f ∙ true-and _ e)
 
-direct-busy : (s : Station) (queue : List ℕ) (slot : ℕ) → isIdle (directBurst s queue slot .station .wait .turn) ≡ false
+pub direct-busy : (s : Station) (queue : List ℕ) (slot : ℕ) → isIdle (directBurst s queue slot .station .wait .turn) ≡ false
 unfolding directBurst
 direct-busy s queue slot = refl
 
@@ -129,7 +129,7 @@ module _ (s : Station) (a : Act) (queue : List ℕ) where
       word-none (cond-true _ _ _ (ap (λ (b : Bool). not (isIdle (s .wait .turn)) || not b) f ∙ or-true (not (isIdle (s .wait .turn)))))
       ∙ cond-false _ _ _ (ap (λ (b : Bool). isIdle (s .wait .turn) && b) f ∙ and-false (isIdle (s .wait .turn)))
 
-lowest-none : lowestBit 0 ≡ found.Nothing
+pub lowest-none : lowestBit 0 ≡ found.Nothing
 unfolding lowestBit
 lowest-none = first-none (hasBit 0) 64 (λ j h. has-none j)
 

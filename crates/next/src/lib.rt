@@ -3,12 +3,14 @@ ghost use mathlib.Core.Path.{_≡_};
 ghost use mathlib.Core.Bool.{false, cond};
 ghost use mathlib.Core.List.{[]};
 ghost use Prim.Native.Nat.{_+_, _%_, _^_};
+ghost use lib.Dec.{eqb};
 ghost use Rattle.bits.specs.Mask.{withBit};
 ghost use Rattle.out.specs.Encode.{Wrote};
 ghost use Rattle.net.specs.State.{withNumber};
 ghost use Rattle.net.specs.Net.{Did, said};
+ghost use Rattle.bursts.specs.Reroute.{sourceFor};
 ghost use Rattle.next.specs.Next.{overdueOf, dueBy, dueOf, listFor, drawn, ncsNext};
-ghost use Rattle.next.specs.Code.Decision.{noLate, lateReply, lateOf, lateWords, lateMember, lateSource, lateWait, lateTotals, closeRound, forwardTo, lateRound, actIn, isSeldom, reroutingOf, roundThen, seldomOf, mayPoll, frontOf, directTo, pollWait, pollTotals, pollList, pollSource, pollWords, pollIf};
+ghost use Rattle.next.specs.Code.Decision.{noLate, lateReply, lateOf, lateWords, lateMember, lateSource, lateWait, lateTotals, closeRound, forwardTo, lateRound, actIn, isSeldom, reroutingOf, roundThen, seldomOf, mayPoll, frontOf, Ends, noneSeen, lookAt, toOf, asksFor, pollWait, pollTotals, pollList, pollWords};
 use bits::Found;
 use bursts::direct;
 use bursts::reroute;
@@ -20,8 +22,10 @@ use net::Station;
 use net::Totals;
 use net::Turn;
 use net::Wait;
+use queue::Queue;
 use roster::Member;
 use roster::relay;
+use words::least;
 
 // Each stage changes parts of the station in place; where not `ok`, nothing changes.
 // `queue` is the directed queue.
@@ -60,11 +64,40 @@ pub fn ncs_next(
     if is_seldom(act) {
         s = seldom(s, act, time, o, at);
     }
-    let to = direct_to(s, act);
+    let now = s.wait;
+    let next = front(now, s.round.list, act);
+    let number = s.round.number;
+    let end = end_of(s.used, next);
+    let mut seen = none_seen();
+    let mut j: usize = 0;
+    while j < end {
+        let p = s.members[j];
+        let f = s.queues[j];
+        seen = look(seen, s.used, j, p, f, number, next);
+        j += 1;
+    }
+    let to = to_of(seen.word, next);
     if to != 255 {
         s = direct::direct_burst(s, to, queue, o, at);
     }
-    poll(s, act, o, at)
+    let slot = unless_sent(next, to);
+    let mut source: u8 = wire::ALL;
+    if asks(seen.needs, slot) {
+        source = source_for(s, slot);
+    }
+    let h = s.settings;
+    let e = net::index(slot);
+    let n = s.members[e];
+    *at = put_poll(h, net::is_member(s.used, slot), n, slot, source, o, *at);
+    let x = s.wait;
+    let y = poll_wait(x, slot, source);
+    s.wait = y;
+    let z = s.totals;
+    let d = poll_totals(z, slot);
+    s.totals = d;
+    let list = poll_list(s.round.list, slot);
+    s.round.list = list;
+    s
 }
 
 // ---- close and timeout
@@ -455,16 +488,81 @@ fn front(w: Wait, list: u64, a: Act) -> u8
     }
 }
 
-// To whom word goes before that poll; 255 for none.
-fn direct_to(s: Station, act: Act) -> u8
-    ensures { λ r. ⌜ r ≡ directTo act s ⌝ }
+// What one look over the members finds for the poll of a slot: who needs a relayer, and whom word goes to before it.
+struct Seen {
+    needs: u64,
+    word: u64,
+}
+
+fn none_seen() -> Seen
+    ensures { λ r. ⌜ r ≡ noneSeen ⌝ }
 {
-    let w = s.wait;
-    let slot = front(w, s.round.list, act);
+    Seen { needs: 0, word: 0 }
+}
+
+// One past the highest slot in use; 0 where nobody is polled.
+fn end_of(used: u64, slot: u8) -> usize
+    ensures { λ r. ⌜ Ends used slot r ⌝ }
+{
     if slot == 255 {
-        return 255;
+        return 0;
     }
-    direct::directed_to(s, slot)
+    least(64 - u64::leading_zeros(used) as usize, 62)
+}
+
+// Slot j looked at before the poll of `slot` in this round: its member m and the queue of word for it, q.
+fn look(seen: Seen, used: u64, j: usize, m: Member, q: Queue, number: u32, slot: u8) -> Seen
+    ensures { λ r. ⌜ r ≡ lookAt seen used j m q number slot ⌝ }
+{
+    let here = bits::has(used, j);
+    let below = (m.via == slot) & (slot != wire::ALL);
+    let word = here & queue::is_due(q, number) & ((j == slot as usize) | below);
+    Seen {
+        needs: with_if(seen.needs, here & relay::needs_relay(m), j),
+        word: with_if(seen.word, word, j),
+    }
+}
+
+// To whom word goes before the poll of the slot: itself, or the first boat relayed by it; 255 for none.
+fn to_of(word: u64, slot: u8) -> u8
+    ensures { λ r. ⌜ r ≡ toOf word slot ⌝ }
+{
+    if bits::has(word, slot as usize) {
+        return slot;
+    }
+    match bits::lowest(word) {
+        Found::At(i) => low(i),
+        Found::Nothing => 255,
+    }
+}
+
+// After word to somebody nobody is polled.
+fn unless_sent(slot: u8, to: u8) -> u8
+    ensures { λ r. ⌜ r ≡ cond (eqb to 255) slot 255 ⌝ }
+{
+    if to == 255 { slot } else { 255 }
+}
+
+// Others than the polled slot need a relayer.
+fn asks(needs: u64, slot: u8) -> bool
+    ensures { λ r. ⌜ r ≡ asksFor needs slot ⌝ }
+{
+    (slot != 255) & (bits::without(needs, slot as usize) != 0)
+}
+
+// Whose traffic the polled slot is best placed to forward; 63 for none.
+fn source_for(s: Station, slot: u8) -> u8
+    ensures { λ r. ⌜ r ≡ sourceFor s slot ⌝ }
+{
+    let v = reroute::survey(s);
+    relay::relay_src_for(
+        &s.hears,
+        v.needs,
+        v.able,
+        &v.tried,
+        slot,
+        s.settings.relaysnr,
+    )
 }
 
 fn poll_wait(w: Wait, slot: u8, relayfor: u8) -> Wait
@@ -517,29 +615,4 @@ fn put_poll(
         return at;
     }
     bursts::poll_burst(g, here, m, slot, relayfor, false, o, at)
-}
-
-// `source` is the one whose traffic the polled slot is best placed to forward; 63 for none.
-fn poll(mut s: Station, act: Act, o: &mut [u32], at: &mut usize) -> Station
-    ensures { λ r. ⌜ Did (pollIf act s) r (now (o .entry)) (now (at .entry)) (now (o .exit)) (now (at .exit)) ⌝ }
-{
-    let w = s.wait;
-    let g = s.settings;
-    let slot = front(w, s.round.list, act);
-    let mut source: u8 = wire::ALL;
-    if slot != 255 {
-        let v = reroute::survey(s);
-        source = relay::relay_src_for(&s.hears, v.needs, v.able, &v.tried, slot, g.relaysnr);
-    }
-    let i = net::index(slot);
-    let m = s.members[i];
-    *at = put_poll(g, net::is_member(s.used, slot), m, slot, source, o, *at);
-    let v = poll_wait(w, slot, source);
-    s.wait = v;
-    let t = s.totals;
-    let u = poll_totals(t, slot);
-    s.totals = u;
-    let list = poll_list(s.round.list, slot);
-    s.round.list = list;
-    s
 }

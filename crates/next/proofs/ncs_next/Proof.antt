@@ -1,103 +1,215 @@
--- The calls one after the other, put together by `next-said`: `j` is where the ways round `seldom` meet, `e` where those round word back do. Assumes nothing.
-use mathlib.Core.Path.{sym, _∙_}
+-- The calls one after the other, put together by `next-said`: `j` is where the ways round `seldom` meet, `e` where those round word back do, `k` where those
+-- round the choice of a source do. Assumes nothing.
+use mathlib.Core.Path.{_≡_, sym, _∙_}
 use mathlib.Core.Logic.{⊎-elim}
+use Prim.Native.Nat.{_-_}
 use native.Mathlib.Omega.{arith}
 use Rattle.out.proofs.Laws.{wrote-length}
+use Rattle.net.specs.Net.{Did}
 use Rattle.net.proofs.Laws.{index-lt}
 use Rattle.bursts.proofs.Saying.{did-as}
-use Rattle.next.proofs.Calls.{did-none, not-seldom, direct-some, direct-none, direct-lt, next-said}
+use Rattle.next.specs.Code.Decision.{pollSource, directIf}
+use Rattle.next.proofs.Looks.{Looking, looking-start, looking-turn, looked, to-is, slot-is, source-is}
+use Rattle.next.proofs.Calls.{did-none, not-seldom, direct-some, direct-none, direct-lt, poll-did, next-said}
 use borrow.Author.Needs.{needs}
 use Rattle.next.proofs.ncs_next.Statement.{statement}
 use Rattle.next.proofs.ncs_next.Tie as tie
 
-due-of-requires : tie.Need-due-of-requires
+abbrev Inv-loop : tie.InvT-loop
+Inv-loop ok time queue o at s i here a next number end seen₀ j₀ seen j = Looking s next end seen j
+
+abbrev μ-loop : tie.MeasureT-loop
+μ-loop ok time queue o at s i here a next number end seen₀ j₀ seen j = end - j
+
+due-of-requires : tie.Need-due-of-requires Inv-loop μ-loop
 due-of-requires c κs = search needs
 
-late-of-requires : tie.Need-late-of-requires
+late-of-requires : tie.Need-late-of-requires Inv-loop μ-loop
 late-of-requires c κs = search needs
 
-index-requires : tie.Need-index-requires
+index-requires : tie.Need-index-requires Inv-loop μ-loop
 index-requires c κs = search needs
 
-mul-m : tie.Need-mul-m
+mul-m : tie.Need-mul-m Inv-loop μ-loop
 mul-m c = omega (arith, rw (← c .index .ensures) at (index-lt (c .before .late-of .result .slot)))
 
-element-copy-out-m : tie.Need-element-copy-out-m
+element-copy-out-m : tie.Need-element-copy-out-m Inv-loop μ-loop
 element-copy-out-m c = omega (arith, rw (← c .index .ensures) at (index-lt (c .before .late-of .result .slot)))
 
-is-member-requires : tie.Need-is-member-requires
+is-member-requires : tie.Need-is-member-requires Inv-loop μ-loop
 is-member-requires c κs = search needs
 
-put-late-requires : tie.Need-put-late-requires
+put-late-requires : tie.Need-put-late-requires Inv-loop μ-loop
 put-late-requires c κs = search needs
 
-late-member-requires : tie.Need-late-member-requires
+late-member-requires : tie.Need-late-member-requires Inv-loop μ-loop
 late-member-requires c κs = search needs
 
-mul-k : tie.Need-mul-k
+mul-k : tie.Need-mul-k Inv-loop μ-loop
 mul-k c = omega (arith, rw (← c .before .before .before .before .before .before .before .before .index .ensures) at (index-lt (c .before .before .before .before .before .before .before .before .before .late-of .result .slot)))
 
-element-set-from-k : tie.Need-element-set-from-k
+element-set-from-k : tie.Need-element-set-from-k Inv-loop μ-loop
 element-set-from-k c = omega (arith, rw (← c .before .before .before .before .before .before .before .before .index .ensures) at (index-lt (c .before .before .before .before .before .before .before .before .before .late-of .result .slot)))
 
-index-requires-2 : tie.Need-index-requires-2
+index-requires-2 : tie.Need-index-requires-2 Inv-loop μ-loop
 index-requires-2 c κs = search needs
 
-mul-b : tie.Need-mul-b
+mul-b : tie.Need-mul-b Inv-loop μ-loop
 mul-b c = omega (arith, rw (← c .index2 .ensures) at (index-lt (c .before .before .before .before .before .before .before .before .before .before .late-of .result .relayfor)))
 
-element-copy-out-b : tie.Need-element-copy-out-b
+element-copy-out-b : tie.Need-element-copy-out-b Inv-loop μ-loop
 element-copy-out-b c = omega (arith, rw (← c .index2 .ensures) at (index-lt (c .before .before .before .before .before .before .before .before .before .before .late-of .result .relayfor)))
 
-late-source-requires : tie.Need-late-source-requires
+late-source-requires : tie.Need-late-source-requires Inv-loop μ-loop
 late-source-requires c κs = search needs
 
-mul-c : tie.Need-mul-c
+mul-c : tie.Need-mul-c Inv-loop μ-loop
 mul-c c = omega (arith, rw (← c .before .before .before .before .index2 .ensures) at (index-lt (c .before .before .before .before .before .before .before .before .before .before .before .before .before .before .late-of .result .relayfor)))
 
-element-set-from-c : tie.Need-element-set-from-c
+element-set-from-c : tie.Need-element-set-from-c Inv-loop μ-loop
 element-set-from-c c = omega (arith, rw (← c .before .before .before .before .index2 .ensures) at (index-lt (c .before .before .before .before .before .before .before .before .before .before .before .before .before .before .late-of .result .relayfor)))
 
-late-wait-requires : tie.Need-late-wait-requires
+late-wait-requires : tie.Need-late-wait-requires Inv-loop μ-loop
 late-wait-requires c κs = search needs
 
-late-totals-requires : tie.Need-late-totals-requires
+late-totals-requires : tie.Need-late-totals-requires Inv-loop μ-loop
 late-totals-requires c κs = search needs
 
-late-round-requires : tie.Need-late-round-requires
+late-round-requires : tie.Need-late-round-requires Inv-loop μ-loop
 late-round-requires c κs = search needs
 
-act-of-requires : tie.Need-act-of-requires
+act-of-requires : tie.Need-act-of-requires Inv-loop μ-loop
 act-of-requires c κs = search needs
 
-is-seldom-requires : tie.Need-is-seldom-requires
+is-seldom-requires : tie.Need-is-seldom-requires Inv-loop μ-loop
 is-seldom-requires c κs = search needs
 
-seldom-requires : tie.Need-seldom-requires
+seldom-requires : tie.Need-seldom-requires Inv-loop μ-loop
 seldom-requires c κs = search needs
 
-direct-to-requires : tie.Need-direct-to-requires
-direct-to-requires c κs = search needs
+front-requires : tie.Need-front-requires Inv-loop μ-loop
+front-requires c κs = search needs
 
-direct-burst-requires : tie.Need-direct-burst-requires
+end-of-requires : tie.Need-end-of-requires Inv-loop μ-loop
+end-of-requires c κs = search needs
+
+none-seen-requires : tie.Need-none-seen-requires Inv-loop μ-loop
+none-seen-requires c κs = search needs
+
+loop-holds : tie.Need-loop-holds Inv-loop μ-loop
+loop-holds c = rw (c .none-seen .ensures) (looking-start _ _ _ (c .before .end-of .ensures .most))
+
+mul-p : tie.Need-mul-p Inv-loop μ-loop
+mul-p c = omega (arith, c .before .loop .inv .most)
+
+element-copy-out-p : tie.Need-element-copy-out-p Inv-loop μ-loop
+element-copy-out-p c = omega (arith, c .before .loop .inv .most)
+
+mul-f : tie.Need-mul-f Inv-loop μ-loop
+mul-f c = omega (arith, c .before .before .loop .inv .most)
+
+element-copy-out-f : tie.Need-element-copy-out-f Inv-loop μ-loop
+element-copy-out-f c = omega (arith, c .before .before .loop .inv .most)
+
+look-requires : tie.Need-look-requires Inv-loop μ-loop
+look-requires c κs = search needs
+
+add-j : tie.Need-add-j Inv-loop μ-loop
+add-j c = omega (arith, c .before .before .before .before .loop .inv .most)
+
+loop-less : tie.Need-loop-less Inv-loop μ-loop
+loop-less c = omega (arith, c .before .before .before .loop-test .taken)
+
+loop-again : tie.Need-loop-again Inv-loop μ-loop
+loop-again c = let l = c .before .before .before in looking-turn (l .loop-test .taken) (l .before .loop .inv) (c .look .ensures)
+
+to-of-requires : tie.Need-to-of-requires Inv-loop μ-loop
+to-of-requires c κs = search needs
+
+direct-burst-requires : tie.Need-direct-burst-requires Inv-loop μ-loop
 direct-burst-requires c κs =
     let d = c .before .before .before in
-    direct-lt (d .before .before .before .act-of .result) (d .before .if1 .s) (d .direct-to .result) (d .direct-to .ensures) (c .before .before .if2 .taken)
+    let x = d .before in
+    let l = x .before in
+    let z = l .before .before in
+    let f = z .before in
+    let j = f .before .before in
+    let w = looked (z .end-of .ensures) (x .loop-test .left) (l .loop .inv) in
+    direct-lt (j .before .before .act-of .result) (j .if1 .s) (d .to-of .result) (rw (f .front .ensures) at (to-is w (d .to-of .ensures))) (c .before .before .if2 .taken)
 
-poll-requires : tie.Need-poll-requires
-poll-requires c κs = search needs
+unless-sent-requires : tie.Need-unless-sent-requires Inv-loop μ-loop
+unless-sent-requires c κs = search needs
 
-returns : tie.Need-returns
+asks-requires : tie.Need-asks-requires Inv-loop μ-loop
+asks-requires c κs = search needs
+
+source-for-requires : tie.Need-source-for-requires Inv-loop μ-loop
+source-for-requires c κs = search needs
+
+index-requires-3 : tie.Need-index-requires-3 Inv-loop μ-loop
+index-requires-3 c κs = search needs
+
+mul-n : tie.Need-mul-n Inv-loop μ-loop
+mul-n c = omega (arith, rw (← c .index3 .ensures) at (index-lt (c .before .before .before .before .unless-sent .result)))
+
+element-copy-out-n : tie.Need-element-copy-out-n Inv-loop μ-loop
+element-copy-out-n c = omega (arith, rw (← c .index3 .ensures) at (index-lt (c .before .before .before .before .unless-sent .result)))
+
+is-member-requires-2 : tie.Need-is-member-requires-2 Inv-loop μ-loop
+is-member-requires-2 c κs = search needs
+
+put-poll-requires : tie.Need-put-poll-requires Inv-loop μ-loop
+put-poll-requires c κs = search needs
+
+poll-wait-requires : tie.Need-poll-wait-requires Inv-loop μ-loop
+poll-wait-requires c κs = search needs
+
+poll-totals-requires : tie.Need-poll-totals-requires Inv-loop μ-loop
+poll-totals-requires c κs = search needs
+
+poll-list-requires : tie.Need-poll-list-requires Inv-loop μ-loop
+poll-list-requires c κs = search needs
+
+returns : tie.Need-returns Inv-loop μ-loop
 returns c =
-    let e = c .before .before .before .before .before in
+    let pl = c .before in
+    let pt = pl .before in
+    let pw = pt .before .before in
+    let pp = pw .before .before .before .before in
+    let ph = pp .before .before in
+    let px = ph .before .before in
+    let k = px .before .before in
+    let ask = k .before in
+    let un = ask .before in
+    let e = un .before in
     let d = e .before in
-    let j = d .before in
+    let x = d .before in
+    let y = x .before in
+    let z = y .before .before in
+    let f = z .before in
+    let j = f .before .before in
     let r = j .before .before .before in
     let v = r .before .before .before .before .before .before .before in
     let b = v .before .before .before .before .before in
     let p = b .before .before .before .before in
     let i = p .before .before .before .before .before in
     let a = i .before .before .before .before .before .before .before .before .args in
+    let t = j .if1 .s in
+    let act = j .before .before .act-of .result in
+    let slot = un .unless-sent .result in
+    let saw = looked (z .end-of .ensures) (x .loop-test .left) (y .loop .inv) in
+    let to = to-is saw (d .to-of .ensures) in
+    let word : Did (directIf (d .to-of .result) t (a .queue .now)) (e .if2 .s) (j .if1 .o) (j .if1 .at) (e .if2 .o) (e .if2 .at) =
+    ⊎-elim
+    (λ w. rw (w .8, w .6, w .7) (did-as (w .3 .ensures) (direct-some (d .to-of .result) t (a .queue .now) (w .0 .taken))))
+    (λ w. rw (w .3, w .1, w .2) (did-as (did-none _ _ _) (direct-none (d .to-of .result) t (a .queue .now) (w .0 .left))))
+    (e .if2 .came) in
+    let at = slot-is act t (e .if2 .s) (a .queue .now) (f .front .result) (d .to-of .result) slot saw (f .front .ensures) (word .station) (un .unless-sent .ensures) in
+    let source : k .if3 .source ≡ pollSource (e .if2 .s) slot =
+    ⊎-elim
+    (λ w. source-is act t (e .if2 .s) (a .queue .now) (f .front .result) (d .to-of .result) slot saw (f .front .ensures) (word .station) (un .unless-sent .ensures) _ (sym (ask .asks .ensures) ∙ w .0 .taken) (w .2 ∙ w .1 .ensures))
+    (λ w. source-is act t (e .if2 .s) (a .queue .now) (f .front .result) (d .to-of .result) slot saw (f .front .ensures) (word .station) (un .unless-sent .ensures) _ (sym (ask .asks .ensures) ∙ w .0 .left) (w .1))
+    (k .if3 .came) in
     next-said
     (a .t1)
     (a .ok)
@@ -116,32 +228,31 @@ returns c =
       act = j .before .before .act-of .ensures;
     })
     (a .queue .now)
-    (j .if1 .s)
+    t
     (j .if1 .o)
     (j .if1 .at)
-    (d .direct-to .result)
+    (d .to-of .result)
     (e .if2 .s)
     (e .if2 .o)
     (e .if2 .at)
     (p .put-late .ensures)
-    (c .before .before .poll .ensures)
-    (d .direct-to .ensures)
-    (⊎-elim
-    (λ w. rw (w .8, w .6, w .7) (did-as (w .3 .ensures) (direct-some (d .direct-to .result) (j .if1 .s) (a .queue .now) (w .0 .taken))))
-    (λ w. rw (w .3, w .1, w .2) (did-as (did-none _ _ _) (direct-none (d .direct-to .result) (j .if1 .s) (a .queue .now) (w .0 .left))))
-    (e .if2 .came))
+    (poll-did act (e .if2 .s) at source (px .index3 .ensures) (ph .is-member2 .ensures) (pp .put-poll .ensures) (pw .poll-wait .ensures) (pt .poll-totals .ensures) (pl .poll-list .ensures))
+    (rw (f .front .ensures) at to)
+    word
     (⊎-elim
     (λ w. rw (w .8, w .6, w .7) (w .3 .ensures))
-    (λ w. rw (w .3, w .1, w .2) (did-as (did-none _ _ _) (not-seldom (j .before .before .act-of .result) _ (a .time) (sym (j .before .is-seldom .ensures) ∙ w .0 .left))))
+    (λ w. rw (w .3, w .1, w .2) (did-as (did-none _ _ _) (not-seldom act _ (a .time) (sym (j .before .is-seldom .ensures) ∙ w .0 .left))))
     (j .if1 .came))
 
-same-length : tie.Need-same-length
+same-length : tie.Need-same-length Inv-loop μ-loop
 same-length c = wrote-length (returns c .wrote)
 
 pub ncs-next-spec : {M : Type 1} → statement M
 ncs-next-spec =
     tie.close
     (tie.spec
+    Inv-loop
+    μ-loop
     due-of-requires
     late-of-requires
     index-requires
@@ -164,8 +275,30 @@ ncs-next-spec =
     act-of-requires
     is-seldom-requires
     seldom-requires
-    direct-to-requires
+    front-requires
+    end-of-requires
+    none-seen-requires
+    loop-holds
+    mul-p
+    element-copy-out-p
+    mul-f
+    element-copy-out-f
+    look-requires
+    add-j
+    loop-less
+    loop-again
+    to-of-requires
     direct-burst-requires
-    poll-requires
+    unless-sent-requires
+    asks-requires
+    source-for-requires
+    index-requires-3
+    mul-n
+    element-copy-out-n
+    is-member-requires-2
+    put-poll-requires
+    poll-wait-requires
+    poll-totals-requires
+    poll-list-requires
     same-length
     returns)

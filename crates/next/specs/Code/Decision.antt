@@ -1,10 +1,12 @@
 -- ncs_next of ncs.rs as the code goes: one line through the station, with what is due as numbers. The proof shows that it comes to the stages of `Next`.
-use Prim.Native.Nat.{ℕ, _+_, _-_, _%_}
+use mathlib.Core.Path.{_≡_}
+use Prim.Native.Nat.{ℕ, _+_, _-_, _%_, _≤_, _<_}
 use mathlib.Core.Bool.{Bool, true, false, not, cond, _&&_, _||_}
 use mathlib.Core.List.{List, [], _∷_, _++_}
 use lib.Dec.{eqb, ltb}
 use lib.Ieee.{Float, lt}
-use Rattle.bits.specs.Mask.{withoutBit, lowestBit}
+use lib.ListN.{getD}
+use Rattle.bits.specs.Mask.{hasBit, withBit, withoutBit, lowestBit}
 use Rattle.bits.specs.Stop.{stop}
 use Rattle.bits.specs.declared.Found.{Found}
 use Rattle.bits.specs.declared.Found.the-variants as found
@@ -14,7 +16,9 @@ use Rattle.wire.specs.Kinds.{kClose}
 use Rattle.out.specs.Encode.{missedWord}
 use Rattle.roster.specs.declared.Member.{Member}
 use Rattle.roster.specs.Members.{missedOne, silentAt, tally}
-use Rattle.roster.specs.Relays.{turnOver}
+use Rattle.roster.specs.Relays.{needsRelay, turnOver}
+use Rattle.queue.specs.declared.Queue.{Queue}
+use Rattle.queue.specs.Queues.{emptyQueue, isDue}
 use Rattle.net.specs.declared.Station.{Station}
 use Rattle.net.specs.declared.Settings.{Settings}
 use Rattle.net.specs.declared.Round.{Round}
@@ -24,6 +28,7 @@ use Rattle.net.specs.declared.Turn.the-variants.{Waiting}
 use Rattle.net.specs.declared.Wait.{Wait}
 use Rattle.net.specs.State.{memberAt, withMember, withWait, withRound, withTotals, withList, withTxat, withClosing, withActivity, withNextbeacon, withRxsent, withPolls, withSilent}
 use Rattle.net.specs.Net.{plus, isMember, waitOf, idleWait, isIdle, Said, said}
+use Rattle.bursts.specs.Rows.{seated}
 use Rattle.bursts.specs.Bursts.{tinyWords, pollBurst, acksBurst, beaconOf, rxListBurst}
 use Rattle.bursts.specs.Direct.{directedTo, directBurst, slotOr255}
 use Rattle.bursts.specs.Reroute.{sourceFor, rerouteOf}
@@ -32,6 +37,7 @@ use Rattle.next.specs.declared.Due.the-variants.{Free, Quiet, Close, Aga
 use Rattle.next.specs.declared.Act.{Act}
 use Rattle.next.specs.declared.Act.the-variants as act
 use Rattle.next.specs.declared.Late.{Late}
+use Rattle.next.specs.declared.Seen.{Seen}
 use Rattle.next.specs.Next.{Decision, dueOf, actOf, pollFront, drawn}
 
 -- the station and the words of a decision
@@ -202,6 +208,35 @@ abbrev pub pollIf : Act → Station → Said
 pollIf a s = cond (isIdle (s .wait .turn) && mayPoll a) (saidOf (pollFront s)) (said s [])
 
 -- ---- word back before the poll (U1)
+
+-- past the end no slot is in use; 0 where nobody is polled
+pub record Ends (used slot end : ℕ) : Type 0 where
+  pub most : end ≤ 62
+  pub none : slot ≡ 255 → end ≡ 0
+  pub past : (slot ≡ 255 → ⊥) → (j : ℕ) → end ≤ j → j < 62 → hasBit used j ≡ false
+
+-- one look over the slots below it: who needs a relayer, and whom word goes to
+abbrev pub noneSeen : Seen
+noneSeen = record { needs = 0; word = 0 }
+
+-- the polled slot itself, or a boat relayed by it
+abbrev pub isFor : ℕ → ℕ → ℕ → Bool
+isFor slot j via = eqb j slot || (eqb via slot && not (eqb slot 63))
+
+abbrev pub lookAt : Seen → ℕ → ℕ → Member → Queue → ℕ → ℕ → Seen
+lookAt x used j m q number slot =
+    record { needs = cond (hasBit used j && needsRelay m) (withBit (x .needs) j) (x .needs); word = cond (hasBit used j && isDue q number && isFor slot j (m .via)) (withBit (x .word) j) (x .word) }
+
+abbrev pub wordAt : Station → ℕ → ℕ → Bool
+wordAt s slot j = hasBit (s .used) j && isDue (getD (s .queues) j emptyQueue) (s .round .number) && isFor slot j (seated s j .via)
+
+-- the slot itself before the boats relayed by it
+abbrev pub toOf : ℕ → ℕ → ℕ
+toOf word slot = cond (hasBit word slot) slot (slotOr255 (lowestBit word))
+
+-- a relayer is looked for: others than the polled slot need one
+abbrev pub asksFor : ℕ → ℕ → Bool
+asksFor needs slot = not (eqb slot 255) && not (eqb (withoutBit needs slot) 0)
 
 -- to whom, before the poll of a slot; 255 for none
 abbrev pub directSlot : Station → ℕ → ℕ
