@@ -254,7 +254,7 @@ pub fn beacon(mut s: Station, time: f64, o: &mut [u32], at: &mut usize) -> Stati
 
 // ---- rx_list_burst
 
-fn tell_at(m: Member, here: bool) -> Member
+pub fn tell_at(m: Member, here: bool) -> Member
     ensures { λ r. ⌜ r ≡ tellOf here m ⌝ }
 {
     if here & roster::is_news(m) {

@@ -127,7 +127,7 @@ fn leaves_of(s: Station) -> u64
 }
 
 // Whether the leaf m, with p in its relay's slot, is to be moved: it or its relay misses too often, or the relay is no member.
-fn is_down(used: u64, m: Member, p: Member, limit: u32) -> bool
+pub fn is_down(used: u64, m: Member, p: Member, limit: u32) -> bool
     ensures { λ r. ⌜ r ≡ isDown used m p limit ⌝ }
 {
     !net::is_member(used, m.via) | (limit <= p.missed) | (limit <= m.missed)

@@ -4,13 +4,14 @@ ghost use mathlib.Core.Bool.{false, cond};
 ghost use mathlib.Core.List.{[]};
 ghost use Prim.Native.Nat.{_+_, _%_, _^_};
 ghost use lib.Dec.{eqb};
+ghost use Rattle.bits.specs.Loop.{any};
 ghost use Rattle.bits.specs.Mask.{withBit};
 ghost use Rattle.out.specs.Encode.{Wrote};
 ghost use Rattle.net.specs.State.{withNumber};
 ghost use Rattle.net.specs.Net.{Did, said};
 ghost use Rattle.bursts.specs.Reroute.{sourceFor};
-ghost use Rattle.next.specs.Next.{overdueOf, dueBy, dueOf, listFor, drawn, ncsNext};
-ghost use Rattle.next.specs.Code.Decision.{noLate, lateReply, lateOf, lateWords, lateMember, lateSource, lateWait, lateTotals, closeRound, forwardTo, lateRound, actIn, isSeldom, reroutingOf, roundThen, seldomOf, mayPoll, frontOf, Ends, noneSeen, lookAt, toOf, asksFor, pollWait, pollTotals, pollList, pollWords};
+ghost use Rattle.next.specs.Next.{overdueOf, dueBy, dueOf, drawn, ncsNext};
+ghost use Rattle.next.specs.Code.Decision.{noLate, lateReply, lateOf, lateWords, lateMember, lateSource, lateWait, lateTotals, closeRound, forwardTo, lateRound, actIn, isSeldom, reroutingOf, roundThen, seldomOf, listIn, listDue, toldIn, stirsAt, stirsIn, listRound, restsIn, mayPoll, frontOf, Ends, noneSeen, lookAt, toOf, asksFor, pollWait, pollTotals, pollList, pollWords};
 use bits::Found;
 use bursts::direct;
 use bursts::reroute;
@@ -25,6 +26,7 @@ use net::Wait;
 use queue::Queue;
 use roster::Member;
 use roster::relay;
+use stream::window;
 use words::least;
 
 // Each stage changes parts of the station in place; where not `ok`, nothing changes.
@@ -376,18 +378,16 @@ fn seldom(s: Station, a: Act, time: f64, o: &mut [u32], at: &mut usize) -> Stati
 
 // ---- received list, reroute, round
 
-// The slots that the new round polls.
-fn draw(s: Station) -> u64
-    ensures { λ r. ⌜ r ≡ listFor s (s .round .number) ⌝ }
+// The slots that a round of this number polls.
+fn draw(ms: [Member; 62], used: u64, limit: u32, number: u32) -> u64
+    ensures { λ r. ⌜ r ≡ listIn ms used limit number ⌝ }
 {
-    let ms = s.members;
-    let limit = s.settings.misslimit;
-    let fourth = s.round.number % 4 == 0;
+    let fourth = number % 4 == 0;
     let mut list: u64 = 0;
     let mut i: usize = 0;
     while i < 62 {
         let m = ms[i];
-        let listed = bits::has(s.used, i) & (m.via == wire::ALL) & (fourth | (m.missed < limit));
+        let listed = bits::has(used, i) & (m.via == wire::ALL) & (fourth | (m.missed < limit));
         list = with_if(list, listed, i);
         i += 1;
     }
@@ -419,7 +419,8 @@ fn new_round(mut s: Station, time: f64) -> Station
     s.round = q;
     let rounds = bits::one_more(s.totals.rounds);
     s.totals.rounds = rounds;
-    let list = draw(s);
+    let ms = s.members;
+    let list = draw(ms, s.used, g.misslimit, q.number);
     s.round.list = list;
     s
 }
@@ -438,8 +439,8 @@ fn rerouting(s: Station, time: f64, o: &mut [u32], at: &mut usize) -> Station
     new_round(t, time)
 }
 
-// The end of a round: what has arrived is said, if that is news; else a new list is drawn up.
-fn round_end(mut s: Station, time: f64, o: &mut [u32], at: &mut usize) -> Station
+// What has arrived is said, if that is news; else boats are moved and a new list is drawn up.
+fn list_end(mut s: Station, time: f64, o: &mut [u32], at: &mut usize) -> Station
     ensures { λ r. ⌜ Did (roundThen s time) r (now (o .entry)) (now (at .entry)) (now (o .exit)) (now (at .exit)) ⌝ }
 {
     let n = s.round.number;
@@ -453,6 +454,103 @@ fn round_end(mut s: Station, time: f64, o: &mut [u32], at: &mut usize) -> Statio
         return rerouting(t, time, o, at);
     }
     t
+}
+
+fn list_due(r: Round) -> bool
+    ensures { λ x. ⌜ x ≡ listDue r ⌝ }
+{
+    (r.number != 0) & (r.rxsent != r.number)
+}
+
+// What a received list would tell is noted, where one is due.
+fn told_in(ms: [Member; 62], used: u64, due: bool) -> [Member; 62]
+    ensures { λ r. ⌜ r ≡ toldIn due used ms ⌝ }
+{
+    let mut ks = ms;
+    let mut i: usize = 0;
+    while i < 62 {
+        let m = ks[i];
+        let k = bursts::tell_at(m, due & bits::has(used, i));
+        ks[i] = k;
+        i += 1;
+    }
+    ks
+}
+
+// The boat m, with p in its relay's slot, has a hole in its messages, or is to be promoted or moved.
+fn stirs_at(used: u64, here: bool, m: Member, p: Member, floor: f32, limit: u32) -> bool
+    ensures { λ r. ⌜ r ≡ stirsAt used here m p floor limit ⌝ }
+{
+    let w = m.up;
+    let x = relay::promotable(here, m, floor);
+    let down = relay::is_leaf(m, limit) & reroute::is_down(used, m, p, limit);
+    level::is_heard(x) | (here & (window::holes(w) | down))
+}
+
+// Some boat does.
+fn stirs(ms: [Member; 62], used: u64, g: Settings) -> bool
+    ensures { λ r. ⌜ r ≡ any (stirsIn ms used g) 62 0 ⌝ }
+{
+    let th = g.thresholds;
+    let floor = th[0] + g.margin;
+    let mut i: usize = 0;
+    while i < 62 {
+        let m = ms[i];
+        let v = net::index(m.via);
+        let p = ms[v];
+        if stirs_at(used, bits::has(used, i), m, p, floor, g.misslimit) {
+            return true;
+        }
+        i += 1;
+    }
+    false
+}
+
+// The round behind a received list that is not sent, where one is due.
+fn list_round(r: Round) -> Round
+    ensures { λ x. ⌜ x ≡ listRound r ⌝ }
+{
+    let mut k = r;
+    if list_due(r) {
+        k.rxsent = r.number;
+        k.rxdirty = false;
+    }
+    k
+}
+
+// No new list yet.
+fn rests(r: Round, time: f64) -> bool
+    ensures { λ x. ⌜ x ≡ restsIn r time ⌝ }
+{
+    !r.traffic & (0 < r.number) & (time < r.nextround)
+}
+
+// The end of a round. Mostly there is nothing to say and nobody to move: then the station stays where it is.
+fn round_end(mut s: Station, time: f64, o: &mut [u32], at: &mut usize) -> Station
+    ensures { λ r. ⌜ Did (roundThen s time) r (now (o .entry)) (now (at .entry)) (now (o .exit)) (now (at .exit)) ⌝ }
+{
+    let w = s.wait;
+    let g = s.settings;
+    let r = s.round;
+    let ms = s.members;
+    let ks = told_in(ms, s.used, list_due(r));
+    let still = net::is_idle(w) & !r.rxdirty & (r.treenews == 0);
+    if !still | stirs(ks, s.used, g) {
+        s = list_end(s, time, o, at);
+    } else {
+        s.members = ks;
+        let k = list_round(r);
+        s.round = k;
+        if !rests(k, time) {
+            let q = next_round(k, time + g.idleroundgap);
+            s.round = q;
+            let list = draw(ks, s.used, g.misslimit, q.number);
+            s.round.list = list;
+            let rounds = bits::one_more(s.totals.rounds);
+            s.totals.rounds = rounds;
+        }
+    }
+    s
 }
 
 // ---- poll

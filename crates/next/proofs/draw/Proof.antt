@@ -6,22 +6,24 @@ use Prim.Native.Nat.{_≤_, _-_}
 use native.Mathlib.Omega.{arith}
 use borrow.Author.Needs.{needs}
 use lib.Dec.{eqb, ltb}
+use lib.ListN.{getD}
 use Rattle.bits.specs.Loop.{fold}
 use Rattle.bits.specs.Mask.{hasBit}
 use Rattle.bits.proofs.Loops.{fold-turn, fold-end}
-use Rattle.bursts.specs.Rows.{seated, markIf, maskWhere}
-use Rattle.next.specs.Next.{listFor}
+use Rattle.roster.specs.Members.{noMember}
+use Rattle.bursts.specs.Rows.{markIf, maskWhere}
+use Rattle.next.specs.Code.Decision.{listIn}
 use Rattle.next.proofs.draw.Statement.{statement}
 use Rattle.next.proofs.draw.Tie as tie
 
 abbrev Inv-loop : tie.InvT-loop
-Inv-loop s ms limit fourth list₀ i₀ list i = (i ≤ 62) × (fold (markIf (λ k. hasBit (s .used) k && eqb (seated s k .via) 63 && (fourth || ltb (seated s k .missed) limit))) (62 - i) i list ≡ listFor s (s .round .number))
+Inv-loop used limit number ms fourth list₀ i₀ list i = (i ≤ 62) × (fold (markIf (λ k. hasBit used k && eqb (getD ms k noMember .via) 63 && (fourth || ltb (getD ms k noMember .missed) limit))) (62 - i) i list ≡ listIn ms used limit number)
 
 abbrev μ-loop : tie.MeasureT-loop
-μ-loop s ms limit fourth list₀ i₀ list i = 62 - i
+μ-loop used limit number ms fourth list₀ i₀ list i = 62 - i
 
 loop-holds : tie.Need-loop-holds Inv-loop μ-loop
-unfolding listFor maskWhere
+unfolding maskWhere
 loop-holds c = (omega arith, refl)
 
 mul-m : tie.Need-mul-m Inv-loop μ-loop

@@ -15,7 +15,7 @@ draw-requires c κs = search needs
 
 returns : tie.Need-returns
 unfolding listFor
-returns c = rw (c .before .draw .ensures, c .before .before .before .one-more .ensures, c .before .before .before .before .next-round .ensures)
+returns c = rw (c .before .draw .ensures, c .before .before .before .before .one-more .ensures, c .before .before .before .before .before .next-round .ensures)
 
 pub new-round-spec : {M : Type 1} → statement M
 new-round-spec = tie.close (tie.spec next-round-requires one-more-requires draw-requires returns)

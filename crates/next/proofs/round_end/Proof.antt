@@ -1,55 +1,102 @@
 -- Assumes nothing.
 use mathlib.Core.Path.{sym, _∙_}
-use Rattle.bits.proofs.Lists.{cond-true}
-use Rattle.bursts.proofs.Saying.{did-as}
-use Rattle.next.specs.Code.Decision.{roundThen}
-use Rattle.next.proofs.Calls.{list-none, list-said}
+use borrow.Author.Tests.{eqb-true, not-true, not-false}
 use borrow.Author.Needs.{needs}
+use Rattle.bits.proofs.Lists.{and-true, or-false}
+use Rattle.next.proofs.Calm.{rests-did, drawn-did}
 use Rattle.next.proofs.round_end.Statement.{statement}
 use Rattle.next.proofs.round_end.Tie as tie
 
-rerouting-requires : tie.Need-rerouting-requires
-rerouting-requires c κs = search needs
+list-due-requires : tie.Need-list-due-requires
+list-due-requires c κs = search needs
+
+told-in-requires : tie.Need-told-in-requires
+told-in-requires c κs = search needs
+
+is-idle-requires : tie.Need-is-idle-requires
+is-idle-requires c κs = search needs
+
+stirs-requires : tie.Need-stirs-requires
+stirs-requires c κs = search needs
+
+list-end-requires : tie.Need-list-end-requires
+list-end-requires c κs = search needs
+
+list-round-requires : tie.Need-list-round-requires
+list-round-requires c κs = search needs
+
+rests-requires : tie.Need-rests-requires
+rests-requires c κs = search needs
+
+next-round-requires : tie.Need-next-round-requires
+next-round-requires c κs = search needs
+
+draw-requires : tie.Need-draw-requires
+draw-requires c κs = search needs
+
+one-more-requires : tie.Need-one-more-requires
+one-more-requires c κs = search needs
 
 same-length : tie.Need-same-length
 same-length c = search needs
 
 returns : tie.Need-returns
-unfolding roundThen
-returns c = did-as (c .before .before .rerouting .ensures) (sym (cond-true _ _ _ (c .before .before .before .before .before .if1 .taken)))
-
-rx-list-burst-requires : tie.Need-rx-list-burst-requires
-rx-list-burst-requires c κs = search needs
-
-is-idle-requires : tie.Need-is-idle-requires
-is-idle-requires c κs = search needs
-
-rerouting-requires-2 : tie.Need-rerouting-requires-2
-rerouting-requires-2 c κs = search needs
-
-same-length-2 : tie.Need-same-length-2
-same-length-2 c = search needs
+returns c = search needs
 
 returns-2 : tie.Need-returns-2
-returns-2 c = list-none (c .before .before .before .before .before .before .before .before .before .before .before .before .before .before .before .before .before .args .s) (c .before .before .before .before .before .before .before .before .before .before .before .before .before .before .before .before .before .args .time) (c .before .before .before .before .before .before .before .before .before .before .before .before .before .before .if1 .left) (c .before .before .before .before .before .before .before .before .before .before .rx-list-burst .ensures) (sym (c .before .before .before .before .before .before .is-idle .ensures) ∙ c .before .before .before .before .before .if2 .taken) (c .before .before .rerouting2 .ensures)
-
-same-length-3 : tie.Need-same-length-3
-same-length-3 c = search needs
+returns-2 c =
+    let m = c .before in
+    let d = m .before .before in
+    let q = d .before in
+    let r = q .before .before .before in
+    let k = r .before in
+    let e = k .before in
+    let n = e .before in
+    let w = n .before .before .before in
+    let t = w .before in
+    let l = t .before in
+    let a = l .before .before .before .before .before .before .args in
+    let o = or-false _ _ (e .if1 .left) in
+    let b = and-true _ _ (not-false _ (o .0)) in
+    let f = and-true _ _ (b .0) in
+    let told = t .told-in .ensures in
+    drawn-did (a .s) (a .time) (sym (w .is-idle .ensures) ∙ f .0) (not-true _ (f .1)) (eqb-true _ 0 (b .1))
+    (rw (l .list-due .ensures) at (rw (t .told-in .ensures) at (sym (n .stirs .ensures) ∙ o .1)))
+    (rw (l .list-due .ensures) at told) (k .list-round .ensures) (sym (r .rests .ensures) ∙ not-true _ (q .before .before .if2 .taken)) (q .next-round .ensures) (d .draw .ensures) (m .one-more .ensures)
 
 returns-3 : tie.Need-returns-3
-returns-3 c = list-said (c .before .before .before .before .before .before .before .before .before .before .before .before .args .s) (c .before .before .before .before .before .before .before .before .before .before .before .before .args .time) (c .before .before .before .before .before .before .before .before .before .if1 .left) (c .before .before .before .before .before .rx-list-burst .ensures) (sym (c .before .is-idle .ensures) ∙ c .if2 .left)
+returns-3 c =
+    let r = c .before in
+    let k = r .before in
+    let e = k .before in
+    let n = e .before in
+    let w = n .before .before .before in
+    let t = w .before in
+    let l = t .before in
+    let a = l .before .before .before .before .before .before .args in
+    let o = or-false _ _ (e .if1 .left) in
+    let b = and-true _ _ (not-false _ (o .0)) in
+    let f = and-true _ _ (b .0) in
+    let told = t .told-in .ensures in
+    rests-did (a .s) (a .time) (sym (w .is-idle .ensures) ∙ f .0) (not-true _ (f .1)) (eqb-true _ 0 (b .1))
+    (rw (l .list-due .ensures) at (rw (t .told-in .ensures) at (sym (n .stirs .ensures) ∙ o .1)))
+    (rw (l .list-due .ensures) at told) (k .list-round .ensures) (sym (r .rests .ensures) ∙ not-false _ (c .if2 .left))
 
 pub round-end-spec : {M : Type 1} → statement M
 round-end-spec =
     tie.close
     (tie.spec
-    rerouting-requires
+    list-due-requires
+    told-in-requires
+    is-idle-requires
+    stirs-requires
+    list-end-requires
+    list-round-requires
+    rests-requires
+    next-round-requires
+    draw-requires
+    one-more-requires
     same-length
     returns
-    rx-list-burst-requires
-    is-idle-requires
-    rerouting-requires-2
-    same-length-2
     returns-2
-    same-length-3
     returns-3)

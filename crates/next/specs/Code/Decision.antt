@@ -4,19 +4,22 @@ use Prim.Native.Nat.{ℕ, _+_, _-_, _%_, _≤_, _<_}
 use mathlib.Core.Bool.{Bool, true, false, not, cond, _&&_, _||_}
 use mathlib.Core.List.{List, [], _∷_, _++_}
 use lib.Dec.{eqb, ltb}
-use lib.Ieee.{Float, lt}
-use lib.ListN.{getD}
+use lib.Ieee.{Float, nan, binary32, add, lt}
+use lib.ListN.{getD, set}
+use Rattle.bits.specs.Loop.{fold}
 use Rattle.bits.specs.Mask.{hasBit, withBit, withoutBit, lowestBit}
 use Rattle.bits.specs.Stop.{stop}
 use Rattle.bits.specs.declared.Found.{Found}
 use Rattle.bits.specs.declared.Found.the-variants as found
 use Rattle.level.specs.declared.Clock.the-variants.{Never}
+use Rattle.level.specs.Levels.{isHeard}
 use Rattle.level.specs.Order.{least}
 use Rattle.wire.specs.Kinds.{kClose}
 use Rattle.out.specs.Encode.{missedWord}
 use Rattle.roster.specs.declared.Member.{Member}
-use Rattle.roster.specs.Members.{missedOne, silentAt, tally}
-use Rattle.roster.specs.Relays.{needsRelay, turnOver}
+use Rattle.stream.specs.Window.{holesOf}
+use Rattle.roster.specs.Members.{noMember, missedOne, silentAt, tally}
+use Rattle.roster.specs.Relays.{needsRelay, turnOver, promotableAt, isLeaf}
 use Rattle.queue.specs.declared.Queue.{Queue}
 use Rattle.queue.specs.Queues.{emptyQueue, isDue}
 use Rattle.net.specs.declared.Station.{Station}
@@ -26,12 +29,12 @@ use Rattle.net.specs.declared.Totals.{Totals}
 use Rattle.net.specs.declared.Reply.{Reply}
 use Rattle.net.specs.declared.Turn.the-variants.{Waiting}
 use Rattle.net.specs.declared.Wait.{Wait}
-use Rattle.net.specs.State.{memberAt, withMember, withWait, withRound, withTotals, withList, withTxat, withClosing, withActivity, withNextbeacon, withRxsent, withPolls, withSilent}
+use Rattle.net.specs.State.{indexOf, memberAt, withMember, withWait, withRound, withTotals, withList, withTxat, withClosing, withActivity, withNextbeacon, withRxsent, withRxdirty, withPolls, withSilent}
 use Rattle.net.specs.Net.{plus, isMember, waitOf, idleWait, isIdle, Said, said}
-use Rattle.bursts.specs.Rows.{seated}
-use Rattle.bursts.specs.Bursts.{tinyWords, pollBurst, acksBurst, beaconOf, rxListBurst}
+use Rattle.bursts.specs.Rows.{seated, maskWhere}
+use Rattle.bursts.specs.Bursts.{tinyWords, pollBurst, acksBurst, beaconOf, rxListBurst, tellOf}
 use Rattle.bursts.specs.Direct.{directedTo, directBurst, slotOr255}
-use Rattle.bursts.specs.Reroute.{sourceFor, rerouteOf}
+use Rattle.bursts.specs.Reroute.{sourceFor, isDown, rerouteOf}
 use Rattle.next.specs.declared.Due.{Due}
 use Rattle.next.specs.declared.Due.the-variants.{Free, Quiet, Close, Again, Missed}
 use Rattle.next.specs.declared.Act.{Act}
@@ -155,6 +158,40 @@ unfoldable pub roundThen : Station → Float → Said
 roundThen s now =
     cond (eqb (s .round .number) 0 || eqb (s .round .rxsent) (s .round .number)) (reroutingOf s now)
     (listThen (rxListBurst (withRound s (withRxsent (s .round) (s .round .number)))) now)
+
+-- the slots that a round polls, from the members
+abbrev pub listIn : List Member → ℕ → ℕ → ℕ → ℕ
+listIn ms used limit number =
+    maskWhere (λ i. hasBit used i && eqb (getD ms i noMember .via) 63 && (eqb (number % 4) 0 || ltb (getD ms i noMember .missed) limit))
+
+-- ---- an end at which nothing is said and nobody is moved
+
+-- a received list is due
+abbrev pub listDue : Round → Bool
+listDue r = not (eqb (r .number) 0) && not (eqb (r .rxsent) (r .number))
+
+-- what it would tell is noted
+abbrev pub tellIn : Bool → ℕ → ℕ → List Member → List Member
+tellIn due used i ms = set ms i (tellOf (due && hasBit used i) (getD ms i noMember))
+
+unfoldable pub toldIn : Bool → ℕ → List Member → List Member
+toldIn due used ms = fold (tellIn due used) 62 0 ms
+
+abbrev pub listRound : Round → Round
+listRound r = cond (listDue r) (withRxdirty (withRxsent r (r .number)) false) r
+
+-- a boat is to be promoted, has a hole in its messages, or is a leaf to be moved
+abbrev pub stirsAt : ℕ → Bool → Member → Member → Float → ℕ → Bool
+stirsAt used here m p floor limit =
+    isHeard (promotableAt here m floor) || (here && (holesOf (m .up) || (isLeaf m limit && isDown used m p limit)))
+
+abbrev pub stirsIn : List Member → ℕ → Settings → ℕ → Bool
+stirsIn ms used g i =
+    stirsAt used (hasBit used i) (getD ms i noMember) (getD ms (indexOf (getD ms i noMember .via)) noMember) (add binary32 (getD (g .thresholds) 0 nan) (g .margin)) (g .misslimit)
+
+-- no new list yet
+abbrev pub restsIn : Round → Float → Bool
+restsIn r now = not (r .traffic) && ltb 0 (r .number) && lt now (r .nextround)
 
 abbrev pub seldomOf : Act → Station → Float → Said
 seldomOf act.Wait s now = said s []
