@@ -8,6 +8,7 @@ ghost use Rattle.out.specs.Encode.{Wrote};
 ghost use Rattle.net.specs.Net.{Did};
 ghost use Rattle.bursts.specs.Bursts.{pollExtra, pollKind, pollLevel, pollBurst, floorIf, ackFrames, acksBurst, beaconLasts, firstMs, lenMs, namePayload, beaconPayload, beaconSize, withoutFound, beyond, windowEnd, beaconOf, tellOf, tellAll, rxListBurst};
 use bits::Found;
+use net::Round;
 use net::Settings;
 use net::Station;
 use roster::Member;
@@ -78,9 +79,9 @@ fn floor_if(strays: u64, lev: u32) -> u32
     if strays == 0 { lev } else { 0 }
 }
 
-// Slot assignments, and the relay of every leaf among them or moved.
-pub fn acks_burst(mut s: Station, o: &mut [u32], at: &mut usize) -> Station
-    ensures { λ r. ⌜ Did (acksBurst s) r (now (o .entry)) (now (at .entry)) (now (o .exit)) (now (at .exit)) ⌝ }
+// Slot assignments, and the relay of every leaf among them or moved, in words; the round behind them.
+pub fn acks_round(s: Station, o: &mut [u32], at: &mut usize) -> Round
+    ensures { λ r. ⌜ (r ≡ acksBurst s .station .round) × Wrote (now (o .entry)) (now (at .entry)) (acksBurst s .words) (now (o .exit)) (now (at .exit)) ⌝ }
 {
     let members = net::members(s.used);
     let known = bits::both(s.round.toack, members);
@@ -95,11 +96,21 @@ pub fn acks_burst(mut s: Station, o: &mut [u32], at: &mut usize) -> Station
     let a = out::put_head(o, *at, 0, 0, 0, lev);
     let b = out::put_chunks(o, a, wire::C_ACKS, &acks, n, 18);
     *at = out::put_chunks(o, b, wire::C_TREE, &tree, k, 20);
+    let mut r = s.round;
+    r.toack = 0;
+    r.treenews = 0;
+    r
+}
+
+// The acknowledgements are sent.
+pub fn acks_burst(mut s: Station, o: &mut [u32], at: &mut usize) -> Station
+    ensures { λ r. ⌜ Did (acksBurst s) r (now (o .entry)) (now (at .entry)) (now (o .exit)) (now (at .exit)) ⌝ }
+{
+    let r = acks_round(s, o, at);
+    s.round = r;
     let w = s.wait;
     let v = net::sending(w);
     s.wait = v;
-    s.round.toack = 0;
-    s.round.treenews = 0;
     s
 }
 
@@ -228,9 +239,10 @@ fn beyond_nine(mask: u64) -> u64
     m
 }
 
-// The beacon opens a check-in window. Those waiting for acknowledgement whom it does not list go on waiting.
-pub fn beacon(mut s: Station, time: f64, o: &mut [u32], at: &mut usize) -> Station
-    ensures { λ r. ⌜ Did (beaconOf s time) r (now (o .entry)) (now (at .entry)) (now (o .exit)) (now (at .exit)) ⌝ }
+// The beacon in words, and the round behind it: a check-in window opens, and those waiting for acknowledgement whom it does not list go on
+// waiting.
+pub fn beacon_round(s: Station, time: f64, o: &mut [u32], at: &mut usize) -> Round
+    ensures { λ r. ⌜ (r ≡ beaconOf s time .station .round) × Wrote (now (o .entry)) (now (at .entry)) (beaconOf s time .words) (now (o .exit)) (now (at .exit)) ⌝ }
 {
     let g = s.settings;
     let mut acks = [0u8; 744];
@@ -240,16 +252,11 @@ pub fn beacon(mut s: Station, time: f64, o: &mut [u32], at: &mut usize) -> Stati
     let a = out::put_head(o, *at, 0, 0, 0, g.beaconlevel as u32);
     let b = out::put_ctrl(o, a, &p, beacon_size(g));
     *at = put_acks(o, b, &acks, n);
-    let w = s.wait;
-    let v = net::sending(w);
-    s.wait = v;
-    let soon = time + g.beaconevery;
-    let end = window_end(g, time, more);
-    s.round.nextbeacon = soon;
-    s.round.windowend = end;
-    let waiting = beyond_nine(bits::both(s.round.toack, net::members(s.used)));
-    s.round.toack = waiting;
-    s
+    let mut r = s.round;
+    r.nextbeacon = time + g.beaconevery;
+    r.windowend = window_end(g, time, more);
+    r.toack = beyond_nine(bits::both(r.toack, net::members(s.used)));
+    r
 }
 
 // ---- rx_list_burst

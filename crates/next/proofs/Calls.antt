@@ -20,8 +20,9 @@ use Rattle.net.specs.declared.Round.{Round}
 use Rattle.net.specs.declared.Totals.{Totals}
 use Rattle.net.specs.declared.Wait.{Wait}
 use Rattle.net.specs.State.{indexOf, withMembers, withWait, withRound, withTotals, withList, withRxsent}
-use Rattle.net.specs.Net.{isMember, isIdle, Said, said, Did}
-use Rattle.bursts.specs.Bursts.{acksBurst, rxListBurst}
+use Rattle.net.specs.declared.Turn.the-variants.{Sending}
+use Rattle.net.specs.Net.{isMember, isIdle, waitOf, Said, said, Did}
+use Rattle.bursts.specs.Bursts.{acksBurst, beaconOf, rxListBurst}
 use Rattle.bursts.specs.Direct.{directedTo, directBurst, slotOr255}
 use Rattle.bursts.specs.Reroute.{rerouteOf}
 use Rattle.bursts.proofs.Directing.{directed-lt}
@@ -31,8 +32,8 @@ use Rattle.next.specs.declared.Act.{Act}
 use Rattle.next.specs.declared.Act.the-variants as act
 use Rattle.next.specs.declared.Late.{Late}
 use Rattle.next.specs.Next.{dueOf, drawn, ncsNext}
-use Rattle.next.specs.Code.Decision.{saidAfter, lateOf, lateWords, lateMember, lateSource, lateWait, lateTotals, lateRound, lateStation, lateSays, actIn, isSeldom, reroutedThen, reroutingOf, listThen, roundThen, seldomOf, frontOf, pollWait, pollTotals, pollList, pollSource, pollWords, pollIf, directTo, directIf, wordThen, nextStraight}
-use Rattle.next.proofs.Stages.{poll-is, next-is}
+use Rattle.next.specs.Code.Decision.{saidAfter, lateOf, lateWords, lateMember, lateSource, lateWait, lateTotals, lateRound, lateStation, lateSays, actIn, isSaid, isDraw, spokenOf, reroutedThen, reroutingOf, listThen, roundThen, endedOf, seldomOf, frontOf, pollWait, pollTotals, pollList, pollSource, pollWords, pollIf, directTo, directIf, wordThen, nextStraight}
+use Rattle.next.proofs.Stages.{said-nil, poll-is, next-is}
 
 -- nothing is written
 pub did-none : (s : Station) (l : List ℕ) (i : ℕ) → Did (said s []) s l i l i
@@ -92,12 +93,48 @@ module _ (s : Station) (now : Float) {t : Station} {l m : List ℕ} {i j : ℕ} 
 
 -- ### The decision
 
-pub not-seldom : (a : Act) (s : Station) (now : Float) → isSeldom a ≡ false → said s [] ≡ seldomOf a s now
-not-seldom act.Wait s now e = refl
-not-seldom act.Beacon s now e = cc
-not-seldom act.Acks s now e = cc
-not-seldom act.Draw s now e = cc
-not-seldom act.Poll s now e = refl
+pub not-said : (a : Act) (s : Station) (now : Float) → isSaid a ≡ false → said s [] ≡ spokenOf a s now
+not-said act.Wait s now e = refl
+not-said act.Beacon s now e = cc
+not-said act.Acks s now e = cc
+not-said act.Draw s now e = refl
+not-said act.Poll s now e = refl
+
+-- a burst to all: the station waits for the end of the sending
+pub spoken-did : (a : Act) (s : Station) (now : Float) {r : Round} {w : Wait} {l m : List ℕ} {i j : ℕ} → isSaid a ≡ true
+    → r ≡ spokenOf a s now .station .round → w ≡ waitOf Sending (s .wait .deadline) → Wrote l i (spokenOf a s now .words) m j
+    → Did (spokenOf a s now) (withRound (withWait s w) r) l i m j
+unfolding beaconOf acksBurst
+spoken-did act.Wait s now e f g h = record { station = cc; wrote = h }
+spoken-did act.Beacon s now e f g h = record { station = rw (f, g); wrote = h }
+spoken-did act.Acks s now e f g h = record { station = rw (f, g); wrote = h }
+spoken-did act.Draw s now e f g h = record { station = cc; wrote = h }
+spoken-did act.Poll s now e f g h = record { station = cc; wrote = h }
+
+pub not-draw : (a : Act) (s : Station) (now : Float) → isDraw a ≡ false → said s [] ≡ endedOf a s now
+not-draw act.Wait s now e = refl
+not-draw act.Beacon s now e = refl
+not-draw act.Acks s now e = refl
+not-draw act.Draw s now e = cc
+not-draw act.Poll s now e = refl
+
+pub is-draw : (a : Act) (s : Station) (now : Float) → isDraw a ≡ true → roundThen s now ≡ endedOf a s now
+is-draw act.Wait s now e = cc
+is-draw act.Beacon s now e = cc
+is-draw act.Acks s now e = cc
+is-draw act.Draw s now e = refl
+is-draw act.Poll s now e = cc
+
+seldom-is : (a : Act) (s : Station) (now : Float) → saidAfter (spokenOf a s now .words) (endedOf a (spokenOf a s now .station) now) ≡ seldomOf a s now
+seldom-is act.Wait s now = refl
+seldom-is act.Beacon s now = said-nil (beaconOf s now)
+seldom-is act.Acks s now = said-nil (acksBurst s)
+seldom-is act.Draw s now = refl
+seldom-is act.Poll s now = refl
+
+pub seldom-did : (a : Act) (s : Station) (now : Float) (t : Station) (m : List ℕ) (j : ℕ) {r : Station} {l n : List ℕ} {i k : ℕ}
+    → Did (spokenOf a s now) t l i m j → Did (endedOf a t now) r m j n k → Did (seldomOf a s now) r l i n k
+seldom-did a s now t m j p q = did-as (did-on (λ u. endedOf a u now) p q) (seldom-is a s now)
 
 -- no word is sent
 pub direct-none : (to : ℕ) (s : Station) (queue : List ℕ) → to ≡ 255 → said s [] ≡ directIf to s queue

@@ -75,7 +75,7 @@ poll-by s false may = refl
 pub poll-is : (s : Station) (a : Act) → pollSlot s (frontOf (s .wait) (s .round .list) a) ≡ pollIf a s
 poll-is s a = poll-by s (isIdle (s .wait .turn)) (mayPoll a)
 
-said-nil : (x : Said) → saidAfter (x .words) (said (x .station) []) ≡ x
+pub said-nil : (x : Said) → saidAfter (x .words) (said (x .station) []) ≡ x
 said-nil x = ap (said (x .station)) (append-nil (x .words))
 
 -- ### Word back, and then the poll

@@ -11,7 +11,7 @@ ghost use Rattle.net.specs.State.{withNumber};
 ghost use Rattle.net.specs.Net.{Did, said};
 ghost use Rattle.bursts.specs.Reroute.{sourceFor};
 ghost use Rattle.next.specs.Next.{overdueOf, dueBy, dueOf, drawn, ncsNext};
-ghost use Rattle.next.specs.Code.Decision.{noLate, lateReply, lateOf, lateWords, lateMember, lateSource, lateWait, lateTotals, closeRound, forwardTo, lateRound, actIn, isSeldom, reroutingOf, roundThen, seldomOf, listIn, listDue, toldIn, stirsAt, stirsIn, listRound, restsIn, mayPoll, frontOf, Ends, noneSeen, lookAt, toOf, asksFor, pollWait, pollTotals, pollList, pollWords};
+ghost use Rattle.next.specs.Code.Decision.{noLate, lateReply, lateOf, lateWords, lateMember, lateSource, lateWait, lateTotals, closeRound, forwardTo, lateRound, actIn, isSaid, isDraw, spokenOf, reroutingOf, roundThen, listIn, listDue, toldIn, stirsAt, stirsIn, listRound, restsIn, mayPoll, frontOf, Ends, noneSeen, lookAt, toOf, asksFor, pollWait, pollTotals, pollList, pollWords};
 use bits::Found;
 use bursts::direct;
 use bursts::reroute;
@@ -63,8 +63,14 @@ pub fn ncs_next(
     let r = late_round(q, l, g, time);
     s.round = r;
     let act = act_of(l.quiet, r, s.used, time);
-    if is_seldom(act) {
-        s = seldom(s, act, time, o, at);
+    if is_said(act) {
+        let said = spoken(s, act, time, o, at);
+        s.round = said;
+        let sends = net::sending(v);
+        s.wait = sends;
+    }
+    if is_draw(act) {
+        s = round_end(s, time, o, at);
     }
     let now = s.wait;
     let next = front(now, s.round.list, act);
@@ -351,28 +357,42 @@ fn act_of(quiet: bool, r: Round, used: u64, time: f64) -> Act
     Act::Draw
 }
 
-fn is_seldom(a: Act) -> bool
-    ensures { λ r. ⌜ r ≡ isSeldom a ⌝ }
+// A burst to all goes out: the beacon or the acknowledgements.
+fn is_said(a: Act) -> bool
+    ensures { λ r. ⌜ r ≡ isSaid a ⌝ }
 {
     match a {
         Act::Wait => false,
         Act::Beacon => true,
         Act::Acks => true,
+        Act::Draw => false,
+        Act::Poll => false,
+    }
+}
+
+fn is_draw(a: Act) -> bool
+    ensures { λ r. ⌜ r ≡ isDraw a ⌝ }
+{
+    match a {
+        Act::Wait => false,
+        Act::Beacon => false,
+        Act::Acks => false,
         Act::Draw => true,
         Act::Poll => false,
     }
 }
 
-// The stages that go over all members.
-fn seldom(s: Station, a: Act, time: f64, o: &mut [u32], at: &mut usize) -> Station
-    ensures { λ r. ⌜ Did (seldomOf a s time) r (now (o .entry)) (now (at .entry)) (now (o .exit)) (now (at .exit)) ⌝ }
+// The words of such a burst, and the round behind it.
+fn spoken(s: Station, a: Act, time: f64, o: &mut [u32], at: &mut usize) -> Round
+    ensures { λ r. ⌜ (r ≡ spokenOf a s time .station .round) × Wrote (now (o .entry)) (now (at .entry)) (spokenOf a s time .words) (now (o .exit)) (now (at .exit)) ⌝ }
 {
+    let r = s.round;
     match a {
-        Act::Wait => s,
-        Act::Beacon => bursts::beacon(s, time, o, at),
-        Act::Acks => bursts::acks_burst(s, o, at),
-        Act::Draw => round_end(s, time, o, at),
-        Act::Poll => s,
+        Act::Wait => r,
+        Act::Beacon => bursts::beacon_round(s, time, o, at),
+        Act::Acks => bursts::acks_round(s, o, at),
+        Act::Draw => r,
+        Act::Poll => r,
     }
 }
 

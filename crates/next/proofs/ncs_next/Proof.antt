@@ -1,4 +1,4 @@
--- The calls one after the other, put together by `next-said`: `j` is where the ways round `seldom` meet, `e` where those round word back do, `k` where those
+-- The calls one after the other, put together by `next-said`: `n` is where the ways round a burst to all meet, `j` where those round the end of a round do, `e` where those round word back do, `k` where those
 -- round the choice of a source do. Assumes nothing.
 use mathlib.Core.Path.{_≡_, sym, _∙_}
 use mathlib.Core.Logic.{⊎-elim}
@@ -10,7 +10,7 @@ use Rattle.net.proofs.Laws.{index-lt}
 use Rattle.bursts.proofs.Saying.{did-as}
 use Rattle.next.specs.Code.Decision.{pollSource, directIf}
 use Rattle.next.proofs.Looks.{Looking, looking-start, looking-turn, looked, to-is, slot-is, source-is}
-use Rattle.next.proofs.Calls.{did-none, not-seldom, direct-some, direct-none, direct-lt, poll-did, next-said}
+use Rattle.next.proofs.Calls.{did-none, not-said, spoken-did, not-draw, is-draw, seldom-did, laid, direct-some, direct-none, direct-lt, poll-did, next-said}
 use borrow.Author.Needs.{needs}
 use Rattle.next.proofs.ncs_next.Statement.{statement}
 use Rattle.next.proofs.ncs_next.Tie as tie
@@ -81,11 +81,20 @@ late-round-requires c κs = search needs
 act-of-requires : tie.Need-act-of-requires Inv-loop μ-loop
 act-of-requires c κs = search needs
 
-is-seldom-requires : tie.Need-is-seldom-requires Inv-loop μ-loop
-is-seldom-requires c κs = search needs
+is-said-requires : tie.Need-is-said-requires Inv-loop μ-loop
+is-said-requires c κs = search needs
 
-seldom-requires : tie.Need-seldom-requires Inv-loop μ-loop
-seldom-requires c κs = search needs
+spoken-requires : tie.Need-spoken-requires Inv-loop μ-loop
+spoken-requires c κs = search needs
+
+sending-requires : tie.Need-sending-requires Inv-loop μ-loop
+sending-requires c κs = search needs
+
+is-draw-requires : tie.Need-is-draw-requires Inv-loop μ-loop
+is-draw-requires c κs = search needs
+
+round-end-requires : tie.Need-round-end-requires Inv-loop μ-loop
+round-end-requires c κs = search needs
 
 front-requires : tie.Need-front-requires Inv-loop μ-loop
 front-requires c κs = search needs
@@ -135,7 +144,7 @@ direct-burst-requires c κs =
     let f = z .before in
     let j = f .before .before in
     let w = looked (z .end-of .ensures) (x .loop-test .left) (l .loop .inv) in
-    direct-lt (j .before .before .act-of .result) (j .if1 .s) (d .to-of .result) (rw (f .front .ensures) at (to-is w (d .to-of .ensures))) (c .before .before .if2 .taken)
+    direct-lt (j .before .before .before .before .act-of .result) (j .if2 .s) (d .to-of .result) (rw (f .front .ensures) at (to-is w (d .to-of .ensures))) (c .before .before .if3 .taken)
 
 unless-sent-requires : tie.Need-unless-sent-requires Inv-loop μ-loop
 unless-sent-requires c κs = search needs
@@ -188,28 +197,30 @@ returns c =
     let z = y .before .before in
     let f = z .before in
     let j = f .before .before in
-    let r = j .before .before .before in
+    let n = j .before .before in
+    let r = n .before .before .before in
     let v = r .before .before .before .before .before .before .before in
     let b = v .before .before .before .before .before in
     let p = b .before .before .before .before in
     let i = p .before .before .before .before .before in
     let a = i .before .before .before .before .before .before .before .before .args in
-    let t = j .if1 .s in
-    let act = j .before .before .act-of .result in
+    let st = laid (a .t1) (i .index .result) (b .before .late-member .result) (b .index2 .result) (v .before .late-source .result) (v .late-wait .result) (r .before .late-totals .result) (r .late-round .result) in
+    let t = j .if2 .s in
+    let act = n .before .before .act-of .result in
     let slot = un .unless-sent .result in
     let saw = looked (z .end-of .ensures) (x .loop-test .left) (y .loop .inv) in
     let to = to-is saw (d .to-of .ensures) in
-    let word : Did (directIf (d .to-of .result) t (a .queue .now)) (e .if2 .s) (j .if1 .o) (j .if1 .at) (e .if2 .o) (e .if2 .at) =
+    let word : Did (directIf (d .to-of .result) t (a .queue .now)) (e .if3 .s) (j .if2 .o) (j .if2 .at) (e .if3 .o) (e .if3 .at) =
     ⊎-elim
     (λ w. rw (w .8, w .6, w .7) (did-as (w .3 .ensures) (direct-some (d .to-of .result) t (a .queue .now) (w .0 .taken))))
     (λ w. rw (w .3, w .1, w .2) (did-as (did-none _ _ _) (direct-none (d .to-of .result) t (a .queue .now) (w .0 .left))))
-    (e .if2 .came) in
-    let at = slot-is act t (e .if2 .s) (a .queue .now) (f .front .result) (d .to-of .result) slot saw (f .front .ensures) (word .station) (un .unless-sent .ensures) in
-    let source : k .if3 .source ≡ pollSource (e .if2 .s) slot =
+    (e .if3 .came) in
+    let at = slot-is act t (e .if3 .s) (a .queue .now) (f .front .result) (d .to-of .result) slot saw (f .front .ensures) (word .station) (un .unless-sent .ensures) in
+    let source : k .if4 .source ≡ pollSource (e .if3 .s) slot =
     ⊎-elim
-    (λ w. source-is act t (e .if2 .s) (a .queue .now) (f .front .result) (d .to-of .result) slot saw (f .front .ensures) (word .station) (un .unless-sent .ensures) _ (sym (ask .asks .ensures) ∙ w .0 .taken) (w .2 ∙ w .1 .ensures))
-    (λ w. source-is act t (e .if2 .s) (a .queue .now) (f .front .result) (d .to-of .result) slot saw (f .front .ensures) (word .station) (un .unless-sent .ensures) _ (sym (ask .asks .ensures) ∙ w .0 .left) (w .1))
-    (k .if3 .came) in
+    (λ w. source-is act t (e .if3 .s) (a .queue .now) (f .front .result) (d .to-of .result) slot saw (f .front .ensures) (word .station) (un .unless-sent .ensures) _ (sym (ask .asks .ensures) ∙ w .0 .taken) (w .2 ∙ w .1 .ensures))
+    (λ w. source-is act t (e .if3 .s) (a .queue .now) (f .front .result) (d .to-of .result) slot saw (f .front .ensures) (word .station) (un .unless-sent .ensures) _ (sym (ask .asks .ensures) ∙ w .0 .left) (w .1))
+    (k .if4 .came) in
     next-said
     (a .t1)
     (a .ok)
@@ -225,24 +236,29 @@ returns c =
       wait = v .late-wait .ensures;
       totals = r .before .late-totals .ensures;
       round = r .late-round .ensures;
-      act = j .before .before .act-of .ensures;
+      act = n .before .before .act-of .ensures;
     })
     (a .queue .now)
     t
-    (j .if1 .o)
-    (j .if1 .at)
+    (j .if2 .o)
+    (j .if2 .at)
     (d .to-of .result)
-    (e .if2 .s)
-    (e .if2 .o)
-    (e .if2 .at)
+    (e .if3 .s)
+    (e .if3 .o)
+    (e .if3 .at)
     (p .put-late .ensures)
-    (poll-did act (e .if2 .s) at source (px .index3 .ensures) (ph .is-member2 .ensures) (pp .put-poll .ensures) (pw .poll-wait .ensures) (pt .poll-totals .ensures) (pl .poll-list .ensures))
+    (poll-did act (e .if3 .s) at source (px .index3 .ensures) (ph .is-member2 .ensures) (pp .put-poll .ensures) (pw .poll-wait .ensures) (pt .poll-totals .ensures) (pl .poll-list .ensures))
     (rw (f .front .ensures) at to)
     word
+    (seldom-did act st (a .time) (n .if1 .s) (n .if1 .o) (n .if1 .at)
     (⊎-elim
-    (λ w. rw (w .8, w .6, w .7) (w .3 .ensures))
-    (λ w. rw (w .3, w .1, w .2) (did-as (did-none _ _ _) (not-seldom act _ (a .time) (sym (j .before .is-seldom .ensures) ∙ w .0 .left))))
-    (j .if1 .came))
+    (λ w. rw (w .9, w .7, w .8) (spoken-did act st (a .time) (sym (n .before .is-said .ensures) ∙ w .0 .taken) (w .3 .ensures .0) (w .6 .ensures) (w .3 .ensures .1)))
+    (λ w. rw (w .3, w .1, w .2) (did-as (did-none _ _ _) (not-said act st (a .time) (sym (n .before .is-said .ensures) ∙ w .0 .left))))
+    (n .if1 .came))
+    (⊎-elim
+    (λ w. rw (w .8, w .6, w .7) (did-as (w .3 .ensures) (is-draw act (n .if1 .s) (a .time) (sym (j .before .is-draw .ensures) ∙ w .0 .taken))))
+    (λ w. rw (w .3, w .1, w .2) (did-as (did-none _ _ _) (not-draw act (n .if1 .s) (a .time) (sym (j .before .is-draw .ensures) ∙ w .0 .left))))
+    (j .if2 .came)))
 
 same-length : tie.Need-same-length Inv-loop μ-loop
 same-length c = wrote-length (returns c .wrote)
@@ -273,8 +289,11 @@ ncs-next-spec =
     late-totals-requires
     late-round-requires
     act-of-requires
-    is-seldom-requires
-    seldom-requires
+    is-said-requires
+    spoken-requires
+    sending-requires
+    is-draw-requires
+    round-end-requires
     front-requires
     end-of-requires
     none-seen-requires

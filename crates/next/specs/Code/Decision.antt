@@ -134,12 +134,27 @@ lateSays s l =
 abbrev pub actIn : Bool → Round → ℕ → Float → Act
 actIn quiet r used now = cond (quiet || lt now (r .windowend)) act.Wait (actOf r used now)
 
-abbrev pub isSeldom : Act → Bool
-isSeldom act.Wait = false
-isSeldom act.Beacon = true
-isSeldom act.Acks = true
-isSeldom act.Draw = true
-isSeldom act.Poll = false
+-- a burst to all goes out: the beacon or the acknowledgements
+abbrev pub isSaid : Act → Bool
+isSaid act.Wait = false
+isSaid act.Beacon = true
+isSaid act.Acks = true
+isSaid act.Draw = false
+isSaid act.Poll = false
+
+abbrev pub isDraw : Act → Bool
+isDraw act.Wait = false
+isDraw act.Beacon = false
+isDraw act.Acks = false
+isDraw act.Draw = true
+isDraw act.Poll = false
+
+abbrev pub spokenOf : Act → Station → Float → Said
+spokenOf act.Wait s now = said s []
+spokenOf act.Beacon s now = beaconOf s now
+spokenOf act.Acks s now = acksBurst s
+spokenOf act.Draw s now = said s []
+spokenOf act.Poll s now = said s []
 
 -- ---- the end of a round, before its poll
 
@@ -193,6 +208,14 @@ stirsIn ms used g i =
 abbrev pub restsIn : Round → Float → Bool
 restsIn r now = not (r .traffic) && ltb 0 (r .number) && lt now (r .nextround)
 
+abbrev pub endedOf : Act → Station → Float → Said
+endedOf act.Wait s now = said s []
+endedOf act.Beacon s now = said s []
+endedOf act.Acks s now = said s []
+endedOf act.Draw s now = roundThen s now
+endedOf act.Poll s now = said s []
+
+-- both
 abbrev pub seldomOf : Act → Station → Float → Said
 seldomOf act.Wait s now = said s []
 seldomOf act.Beacon s now = beaconOf s now
