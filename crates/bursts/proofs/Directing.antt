@@ -1,43 +1,31 @@
 -- To whom word goes, and its frames one after the other. Assumes nothing.
-use mathlib.Core.Path.{_≡_, refl, sym, ap, _∙_}
-use mathlib.Core.Bool.{Bool, true, false, not, cond, _&&_}
+use mathlib.Core.Path.{_≡_, refl, sym}
+use mathlib.Core.Bool.{Bool, true, false, cond}
 use mathlib.Core.List.{List, [], _++_}
 use Prim.Native.Nat.{ℕ, zero, suc, _+_, _-_, _%_, _≤_, _<_}
 use native.Mathlib.Omega.{arith}
-use lib.Dec.{eqb, ltb}
-use lib.ListN.{length, take, getD, replicate}
+use lib.Dec.{ltb}
+use lib.ListN.{take, replicate}
 use lib.Seq.{take-at}
 use borrow.Author.Tests.{lt-ltb, le-ltb, ltb-true, ltb-false}
 use Rattle.bits.specs.Loop.{first}
-use Rattle.bits.specs.Mask.{hasBit}
-use Rattle.bits.specs.declared.Found.{Found}
 use Rattle.bits.specs.declared.Found.the-variants as found
-use Rattle.bits.proofs.Lists.{cond-true, cond-false, and-true}
-use Rattle.bits.proofs.Loops.{first-found, first-lt}
+use Rattle.bits.proofs.Lists.{and-true}
+use Rattle.bits.proofs.Loops.{first-found}
 use Rattle.level.proofs.Levels.{levelFor-lt}
 use Rattle.words.specs.Words.{least}
 use Rattle.roster.specs.declared.Member.{Member}
 use Rattle.roster.specs.Members.{downOrUp}
-use Rattle.queue.specs.Queues.{emptyQueue, isDue, bytesFrom}
+use Rattle.queue.specs.Queues.{bytesFrom}
 use Rattle.queue.proofs.Laws.{length-bytes}
 use Rattle.net.specs.declared.Station.{Station}
 use Rattle.net.specs.declared.Settings.{Settings}
 use Rattle.net.specs.Net.{isMember, downLevel}
-use Rattle.net.proofs.Laws.{index-is, member-lt, member-is}
-use Rattle.bursts.specs.Rows.{seated, reachBy}
+use Rattle.net.proofs.Laws.{member-lt}
+use Rattle.bursts.specs.Rows.{reachBy}
 use Rattle.bursts.specs.Direct.{hasWord, leafOf, leafWord, directedTo, downFrame, downFrames, slotOr255}
 
 -- ### To whom
-
--- of a slot below 62, as the loop asks it
-pub leaf-is : (s : Station) (slot i : ℕ) → i < 62
-    → leafWord s slot i ≡ hasBit (s .used) i && isDue (getD (s .queues) i emptyQueue) (s .round .number) && eqb (seated s i .via) slot && not (eqb slot 63)
-leaf-is s slot i h = rw (member-is (s .used) i h, index-is i h) (by (hasBit (s .used) i) (isDue (getD (s .queues) i emptyQueue) (s .round .number)) (eqb (seated s i .via) slot) (not (eqb slot 63)))
-  where
-    by : (a b c d : Bool) → (a && b) && (c && d) ≡ ((a && b) && c) && d
-    by true true c d = refl
-    by true false c d = refl
-    by false b c d = refl
 
 word-member : (s : Station) (slot : ℕ) → hasWord s slot ≡ true → isMember (s .used) slot ≡ true
 word-member s slot e = and-true (isMember (s .used) slot) _ e .0

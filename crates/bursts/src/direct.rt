@@ -1,58 +1,13 @@
 // Word back to a boat (direct_burst and down_burst of ncs.rs; request U1), from the directed queue that is lent.
 ghost use mathlib.Core.Path.{_≡_};
 ghost use Prim.Native.Nat.{_%_, _<_, _≤_};
-ghost use Rattle.bits.specs.Loop.{first};
 ghost use Rattle.out.specs.Encode.{Wrote};
 ghost use Rattle.net.specs.Net.{Did};
-ghost use Rattle.bursts.specs.Direct.{leafWord, directedTo, roomAt, payloadAt, downFrame, downFrames, downBurst, directBurst, slotOr255};
+ghost use Rattle.bursts.specs.Direct.{roomAt, payloadAt, downFrame, downFrames, downBurst, directBurst};
 use net::Settings;
 use net::Station;
 use queue::Queue;
 use words::least;
-
-// ---- to whom
-
-fn low(i: usize) -> u8
-    ensures { λ r. ⌜ r ≡ i % 256 ⌝ }
-{
-    (i % 256) as u8
-}
-
-// The least slot of a boat relayed by `slot` with something to send; 255 for none.
-fn leaf_word(s: Station, slot: u8) -> u8
-    ensures { λ r. ⌜ r ≡ slotOr255 (first (leafWord s slot) 62 0) ⌝ }
-{
-    let ms = s.members;
-    let qs = s.queues;
-    let number = s.round.number;
-    let mut i: usize = 0;
-    while i < 62 {
-        let m = ms[i];
-        let q = qs[i];
-        let word = bits::has(s.used, i)
-            & queue::is_due(q, number)
-            & (m.via == slot)
-            & (slot != wire::ALL);
-        if word {
-            return low(i);
-        }
-        i += 1;
-    }
-    255
-}
-
-// To whom word goes before the poll of `slot`: itself, or the first boat relayed by it; 255 for none.
-pub fn directed_to(s: Station, slot: u8) -> u8
-    ensures { λ r. ⌜ r ≡ slotOr255 (directedTo s slot) ⌝ }
-{
-    let qs = s.queues;
-    let i = net::index(slot);
-    let q = qs[i];
-    if net::is_member(s.used, slot) & queue::is_due(q, s.round.number) {
-        return slot;
-    }
-    leaf_word(s, slot)
-}
 
 // ---- down_burst
 
