@@ -2,15 +2,13 @@
 ghost use mathlib.Core.Path.{_≡_};
 ghost use Prim.Native.Nat.{_+_, _%_};
 ghost use Rattle.out.specs.Encode.{Wrote};
-ghost use Rattle.net.specs.Net.{Did};
-ghost use Rattle.rx.specs.Ending.{isAside, isBusy, putOff, busyWait, goesOn, isReply, idleMember, replyMember, ackExtra, endSaid};
+ghost use Rattle.rx.specs.Ending.{isAside, isBusy, putOff, busyWait, goesOn, isReply, idleMember, replyMember, ackExtra};
 ghost use Rattle.rx.specs.Code.Ending.{noReply, awaits, awaitedOf, noEnding, idleEnding, replyEnding, endingBy, endMember, endRecent, endSource, endWait, endTotals, endLevel, endWords};
 use frames::Air;
 use frames::Rx;
 use level::Clock;
 use net::Reply;
 use net::Settings;
-use net::Station;
 use net::Totals;
 use net::Turn;
 use net::Wait;
@@ -35,35 +33,6 @@ pub fn busy_wait(w: Wait, h: Head, g: Settings, time: f64) -> Wait
     w
 }
 
-// The boat that the burst is from, the source whose traffic it was to forward, and the turn.
-pub fn finish(mut s: Station, x: Rx, h: Head, a: Air, o: &mut [u32], at: &mut usize) -> Station
-    ensures { λ r. ⌜ Did (endSaid a h s x) r (now (o .entry)) (x .at) (now (o .exit)) (now (at .exit)) ⌝ }
-{
-    let w = s.wait;
-    let g = s.settings;
-    let e = ending_of(w, x, h);
-    let here = net::is_member(s.used, e.slot);
-    let i = net::index(e.slot);
-    let m = s.members[i];
-    let k = end_member(m, e, here, h, a);
-    s.members[i] = k;
-    let y = s.recent[i];
-    let z = end_recent(y, e, here, a);
-    s.recent[i] = z;
-    *at = put_end(o, x.at, e, h, x.heard, ack_level(g, k, here));
-    let source = e.reply.relayfor;
-    let b = net::index(source);
-    let c = s.members[b];
-    let d = end_source(&s.hears, s.used, c, e, source);
-    s.members[b] = d;
-    let v = end_wait(w, e);
-    s.wait = v;
-    let t = s.totals;
-    let u = end_totals(t, e, g.misslimit <= m.missed, g.misslimit <= k.missed);
-    s.totals = u;
-    s
-}
-
 // The relay that was polled is busy with its leaves: an aside burst, K_SUBPOLL or K_SUBACK.
 fn is_busy(h: Head) -> bool
     ensures { λ r. ⌜ r ≡ isBusy h ⌝ }
@@ -84,7 +53,7 @@ fn put_off(w: Wait, at: f64) -> Wait
 
 // What a burst is at its end. kind 1: K_IDLE, 2: the reply to a poll, 0: neither; slot: the boat it is from; over: the turn that `reply`
 // waited in ends; more: it goes on.
-struct Ending {
+pub struct Ending {
     pub kind: u8,
     pub slot: u8,
     pub over: bool,
@@ -129,7 +98,7 @@ fn no_reply() -> Reply
     }
 }
 
-fn ending_of(w: Wait, x: Rx, h: Head) -> Ending
+pub fn ending_of(w: Wait, x: Rx, h: Head) -> Ending
     ensures { λ r. ⌜ r ≡ endingBy (awaitedOf (w .turn)) (x .sender) (x .more) h ⌝ }
 {
     let a = awaited_by(w);
@@ -201,7 +170,7 @@ fn no_ending() -> Ending
     }
 }
 
-fn end_member(m: Member, e: Ending, here: bool, h: Head, a: Air) -> Member
+pub fn end_member(m: Member, e: Ending, here: bool, h: Head, a: Air) -> Member
     ensures { λ r. ⌜ r ≡ endMember m e here h a ⌝ }
 {
     if (e.kind == 0) | !here {
@@ -214,7 +183,7 @@ fn end_member(m: Member, e: Ending, here: bool, h: Head, a: Air) -> Member
 }
 
 // The burst's own level is one more reading of the boat that it is from.
-fn end_recent(r: Recent, e: Ending, here: bool, a: Air) -> Recent
+pub fn end_recent(r: Recent, e: Ending, here: bool, a: Air) -> Recent
     ensures { λ k. ⌜ k ≡ endRecent r e here a ⌝ }
 {
     if (e.kind == 0) | !here {
@@ -258,7 +227,7 @@ fn low6(x: u32) -> u8
 }
 
 // turn_over, where the turn ends and was to forward a member's traffic.
-fn end_source(hears: &[u8; 3844], used: u64, m: Member, e: Ending, source: u8) -> Member
+pub fn end_source(hears: &[u8; 3844], used: u64, m: Member, e: Ending, source: u8) -> Member
     ensures { λ r. ⌜ r ≡ endSource (now (hears .entry)) used m e source ⌝ }
 {
     if e.over & net::is_member(used, source) {
@@ -268,7 +237,7 @@ fn end_source(hears: &[u8; 3844], used: u64, m: Member, e: Ending, source: u8) -
 }
 
 // More is pending and the turn has bursts left: polled again with the acknowledgement. Otherwise the turn ends with it.
-fn end_wait(w: Wait, e: Ending) -> Wait
+pub fn end_wait(w: Wait, e: Ending) -> Wait
     ensures { λ r. ⌜ r ≡ endWait w e ⌝ }
 {
     let r = e.reply;
@@ -293,7 +262,7 @@ fn end_wait(w: Wait, e: Ending) -> Wait
     w
 }
 
-fn end_totals(t: Totals, e: Ending, before: bool, after: bool) -> Totals
+pub fn end_totals(t: Totals, e: Ending, before: bool, after: bool) -> Totals
     ensures { λ r. ⌜ r ≡ endTotals t e before after ⌝ }
 {
     let mut k = t;
@@ -305,7 +274,7 @@ fn end_totals(t: Totals, e: Ending, before: bool, after: bool) -> Totals
 }
 
 // K_POLLACK where the turn goes on, else K_ACK, after the events.
-fn put_end(o: &mut [u32], at: usize, e: Ending, h: Head, heard: u64, lev: u32) -> usize
+pub fn put_end(o: &mut [u32], at: usize, e: Ending, h: Head, heard: u64, lev: u32) -> usize
     ensures { λ r. ⌜ Wrote (now (o .entry)) at (endWords e h heard lev) (now (o .exit)) r ⌝ }
 {
     if e.kind != 2 {
@@ -315,7 +284,7 @@ fn put_end(o: &mut [u32], at: usize, e: Ending, h: Head, heard: u64, lev: u32) -
     out::put_tiny(o, at, kind, ack_extra(e.slot, h.hi, heard), lev)
 }
 
-fn ack_level(g: Settings, m: Member, here: bool) -> u32
+pub fn ack_level(g: Settings, m: Member, here: bool) -> u32
     ensures { λ r. ⌜ r ≡ endLevel g m here ⌝ }
 {
     if here {

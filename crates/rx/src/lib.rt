@@ -140,7 +140,30 @@ fn read_burst(
         x = frames::next_frame(x, f);
     }
     *mask = x.unkept;
-    ending::finish(s, x, h, a, o, at)
+    // The end: the boat that the burst is from, the source whose traffic it was to forward, and the turn.
+    let w = s.wait;
+    let g = s.settings;
+    let e = ending::ending_of(w, x, h);
+    let here = net::is_member(s.used, e.slot);
+    let i = net::index(e.slot);
+    let m = s.members[i];
+    let k = ending::end_member(m, e, here, h, a);
+    s.members[i] = k;
+    let y = s.recent[i];
+    let z = ending::end_recent(y, e, here, a);
+    s.recent[i] = z;
+    *at = ending::put_end(o, x.at, e, h, x.heard, ending::ack_level(g, k, here));
+    let source = e.reply.relayfor;
+    let b = net::index(source);
+    let c = s.members[b];
+    let d = ending::end_source(&s.hears, s.used, c, e, source);
+    s.members[b] = d;
+    let v = ending::end_wait(w, e);
+    s.wait = v;
+    let t = s.totals;
+    let u = ending::end_totals(t, e, g.misslimit <= m.missed, g.misslimit <= k.missed);
+    s.totals = u;
+    s
 }
 
 // The head; of a refused burst that of a tiny one that says nothing.

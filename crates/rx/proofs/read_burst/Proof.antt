@@ -9,6 +9,7 @@ use native.Mathlib.Omega.{arith}
 use Prim.Native.Nat.{_-_}
 use borrow.Author.Needs.{needs}
 use Rattle.net.proofs.Laws.{index-lt}
+use Rattle.rx.proofs.Endings.{finished}
 use Rattle.rx.proofs.Turns.{Going, going-start, fits, fewer, read-done}
 use Rattle.rx.proofs.Each.{cell-lt, room-now, turn-piece, Went, went-said, went-none, went-report}
 use Rattle.rx.proofs.read_burst.Statement.{statement}
@@ -234,17 +235,89 @@ loop-less-2 c = fewer (ap (λ (k : Rx). k .frame) (c .next-frame2 .ensures) ∙ 
 loop-again-2 : tie.Need-loop-again-2 Inv-loop μ-loop
 loop-again-2 c = went (c .before) .on (c .next-frame2 .ensures)
 
-finish-requires : tie.Need-finish-requires Inv-loop μ-loop
-finish-requires c κs = search needs
+ending-of-requires : tie.Need-ending-of-requires Inv-loop μ-loop
+ending-of-requires c κs = search needs
+
+is-member-requires-3 : tie.Need-is-member-requires-3 Inv-loop μ-loop
+is-member-requires-3 c κs = search needs
+
+index-requires-3 : tie.Need-index-requires-3 Inv-loop μ-loop
+index-requires-3 c κs = search needs
+
+mul-m-3 : tie.Need-mul-m-3 Inv-loop μ-loop
+mul-m-3 c = omega (arith, rw (← c .index3 .ensures) at (index-lt (c .before .before .ending-of .result .slot)))
+
+element-copy-out-m-3 : tie.Need-element-copy-out-m-3 Inv-loop μ-loop
+element-copy-out-m-3 c = omega (arith, rw (← c .index3 .ensures) at (index-lt (c .before .before .ending-of .result .slot)))
+
+end-member-requires : tie.Need-end-member-requires Inv-loop μ-loop
+end-member-requires c κs = search needs
+
+mul-k-3 : tie.Need-mul-k-3 Inv-loop μ-loop
+mul-k-3 c = omega (arith, rw (← c .before .before .index3 .ensures) at (index-lt (c .before .before .before .before .ending-of .result .slot)))
+
+element-set-from-k-3 : tie.Need-element-set-from-k-3 Inv-loop μ-loop
+element-set-from-k-3 c = omega (arith, rw (← c .before .before .index3 .ensures) at (index-lt (c .before .before .before .before .ending-of .result .slot)))
+
+mul-y : tie.Need-mul-y Inv-loop μ-loop
+mul-y c = omega (arith, rw (← c .before .before .index3 .ensures) at (index-lt (c .before .before .before .before .ending-of .result .slot)))
+
+element-copy-out-y : tie.Need-element-copy-out-y Inv-loop μ-loop
+element-copy-out-y c = omega (arith, rw (← c .before .before .index3 .ensures) at (index-lt (c .before .before .before .before .ending-of .result .slot)))
+
+end-recent-requires : tie.Need-end-recent-requires Inv-loop μ-loop
+end-recent-requires c κs = search needs
+
+mul-z : tie.Need-mul-z Inv-loop μ-loop
+mul-z c = omega (arith, rw (← c .before .before .before .before .index3 .ensures) at (index-lt (c .before .before .before .before .before .before .ending-of .result .slot)))
+
+element-set-from-z : tie.Need-element-set-from-z Inv-loop μ-loop
+element-set-from-z c = omega (arith, rw (← c .before .before .before .before .index3 .ensures) at (index-lt (c .before .before .before .before .before .before .ending-of .result .slot)))
+
+ack-level-requires : tie.Need-ack-level-requires Inv-loop μ-loop
+ack-level-requires c κs = search needs
+
+put-end-requires : tie.Need-put-end-requires Inv-loop μ-loop
+put-end-requires c κs = search needs
+
+index-requires-4 : tie.Need-index-requires-4 Inv-loop μ-loop
+index-requires-4 c κs = search needs
+
+mul-c : tie.Need-mul-c Inv-loop μ-loop
+mul-c c = omega (arith, rw (← c .index4 .ensures) at (index-lt (c .before .before .before .before .before .before .before .before .before .before .before .before .ending-of .result .reply .relayfor)))
+
+element-copy-out-c : tie.Need-element-copy-out-c Inv-loop μ-loop
+element-copy-out-c c = omega (arith, rw (← c .index4 .ensures) at (index-lt (c .before .before .before .before .before .before .before .before .before .before .before .before .ending-of .result .reply .relayfor)))
+
+end-source-requires : tie.Need-end-source-requires Inv-loop μ-loop
+end-source-requires c κs = search needs
+
+mul-d-2 : tie.Need-mul-d-2 Inv-loop μ-loop
+mul-d-2 c = omega (arith, rw (← c .before .before .before .before .index4 .ensures) at (index-lt (c .before .before .before .before .before .before .before .before .before .before .before .before .before .before .before .before .ending-of .result .reply .relayfor)))
+
+element-set-from-d-2 : tie.Need-element-set-from-d-2 Inv-loop μ-loop
+element-set-from-d-2 c = omega (arith, rw (← c .before .before .before .before .index4 .ensures) at (index-lt (c .before .before .before .before .before .before .before .before .before .before .before .before .before .before .before .before .ending-of .result .reply .relayfor)))
+
+end-wait-requires : tie.Need-end-wait-requires Inv-loop μ-loop
+end-wait-requires c κs = search needs
+
+end-totals-requires : tie.Need-end-totals-requires Inv-loop μ-loop
+end-totals-requires c κs = search needs
 
 same-length : tie.Need-same-length Inv-loop μ-loop
-same-length c = c .before .before .before .before .before .before .before .loop .inv .size
+same-length c = c .before .before .before .before .before .before .before .before .before .before .before .before .before .before .before .before .before .before .before .before .before .before .before .before .before .before .before .before .loop .inv .size
 
 same-length-2 : tie.Need-same-length-2 Inv-loop μ-loop
-same-length-2 c = wrote-length (c .before .before .finish .ensures .wrote) ∙ wrote-length (c .before .before .before .before .before .before .before .loop .inv .wrote)
+same-length-2 c = wrote-length (c .before .before .before .before .before .before .before .before .before .before .before .before .before .before .put-end .ensures) ∙ wrote-length (c .before .before .before .before .before .before .before .before .before .before .before .before .before .before .before .before .before .before .before .before .before .before .before .before .before .before .before .before .loop .inv .wrote)
 
 returns : tie.Need-returns Inv-loop μ-loop
-returns c = read-done (c .before .before .before .before .before .before .before .loop .inv) (c .before .before .before .before .before .before .before .before .before .before .before .before .args .h) (c .before .before .before .before .before .if1 .left) (c .before .before .finish .ensures)
+returns c =
+    let p = c .before .before .before .before .before .before .before .before .before .before .before .before .before .before .before .before .before .before .before .before .before .before .before .before .before .before .before .before .before .before .before .before .before .args in
+    let l = c .before .before .before .before .before .before .before .before .before .before .before .before .before .before .before .before .before .before .before .before .before .before .before .before .before .before .before .before .loop in
+    read-done (l .inv) (p .h) (c .before .before .before .before .before .before .before .before .before .before .before .before .before .before .before .before .before .before .before .before .before .before .before .before .before .before .if1 .left)
+    (finished (p .a) (p .h) (l .s) (l .x) _ _ _ _ _ _ _ _ _ _ _ _ _ (c .before .before .before .before .before .before .before .before .before .before .before .before .before .before .before .before .before .before .before .before .before .before .before .ending-of .ensures) (c .before .before .before .before .before .before .before .before .before .before .before .before .before .before .before .before .before .before .before .before .before .before .is-member3 .ensures) (c .before .before .before .before .before .before .before .before .before .before .before .before .before .before .before .before .before .before .before .before .before .index3 .ensures)
+    (c .before .before .before .before .before .before .before .before .before .before .before .before .before .before .before .before .before .before .before .end-member .ensures) (c .before .before .before .before .before .before .before .before .before .before .before .before .before .before .before .before .before .end-recent .ensures) (c .before .before .before .before .before .before .before .before .before .before .before .before .before .before .before .ack-level .ensures) (c .before .before .before .before .before .before .before .before .before .before .before .before .before .before .put-end .ensures) (c .before .before .before .before .before .before .before .before .before .before .before .index4 .ensures) (c .before .before .before .before .before .before .before .end-source .ensures) (c .before .before .before .before .before .before .end-wait .ensures)
+    (c .end-totals .ensures))
 
 pub read-burst-spec : {M : Type 1} → statement M
 read-burst-spec =
@@ -310,7 +383,29 @@ read-burst-spec =
     next-frame-requires-2
     loop-less-2
     loop-again-2
-    finish-requires
+    ending-of-requires
+    is-member-requires-3
+    index-requires-3
+    mul-m-3
+    element-copy-out-m-3
+    end-member-requires
+    mul-k-3
+    element-set-from-k-3
+    mul-y
+    element-copy-out-y
+    end-recent-requires
+    mul-z
+    element-set-from-z
+    ack-level-requires
+    put-end-requires
+    index-requires-4
+    mul-c
+    element-copy-out-c
+    end-source-requires
+    mul-d-2
+    element-set-from-d-2
+    end-wait-requires
+    end-totals-requires
     same-length
     same-length-2
     returns)
