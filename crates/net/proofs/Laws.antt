@@ -6,14 +6,20 @@ use Prim.Native.Nat.{ℕ, _<_, _≤_}
 use native.Mathlib.Omega.{arith}
 use lib.Dec.{ltb}
 use lib.ListN.{length}
+use lib.Ieee.{Float}
 use lib.Seq.{set-getD, getD-set-same, set-set}
 use borrow.Author.Tests.{lt-ltb, le-ltb, ltb-true}
 use Rattle.bits.specs.Mask.{hasBit}
 use Rattle.bits.proofs.Lists.{and-true}
 use Rattle.roster.specs.declared.Member.{Member}
 use Rattle.net.specs.declared.Station.{Station}
+use Rattle.net.specs.declared.Settings.{Settings}
+use Rattle.net.specs.declared.Turn.{Turn}
+use Rattle.net.specs.declared.Turn.the-variants.{Idle, Sending, Waiting}
+use Rattle.net.specs.declared.Wait.{Wait}
 use Rattle.net.specs.State.{indexOf, memberAt, withMember, withMembers, queueAt, withQueue, withQueues, tableOf, withTable}
-use Rattle.net.specs.Net.{isMember}
+use Rattle.net.specs.Net.{isMember, doneBy}
+use Rattle.net.specs.Code.Done.{isSure, doneFor}
 
 -- ### Slots
 
@@ -70,3 +76,11 @@ queue-again s slot = ap (withQueues s) (set-getD (s .queues) (indexOf slot) _)
 -- the station's own table, put back
 pub table-again : (s : Station) → withTable s (tableOf s) ≡ s
 table-again s = refl
+
+-- ### The end of a sending
+
+-- of the boat only one truth value is read
+pub done-is : (v : Turn) (w : Wait) (g : Settings) (here : Bool) (m : Member) (t : Float) → doneFor v w g (isSure here m) t ≡ doneBy v w g here m t
+done-is Idle w g here m t = refl
+done-is Sending w g here m t = refl
+done-is (Waiting r) w g here m t = refl

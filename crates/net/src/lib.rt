@@ -2,7 +2,8 @@
 ghost use mathlib.Core.Path.{_≡_};
 ghost use mathlib.Core.Bool.{cond};
 ghost use Rattle.net.specs.State.{indexOf, memberAt};
-ghost use Rattle.net.specs.Net.{isMember, membersIn, firstRound, noTotals, newStation, waitOf, idleWait, isIdle, polledBy, deadlineOf, doneBy, onTxDone, levelIn, downLevel, slotLen, leafWait};
+ghost use Rattle.net.specs.Code.Done.{isSure, deadlineFor, doneFor};
+ghost use Rattle.net.specs.Net.{isMember, membersIn, firstRound, noTotals, newStation, waitOf, idleWait, isIdle, polledBy, onTxDone, levelIn, downLevel, slotLen, leafWait};
 use inbox::cell::Cell;
 use level::Clock;
 use level::Level;
@@ -268,23 +269,33 @@ pub fn member_at(s: Station, slot: u8) -> Member
 
 // ---- on_tx_done
 
-// A boat that is unheard, or missed its poll, may still be answering: a whole burst is waited out.
-fn deadline_of(g: Settings, m: Member, here: bool, t: f64) -> Clock
-    ensures { λ r. ⌜ r ≡ deadlineOf g here m t ⌝ }
+// The slot has a member that is heard and answered its last poll. Of a slot without one no member is read.
+fn is_sure(s: Station, slot: u8) -> bool
+    ensures { λ r. ⌜ r ≡ isSure (isMember (s .used) slot) (memberAt s slot) ⌝ }
 {
+    if !is_member(s.used, slot) {
+        return false;
+    }
+    let m = member_at(s, slot);
     let snrup = m.snrup;
-    let sure = here & level::is_heard(snrup) & (m.missed == 0);
+    level::is_heard(snrup) & (m.missed == 0)
+}
+
+// A boat that is unheard, or missed its poll, may still be answering: a whole burst is waited out.
+fn deadline_of(g: Settings, sure: bool, t: f64) -> Clock
+    ensures { λ r. ⌜ r ≡ deadlineFor g sure t ⌝ }
+{
     let reply = if sure { g.detect } else { g.maxburst };
     Clock::At(t + g.turnaround + reply + g.replyslack)
 }
 
-fn done_wait(w: Wait, g: Settings, m: Member, here: bool, t: f64) -> Wait
-    ensures { λ r. ⌜ r ≡ doneBy (w .turn) w g here m t ⌝ }
+fn done_wait(w: Wait, g: Settings, sure: bool, t: f64) -> Wait
+    ensures { λ r. ⌜ r ≡ doneFor (w .turn) w g sure t ⌝ }
 {
     let turn = w.turn;
     let deadline = w.deadline;
     match turn {
-        Turn::Waiting(r) => waiting(r, deadline_of(g, m, here, t)),
+        Turn::Waiting(r) => waiting(r, deadline_of(g, sure, t)),
         Turn::Sending => Wait {
             turn: Turn::Idle,
             deadline: deadline,
@@ -299,9 +310,7 @@ pub fn on_tx_done(mut s: Station, ok: bool, t: f64) -> Station
 {
     let w = s.wait;
     let g = s.settings;
-    let slot = polled_slot(w);
-    let m = member_at(s, slot);
-    let v = done_wait(w, g, m, is_member(s.used, slot), t);
+    let v = done_wait(w, g, is_sure(s, polled_slot(w)), t);
     let wait = wait_if(ok, v, w);
     s.wait = wait;
     let txat = if ok { t } else { s.round.txat };
