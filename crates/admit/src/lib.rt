@@ -1,12 +1,20 @@
 // Admission (admit of ncs.rs): a known boat keeps its slot, an unknown one takes the lowest free slot.
 ghost use mathlib.Core.Path.{_≡_};
+ghost use mathlib.Core.Bool.{cond};
+ghost use mathlib.Core.List.{[]};
 ghost use Prim.Native.Nat.{_%_};
 ghost use Rattle.out.specs.Encode.{Wrote};
-ghost use Rattle.net.specs.State.{alsoAck, indexOf};
-ghost use Rattle.net.specs.Net.{Did};
-ghost use Rattle.admit.specs.Admission.{findCall, seatOf, isFull, slotOf, admitEvents, enterAt, admitBy, leadsTo, viaFor};
+ghost use Rattle.bits.specs.Mask.{withBit};
+ghost use Rattle.recent.specs.Readings.{empty};
+ghost use Rattle.queue.specs.Queues.{emptyQueue};
+ghost use Rattle.roster.specs.Members.{newMember};
+ghost use Rattle.admit.specs.Admission.{findCall, seatOf, isFull, slotOf, admitEvents, leadsTo, viaFor};
+ghost use Rattle.admit.specs.Code.Seats.{isFree};
 use bits::Found;
 use net::Station;
+use queue::Queue;
+use recent::Recent;
+use roster::Member;
 
 // Where a boat with some call sits, or would sit.
 pub enum Seat {
@@ -60,6 +68,17 @@ pub fn is_full(seat: Seat) -> bool
     }
 }
 
+// A newcomer's seat.
+pub fn is_free(seat: Seat) -> bool
+    ensures { λ r. ⌜ r ≡ isFree seat ⌝ }
+{
+    match seat {
+        Seat::Known(_) => false,
+        Seat::Free(_) => true,
+        Seat::Full => false,
+    }
+}
+
 // The slot of a seat; 255 for none.
 pub fn slot_of(seat: Seat) -> u8
     ensures { λ r. ⌜ r ≡ slotOf seat ⌝ }
@@ -83,51 +102,50 @@ fn admit_events(o: &mut [u32], at: usize, slot: u8, via: u8) -> usize
     out::put_event(o, next, 1, slot as usize, via)
 }
 
-// The boat enters at a free slot.
-fn enter(mut s: Station, slot: u8, call: [u8; 7], via: u8, time: f64) -> Station
-    ensures { λ r. ⌜ r ≡ enterAt s slot call via time ⌝ }
-{
-    let i = net::index(slot);
-    let m = roster::new_member(call, via, time);
-    s.members[i] = m;
-    let none = recent::empty();
-    s.recent[i] = none;
-    let q = queue::empty();
-    s.queues[i] = q;
-    s.used = bits::with(s.used, i);
-    let acks = bits::with(s.round.toack, i);
-    s.round.toack = acks;
-    s
-}
+// ---- what a boat at its seat changes, part by part: the functions that hold the station store it
 
-fn known(mut s: Station, slot: u8) -> Station
-    ensures { λ r. ⌜ r ≡ alsoAck s (indexOf slot) ⌝ }
+pub fn events_if(o: &mut [u32], at: usize, fresh: bool, slot: u8, via: u8) -> usize
+    ensures { λ r. ⌜ Wrote (now (o .entry)) at (cond fresh (admitEvents slot via) []) (now (o .exit)) r ⌝ }
 {
-    let acks = bits::with(s.round.toack, net::index(slot));
-    s.round.toack = acks;
-    s
-}
-
-// The boat takes its seat; via is the relay of a newcomer, 63 for none.
-pub fn admit(
-    s: Station,
-    seat: Seat,
-    call: [u8; 7],
-    via: u8,
-    time: f64,
-    o: &mut [u32],
-    at: &mut usize,
-) -> Station
-    ensures { λ r. ⌜ Did (admitBy seat s call via time) r (now (o .entry)) (now (at .entry)) (now (o .exit)) (now (at .exit)) ⌝ }
-{
-    match seat {
-        Seat::Known(i) => known(s, i),
-        Seat::Free(i) => {
-            *at = admit_events(o, *at, i, via);
-            enter(s, i, call, via, time)
-        }
-        Seat::Full => s,
+    if fresh {
+        return admit_events(o, at, slot, via);
     }
+    at
+}
+
+// The member in its slot; via is the relay of a newcomer, 63 for none.
+pub fn member_if(m: Member, fresh: bool, call: [u8; 7], via: u8, time: f64) -> Member
+    ensures { λ r. ⌜ r ≡ cond fresh (newMember call via time) m ⌝ }
+{
+    if fresh {
+        return roster::new_member(call, via, time);
+    }
+    m
+}
+
+pub fn recent_if(r: Recent, fresh: bool) -> Recent
+    ensures { λ k. ⌜ k ≡ cond fresh empty r ⌝ }
+{
+    if fresh {
+        return recent::empty();
+    }
+    r
+}
+
+pub fn queue_if(q: Queue, fresh: bool) -> Queue
+    ensures { λ r. ⌜ r ≡ cond fresh emptyQueue q ⌝ }
+{
+    if fresh {
+        return queue::empty();
+    }
+    q
+}
+
+// The boats in use, and those to be acknowledged.
+pub fn with_if(mask: u64, yes: bool, i: usize) -> u64
+    ensures { λ r. ⌜ r ≡ cond yes (withBit mask i) mask ⌝ }
+{
+    if yes { bits::with(mask, i) } else { mask }
 }
 
 // Whether the relays from slot `from` on lead to slot `to`.
@@ -156,6 +174,9 @@ fn leads_to(s: Station, from: u8, to: u8) -> bool
 pub fn via_for(s: Station, seat: Seat, via: u8) -> u8
     ensures { λ r. ⌜ r ≡ viaFor s seat via ⌝ }
 {
+    if via == wire::ALL {
+        return via;
+    }
     if leads_to(s, via, slot_of(seat)) {
         wire::ALL
     } else {

@@ -1,33 +1,40 @@
 -- The entries of a control frame, one after the other: a loop over them, and what each leaves of the station and the output. Assumes nothing.
 use mathlib.Core.Path.{_≡_, refl, sym, ap, ap₂, _∙_, subst}
-use mathlib.Core.Bool.{Bool, true, false, cond}
-use mathlib.Core.List.{List, [], _++_, append-nil}
+use mathlib.Core.Bool.{Bool, true, false, not, cond, _&&_}
+use mathlib.Core.List.{List, [], _∷_, _++_, append-nil}
 use Prim.Native.Nat.{ℕ, zero, suc, _+_, _*_, _<_, _≤_}
 use native.Mathlib.Omega.{arith}
 use native.Mathlib.Nat.{suc-mul, zero-mul, min-le-left}
 use lib.Dec.{ltb}
 use lib.ListN.{length, getD, set, take, length-take, List·getD-eq-default}
 use lib.Seq.{set-getD}
-use borrow.Author.Tests.{le-leb, lt-leb, eq-eqb, ne-eqb}
+use borrow.Author.Tests.{le-leb, lt-leb, ne-eqb}
+use Rattle.bits.specs.Mask.{withBit}
 use Rattle.words.specs.Words.{payload, unpack}
 use Rattle.out.specs.Encode.{Wrote}
 use Rattle.out.proofs.Laws.{then, wrote-none, wrote-as}
 use Rattle.net.specs.declared.Station.{Station}
-use Rattle.net.specs.State.{indexOf, memberAt, withCounted, withMembers, withHears, withTotals, withSilent, withRecent, recentAt}
+use Rattle.net.specs.State.{indexOf, memberAt, withMember, withCounted, withMembers, withHears, withTotals, withSilent, withRecent, recentAt}
 use Rattle.net.specs.Net.{Said, said, Did, isMember}
 use Rattle.net.proofs.Laws.{member-again}
 use Rattle.recent.specs.declared.Recent.{Recent}
-use Rattle.recent.specs.Readings.{noRecent, noted}
+use Rattle.recent.specs.Readings.{noRecent, empty, noted}
+use Rattle.queue.specs.declared.Queue.{Queue}
+use Rattle.queue.specs.Queues.{emptyQueue}
 use Rattle.roster.specs.declared.Member.{Member}
-use Rattle.roster.specs.Members.{noMember, withCaps, withVersion, receivedAt, silentAt, tally}
+use Rattle.roster.specs.Members.{noMember, newMember, withCaps, withVersion, receivedAt, silentAt, tally}
 use Rattle.roster.proofs.Silent.{tally-same}
 use Rattle.level.specs.declared.Level.{Level}
 use Rattle.wire.specs.Fields.{snrFromQ}
-use Rattle.admit.specs.Admission.{seatOf, slotOf, admitBy}
+use Rattle.admit.specs.Admission.{seatOf, slotOf, isFull, admitEvents, enterAt, admitBy}
+use Rattle.admit.specs.Code.Seats.{isFree, storedAt}
+use Rattle.admit.proofs.Laws.{known-lt, seat-lt}
+use Rattle.admit.proofs.Seats.{seat-words}
 use Rattle.admit.specs.declared.Seat.{Seat}
 use Rattle.admit.specs.declared.Seat.the-variants.{Known, Free, Full}
 use Rattle.frames.specs.declared.Air.{Air}
-use Rattle.frames.specs.Control.{eachEntry, callAt, checkinMember, withActive, checkinFrame, hearing, hearPair, newcomer, overheardBy, overheardEntry, kidOf, isKid, kidMember, kidRecent, kidEvents, kidEntry}
+use Rattle.frames.specs.Code.Control.{relayBy}
+use Rattle.frames.specs.Control.{eachEntry, callAt, checkinMember, withActive, seatedIn, checkinFrame, hearing, hearPair, newcomer, relayOf, overheardBy, overheardEntry, kidOf, isKid, kidMember, kidRecent, kidEvents, kidEntry}
 
 -- ### A loop over entries
 
@@ -92,21 +99,65 @@ checkin-is a len p m h c r down b6 b7 b9 e6 e7 e9 ed eh ec er =
     ∙ ap (λ (k : Member). withVersion k (ltb 9 len) (getD p 9 0))
     (ec ∙ ap (λ (x : ℕ). withCaps h (ltb 7 len) x) e7 ∙ ap (λ (k : Member). withCaps k (ltb 7 len) (getD p 7 0)) g)
 
-module _ (a : Air) (len : ℕ) (p : List ℕ) (s : Station) (call : List ℕ) (seat : Seat) (slot : ℕ) (t : Station)
-    (ecall : call ≡ callAt p 1) (eseat : seat ≡ seatOf s call) (eslot : slot ≡ slotOf seat) where
-  -- no slot is left
-  pub checkin-full : {l m : List ℕ} {i j : ℕ} → Did (admitBy seat s call 63 (a .time)) t l i m j → slot ≡ 255
-      → Did (checkinFrame a len p s) (withActive t) l i m j
-  unfolding checkinFrame
-  checkin-full x h =
-      rw (← ecall, ← eseat, ← eslot, eq-eqb slot 255 h) record { station = ap withActive (x .station); wrote = x .wrote }
+-- one write to a place, where the definitions write twice
+set-over : {A : Type 0} (l : List A) (i : ℕ) (k d : A) (f : A → A) → set l i (f k) ≡ set (set l i k) i (f (getD (set l i k) i d))
+set-over [] i k d f = refl
+set-over (x ∷ l) zero k d f = refl
+set-over {A} (x ∷ l) (suc i) k d f = ap (λ (r : List A). x ∷ r) (set-over l i k d f)
 
-  pub checkin-seated : (ix : ℕ) (k : Member) (q : Recent) {l m : List ℕ} {i j : ℕ} → Did (admitBy seat s call 63 (a .time)) t l i m j → (slot ≡ 255 → ⊥)
-      → ix ≡ indexOf slot → k ≡ checkinMember a len p (getD (t .members) ix noMember) → q ≡ noted (getD (t .recent) ix noRecent) (a .level)
-      → Did (checkinFrame a len p s) (withRecent (withMembers (withActive t) (set (t .members) ix k)) (set (t .recent) ix q)) l i m j
+stored-same : (s : Station) {i i′ : ℕ} {k k′ : Member} {z z′ : Recent} {y y′ : Queue} {used used′ acks acks′ : ℕ} → i ≡ i′ → k ≡ k′ → z ≡ z′ → y ≡ y′ → used ≡ used′ → acks ≡ acks′
+    → storedAt s i k z y used acks ≡ storedAt s i′ k′ z′ y′ used′ acks′
+stored-same s pi pk pz py pu pa = rw (pi, pk, pz, py, pu, pa)
+
+module _ (a : Air) (len : ℕ) (p : List ℕ) (s : Station) (call : List ℕ) where
+  -- as the code stores it, at each seat
+  abbrev checkinAs : Seat → Station
+  checkinAs seat =
+      let i = indexOf (slotOf seat) in
+      let new = cond (isFree seat) (newMember call 63 (a .time)) (getD (s .members) i noMember) in
+      let none = cond (isFree seat) empty (getD (s .recent) i noRecent) in
+      withActive
+      (storedAt s i
+      (cond (not (isFull seat)) (checkinMember a len p new) new)
+      (cond (not (isFull seat)) (noted none (a .level)) none)
+      (cond (isFree seat) emptyQueue (getD (s .queues) i emptyQueue))
+      (cond (isFree seat) (withBit (s .used) i) (s .used))
+      (cond (not (isFull seat)) (withBit (s .round .toack) i) (s .round .toack)))
+
+  checkin-by : (seat : Seat) → seatOf s call ≡ seat → checkinAs seat ≡ seatedIn seat a len p (admitBy seat s call 63 (a .time)) .station
+  checkin-by (Known i) e = rw (ne-eqb i 255 (λ q. omega (arith, known-lt s call i e)), set-getD)
+  checkin-by (Free i) e =
+      rw (ne-eqb i 255 (λ q. omega (arith, seat-lt s call i e)))
+      (ap₂ (λ (ms : List Member) (rs : List Recent). withRecent (withMembers (withActive (enterAt s i call 63 (a .time))) ms) rs)
+      (set-over (s .members) (indexOf i) (newMember call 63 (a .time)) noMember (checkinMember a len p))
+      (set-over (s .recent) (indexOf i) empty noRecent (λ (r : Recent). noted r (a .level))))
+  checkin-by Full e = rw (set-getD, set-getD, set-getD)
+
+  pub checkin-stored : (seat : Seat) (fresh full : Bool) (slot i : ℕ) (new k : Member) (none z : Recent) (y : Queue) (used acks : ℕ) {l m : List ℕ} {j j′ : ℕ}
+      → call ≡ callAt p 1 → seat ≡ seatOf s call → fresh ≡ isFree seat → full ≡ isFull seat → slot ≡ slotOf seat → i ≡ indexOf slot
+      → new ≡ cond fresh (newMember call 63 (a .time)) (getD (s .members) i noMember) → k ≡ cond (not full) (checkinMember a len p new) new
+      → none ≡ cond fresh empty (getD (s .recent) i noRecent) → z ≡ cond (not full) (noted none (a .level)) none
+      → y ≡ cond fresh emptyQueue (getD (s .queues) i emptyQueue) → used ≡ cond fresh (withBit (s .used) i) (s .used)
+      → acks ≡ cond (not full) (withBit (s .round .toack) i) (s .round .toack)
+      → Wrote l j (cond fresh (admitEvents slot 63) []) m j′
+      → Did (checkinFrame a len p s) (withActive (storedAt s i k z y used acks)) l j m j′
   unfolding checkinFrame
-  checkin-seated ix k q x h ei ek eq =
-      rw (← ecall, ← eseat, ← eslot, ne-eqb slot 255 h) record { station = rw (eq, ek, ei, x .station); wrote = x .wrote }
+  checkin-stored seat fresh full slot i new k none z y used acks ecall eseat ef eu es ei en ek eo ez ey ed ea w =
+      let pi : i ≡ indexOf (slotOf seat) = ei ∙ ap indexOf es in
+      let pn : new ≡ cond (isFree seat) (newMember call 63 (a .time)) (getD (s .members) (indexOf (slotOf seat)) noMember) = en ∙ rw (ef, pi) in
+      let po : none ≡ cond (isFree seat) empty (getD (s .recent) (indexOf (slotOf seat)) noRecent) = eo ∙ rw (ef, pi) in
+      let pk : k ≡ cond (not (isFull seat)) (checkinMember a len p (cond (isFree seat) (newMember call 63 (a .time)) (getD (s .members) (indexOf (slotOf seat)) noMember))) (cond (isFree seat) (newMember call 63 (a .time)) (getD (s .members) (indexOf (slotOf seat)) noMember)) =
+      ek ∙ ap₂ (λ (t : Bool) (m : Member). cond (not t) (checkinMember a len p m) m) eu pn in
+      let pz : z ≡ cond (not (isFull seat)) (noted (cond (isFree seat) empty (getD (s .recent) (indexOf (slotOf seat)) noRecent)) (a .level)) (cond (isFree seat) empty (getD (s .recent) (indexOf (slotOf seat)) noRecent)) =
+      ez ∙ ap₂ (λ (t : Bool) (r : Recent). cond (not t) (noted r (a .level)) r) eu po in
+      let py : y ≡ cond (isFree seat) emptyQueue (getD (s .queues) (indexOf (slotOf seat)) emptyQueue) = ey ∙ rw (ef, pi) in
+      let pd : used ≡ cond (isFree seat) (withBit (s .used) (indexOf (slotOf seat))) (s .used) = ed ∙ rw (ef, pi) in
+      let pa : acks ≡ cond (not (isFull seat)) (withBit (s .round .toack) (indexOf (slotOf seat))) (s .round .toack) = ea ∙ rw (eu, pi) in
+      rw (← ecall, ← eseat)
+      record {
+        station = ap withActive (stored-same s pi pk pz py pd pa) ∙ checkin-by seat (sym eseat);
+        wrote = wrote-as w (rw (es, ef) (seat-words seat s call 63 (a .time)));
+      }
 
 -- ### The pairs of a report
 
@@ -144,28 +195,58 @@ module _ (a : Air) (p : List ℕ) (slot via e : ℕ) where
       subst (λ (s : Station). Did (overheardEntry a p slot via e (said s [])) r m j m′ j′) (x .station) y in
       did-as (over-more d) (did-then x z)
 
-  -- by the seat that was found
-  pub over-seat : (s : Station) (call : List ℕ) (r seat : Seat) {t : Station} {l m : List ℕ} {i j : ℕ}
-      → call ≡ callAt p e → r ≡ seatOf s call → r ≡ seat
-      → Did (overheardBy seat a p e slot via (said s [])) t l i m j → Did (overheardEntry a p slot via e (said s [])) t l i m j
-  unfolding overheardEntry
-  over-seat s call r seat ecall er es x =
-      let z : seat ≡ seatOf s (callAt p e) = sym es ∙ er ∙ ap (seatOf s) ecall in
-      did-as (ap (λ (k : Seat). overheardBy k a p e slot via (said s [])) z) x
+  module _ (s : Station) (call : List ℕ) where
+    -- as the code stores it, at each seat
+    abbrev overAs : Seat → Station
+    overAs seat =
+        let i = indexOf (slotOf seat) in
+        let new = cond (isFree seat) (newMember call via (a .time)) (getD (s .members) i noMember) in
+        let used = cond (isFree seat) (withBit (s .used) i) (s .used) in
+        withHears
+        (storedAt s i
+        (cond (isFree seat) (newcomer p e new) new)
+        (cond (isFree seat) empty (getD (s .recent) i noRecent))
+        (cond (isFree seat) emptyQueue (getD (s .queues) i emptyQueue))
+        used
+        (cond (isFree seat) (withBit (s .round .toack) i) (s .round .toack)))
+        (cond (isFree seat && isMember used slot) (hearing slot (slotOf seat) (getD p (e + 5) 0) (s .hears)) (s .hears))
 
-  -- a newcomer at c
-  pub over-entered : (s t : Station) (c : ℕ) (call : List ℕ) (ix : ℕ) (k : Member) (here : Bool) (q : ℕ) (hears′ : List ℕ)
-      {l m : List ℕ} {i j : ℕ} → call ≡ callAt p e → Did (admitBy (Free c) s call via (a .time)) t l i m j
-      → ix ≡ indexOf c → k ≡ newcomer p e (getD (t .members) ix noMember) → here ≡ isMember (t .used) slot → q ≡ getD p (e + 5) 0
-      → hears′ ≡ cond here (hearing slot c q (t .hears)) (t .hears)
-      → Did (overheardBy (Free c) a p e slot via (said s [])) (withHears (withMembers t (set (t .members) ix k)) hears′) l i m j
-  over-entered s t c call ix k here q hears′ ecall x ei ek eh eq es =
-      let u = withMembers t (set (t .members) ix k) in
-      rw (← ecall)
-      record {
-        station = rw (es, heard-by here u (hearing slot c q (t .hears)), eh, eq, ek, ei, x .station);
-        wrote = x .wrote;
-      }
+    over-is : (seat : Seat) → call ≡ callAt p e → overAs seat ≡ overheardBy seat a p e slot via (said s []) .station
+    over-is (Known i) q = rw (set-getD, set-getD, set-getD)
+    over-is (Free c) q =
+        let t = enterAt s c call via (a .time) in
+        rw (← q)
+        (ap (λ (ms : List Member). withHears (withMembers t ms) (cond (isMember (t .used) slot) (hearing slot c (getD p (e + 5) 0) (s .hears)) (s .hears)))
+        (set-over (s .members) (indexOf c) (newMember call via (a .time)) noMember (newcomer p e))
+        ∙ heard-by (isMember (t .used) slot) (withMember t c (newcomer p e (memberAt t c))) (hearing slot c (getD p (e + 5) 0) (s .hears)))
+    over-is Full q = rw (set-getD, set-getD, set-getD)
+
+    over-words : (seat : Seat) → cond (isFree seat) (admitEvents (slotOf seat) via) [] ≡ overheardBy seat a p e slot via (said s []) .words
+    over-words (Known i) = refl
+    over-words (Free c) = refl
+    over-words Full = refl
+
+    pub over-stored : (seat : Seat) (fresh : Bool) (c i : ℕ) (new k : Member) (z : Recent) (y : Queue) (used acks : ℕ) (here : Bool) (q : ℕ) (hears′ : List ℕ)
+        {l m : List ℕ} {j j′ : ℕ} → call ≡ callAt p e → seat ≡ seatOf s call → fresh ≡ isFree seat → c ≡ slotOf seat → i ≡ indexOf c
+        → new ≡ cond fresh (newMember call via (a .time)) (getD (s .members) i noMember) → k ≡ cond fresh (newcomer p e new) new
+        → z ≡ cond fresh empty (getD (s .recent) i noRecent) → y ≡ cond fresh emptyQueue (getD (s .queues) i emptyQueue)
+        → used ≡ cond fresh (withBit (s .used) i) (s .used) → acks ≡ cond fresh (withBit (s .round .toack) i) (s .round .toack)
+        → Wrote l j (cond fresh (admitEvents c via) []) m j′
+        → here ≡ isMember used slot → q ≡ getD p (e + 5) 0 → hears′ ≡ cond (fresh && here) (hearing slot c q (s .hears)) (s .hears)
+        → Did (overheardEntry a p slot via e (said s [])) (withHears (storedAt s i k z y used acks) hears′) l j m j′
+    unfolding overheardEntry
+    over-stored seat fresh c i new k z y used acks here q hears′ ecall eseat ef ec ei en ek ez ey eu ea w eh eq es =
+        rw (← ecall, ← eseat)
+        record {
+          station = rw (es, eq, eh, ea, eu, ey, ez, ek, en, ei, ec, ef) (over-is seat ecall);
+          wrote = wrote-as w (rw (ec, ef) (over-words seat));
+        }
+
+-- the relay of the frame's newcomers
+pub relay-is : (s : Station) (slot b : ℕ) (here : Bool) (via : ℕ) → b ≡ indexOf slot → here ≡ isMember (s .used) slot
+    → via ≡ relayBy here (getD (s .members) b noMember) slot → via ≡ relayOf s slot
+unfolding relayOf
+relay-is s slot b here via eb eh ev = ev ∙ rw (eh, eb)
 
 -- ### The entries of children
 

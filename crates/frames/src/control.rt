@@ -1,7 +1,6 @@
 // Reception, control frames: a check-in, a report, boats overheard, a relay's children.
 use crate::Air;
 use crate::Rx;
-use admit::Seat;
 use level::Level;
 use net::Station;
 use queue::Queue;
@@ -14,10 +13,11 @@ ghost use Prim.Native.Nat.{_+_, _<_};
 ghost use lib.ListN.{getD};
 ghost use Rattle.out.specs.Encode.{Wrote};
 ghost use Rattle.queue.specs.Queues.{reportedTo};
-ghost use Rattle.net.specs.Net.{Did, said};
-ghost use Rattle.admit.specs.declared.Seat.the-variants.{Free};
+ghost use Rattle.net.specs.Net.{Did};
+ghost use Rattle.recent.specs.Readings.{noted};
+ghost use Rattle.frames.specs.Code.Control.{relayBy};
 ghost use Rattle.frames.specs.Code.Reading.{reportRx};
-ghost use Rattle.frames.specs.Control.{payloadIn, callAt, checkinMember, checkinFrame, forwardedBy, reportMember, hearing, hearPairs, isPending, relayOf, newcomer, overheardBy, overheardEntry, overheardFrame, kidMember, heardAs, kidRecent, kidEvents, kidOf, kidsFrame, u24};
+ghost use Rattle.frames.specs.Control.{payloadIn, callAt, checkinMember, checkinFrame, forwardedBy, reportMember, hearing, hearPairs, isPending, newcomer, overheardFrame, kidMember, heardAs, kidRecent, kidEvents, kidOf, kidsFrame, u24};
 
 // Byte j of the payload of the frame of len bytes at `at`; 0 past its end.
 pub fn byte_in(words: &[u32], at: usize, len: u8, j: usize) -> u8
@@ -135,17 +135,29 @@ pub fn report_hears(hears: &mut [u8; 3844], here: bool, slot: u8, words: &[u32],
 
 // ---- check-in
 
-fn checkin_member(m: Member, a: Air, words: &[u32], at: usize, len: u8) -> Member
-    ensures { λ r. ⌜ r ≡ checkinMember a len (payloadIn (now (words .entry)) at len) m ⌝ }
+fn checkin_member(m: Member, sits: bool, a: Air, words: &[u32], at: usize, len: u8) -> Member
+    ensures { λ r. ⌜ r ≡ cond sits (checkinMember a len (payloadIn (now (words .entry)) at len) m) m ⌝ }
 {
+    if !sits {
+        return m;
+    }
     let down = wire::snr_from_q(byte_in(words, at, len, 6));
     let h = roster::received(m, a.level, down, a.time);
     let c = roster::with_caps(h, 7 < len, byte_in(words, at, len, 7));
     roster::with_version(c, 9 < len, byte_in(words, at, len, 9))
 }
 
+fn noted_if(r: Recent, yes: bool, level: f32) -> Recent
+    ensures { λ k. ⌜ k ≡ cond yes (noted r level) r ⌝ }
+{
+    if yes {
+        return recent::noted(r, level);
+    }
+    r
+}
+
 pub fn checkin(
-    s: Station,
+    mut s: Station,
     a: Air,
     words: &[u32],
     at: usize,
@@ -157,96 +169,54 @@ pub fn checkin(
 {
     let call = call_in(words, at, len, 1);
     let seat = admit::seat_of(s, call);
-    let mut t = admit::admit(s, seat, call, wire::ALL, a.time, o, end);
-    t.round.activity = true;
+    let fresh = admit::is_free(seat);
+    let sits = !admit::is_full(seat);
     let slot = admit::slot_of(seat);
-    if slot == 255 {
-        return t;
-    }
     let i = net::index(slot);
-    let m = t.members[i];
-    let k = checkin_member(m, a, words, at, len);
-    t.members[i] = k;
-    let r = t.recent[i];
-    let q = recent::noted(r, a.level);
-    t.recent[i] = q;
-    t
+    let m = s.members[i];
+    let new = admit::member_if(m, fresh, call, wire::ALL, a.time);
+    let k = checkin_member(new, sits, a, words, at, len);
+    s.members[i] = k;
+    let r = s.recent[i];
+    let none = admit::recent_if(r, fresh);
+    let z = noted_if(none, sits, a.level);
+    s.recent[i] = z;
+    let q = s.queues[i];
+    let y = admit::queue_if(q, fresh);
+    s.queues[i] = y;
+    s.used = admit::with_if(s.used, fresh, i);
+    let acks = admit::with_if(s.round.toack, sits, i);
+    s.round.toack = acks;
+    s.round.activity = true;
+    *end = admit::events_if(o, *end, fresh, slot, wire::ALL);
+    s
 }
 
 // ---- overheard
 
-// The relay of a frame's newcomers: the frame's own boat, where it has no relay itself and is willing.
-fn relay_of(s: Station, slot: u8) -> u8
-    ensures { λ r. ⌜ r ≡ relayOf s slot ⌝ }
+// The relay of a frame's newcomers: the frame's own boat m, where it has no relay itself and is willing.
+fn relay_of(m: Member, here: bool, slot: u8) -> u8
+    ensures { λ r. ⌜ r ≡ relayBy here m slot ⌝ }
 {
-    let m = net::member_at(s, slot);
-    let ok = net::is_member(s.used, slot) & (m.via == wire::ALL) & roster::is_willing(m);
+    let ok = here & (m.via == wire::ALL) & roster::is_willing(m);
     if ok { slot } else { wire::ALL }
 }
 
-fn new_boat(m: Member, words: &[u32], at: usize, len: u8, e: usize) -> Member
+fn new_boat(m: Member, fresh: bool, words: &[u32], at: usize, len: u8, e: usize) -> Member
     requires { ⌜ e < 256 ⌝ }
-    ensures { λ r. ⌜ r ≡ newcomer (payloadIn (now (words .entry)) at len) e m ⌝ }
+    ensures { λ r. ⌜ r ≡ cond fresh (newcomer (payloadIn (now (words .entry)) at len) e m) m ⌝ }
 {
+    if !fresh {
+        return m;
+    }
     let c = roster::with_caps(m, true, byte_in(words, at, len, e + 6));
     roster::with_version(c, true, byte_in(words, at, len, e + 7))
 }
 
-// An unknown call enters at the free slot c, and the frame's boat hears it.
-fn entered(
-    s: Station,
-    c: u8,
-    slot: u8,
-    via: u8,
-    a: Air,
-    words: &[u32],
-    at: usize,
-    len: u8,
-    e: usize,
-    o: &mut [u32],
-    end: &mut usize,
-) -> Station
-    requires { ⌜ e < 256 ⌝ }
-    ensures { λ r. ⌜ Did (overheardBy (Free c) a (payloadIn (now (words .entry)) at len) e slot via (said s [])) r (now (o .entry)) (now (end .entry)) (now (o .exit)) (now (end .exit)) ⌝ }
-{
-    let call = call_in(words, at, len, e);
-    let mut t = admit::admit(s, Seat::Free(c), call, via, a.time, o, end);
-    let i = net::index(c);
-    let m = t.members[i];
-    let k = new_boat(m, words, at, len, e);
-    t.members[i] = k;
-    let here = net::is_member(t.used, slot);
-    let q = byte_in(words, at, len, e + 5);
-    hear(&mut t.hears, here, slot, c, q);
-    t
-}
-
-// The entry of eight bytes at e: an unknown call enters, where a slot is free.
-fn overheard_entry(
-    s: Station,
-    slot: u8,
-    via: u8,
-    a: Air,
-    words: &[u32],
-    at: usize,
-    len: u8,
-    e: usize,
-    o: &mut [u32],
-    end: &mut usize,
-) -> Station
-    requires { ⌜ e < 256 ⌝ }
-    ensures { λ r. ⌜ Did (overheardEntry a (payloadIn (now (words .entry)) at len) slot via e (said s [])) r (now (o .entry)) (now (end .entry)) (now (o .exit)) (now (end .exit)) ⌝ }
-{
-    match admit::seat_of(s, call_in(words, at, len, e)) {
-        Seat::Known(_) => s,
-        Seat::Free(c) => entered(s, c, slot, via, a, words, at, len, e, o, end),
-        Seat::Full => s,
-    }
-}
-
-// Stations that a member heard asking in and the control station did not.
+// Stations that a member heard asking in and the control station did not: at each entry of eight bytes an unknown call enters, where a
+// slot is free, and the frame's boat hears it.
 pub fn overheard(
-    s: Station,
+    mut s: Station,
     slot: u8,
     a: Air,
     words: &[u32],
@@ -257,15 +227,44 @@ pub fn overheard(
 ) -> Station
     ensures { λ r. ⌜ Did (overheardFrame a len (payloadIn (now (words .entry)) at len) slot s) r (now (o .entry)) (now (end .entry)) (now (o .exit)) (now (end .exit)) ⌝ }
 {
-    let via = relay_of(s, slot);
+    let b = net::index(slot);
+    let boat = s.members[b];
+    let via = relay_of(boat, net::is_member(s.used, slot), slot);
     let n = len as usize;
-    let mut t = s;
+    let mut put = *end;
     let mut e: usize = 1;
     while e + 8 <= n {
-        t = overheard_entry(t, slot, via, a, words, at, len, e, o, end);
+        let call = call_in(words, at, len, e);
+        let seat = admit::seat_of(s, call);
+        let fresh = admit::is_free(seat);
+        let c = admit::slot_of(seat);
+        let i = net::index(c);
+        let m = s.members[i];
+        let new = admit::member_if(m, fresh, call, via, a.time);
+        let k = new_boat(new, fresh, words, at, len, e);
+        s.members[i] = k;
+        let r = s.recent[i];
+        let z = admit::recent_if(r, fresh);
+        s.recent[i] = z;
+        let q = s.queues[i];
+        let y = admit::queue_if(q, fresh);
+        s.queues[i] = y;
+        s.used = admit::with_if(s.used, fresh, i);
+        let acks = admit::with_if(s.round.toack, fresh, i);
+        s.round.toack = acks;
+        put = admit::events_if(o, put, fresh, c, via);
+        let here = net::is_member(s.used, slot);
+        hear(
+            &mut s.hears,
+            fresh & here,
+            slot,
+            c,
+            byte_in(words, at, len, e + 5),
+        );
         e += 8;
     }
-    t
+    *end = put;
+    s
 }
 
 // ---- children

@@ -10,9 +10,11 @@ ghost use mathlib.Core.Path.{_≡_};
 ghost use lib.ListN.{length};
 ghost use lib.Seq.{sets};
 ghost use Rattle.words.specs.Words.{parse, shapeOf};
+ghost use Rattle.admit.specs.declared.Seat.the-variants.{Full};
 ghost use Rattle.station.specs.Entries.{startRefusal, check1, closeRefusal, cellRefusal, checkRelay, admitRefusal, nextRefusal, postRefusal, receiveCheck, framesOr65, answered, heardOf, startOf, admitOf, receiveOf, nextOf, postOf, sentOf, closeOf, readRefusal, readingOf, freeOf};
 ghost use Rattle.station.specs.SignOff.{signOffRefusal, signOffOf};
 ghost use Rattle.station.specs.Worst.{worstOf};
+use admit::Seat;
 use config::Given;
 use level::Level;
 use net::Station;
@@ -124,26 +126,42 @@ fn admit_refusal(room: usize, time: f64, used: u64, relay: u8, full: bool) -> u8
     relay_refusal(used, relay, full_refusal(full))
 }
 
+// Where a call is refused, no seat is taken.
+fn seat_if(seat: Seat, ok: bool) -> Seat
+    ensures { λ r. ⌜ r ≡ cond ok seat Full ⌝ }
+{
+    if ok { seat } else { Seat::Full }
+}
+
 // Direct admission: five packed bytes, and a relay slot or 63.
-pub fn admit(s: Station, packed: [u8; 5], relay: u8, time: f64, o: &mut [u32]) -> Answered
+pub fn admit(mut s: Station, packed: [u8; 5], relay: u8, time: f64, o: &mut [u32]) -> Answered
     ensures { λ r. ⌜ (r ≡ answered (admitOf s packed relay time (length (now (o .entry)))) (length (now (o .entry))))
         × (now (o .exit) ≡ sets (now (o .entry)) 0 (admitOf s packed relay time (length (now (o .entry))) .words)) ⌝ }
 {
     let call = wire::calls::unpack_call(packed);
-    let seat = admit::seat_of(s, call);
-    let no = admit_refusal(o.len(), time, s.used, relay, admit::is_full(seat));
-    if no != 0 {
-        return Answered {
-            station: s,
-            answer: Answer::Refused(no),
-        };
-    }
-    let via = admit::via_for(s, seat, relay);
-    let mut at: usize = 0;
-    let t = admit::admit(s, seat, call, via, time, o, &mut at);
+    let found = admit::seat_of(s, call);
+    let no = admit_refusal(o.len(), time, s.used, relay, admit::is_full(found));
+    let via = admit::via_for(s, found, relay);
+    let seat = seat_if(found, no == 0);
+    let fresh = admit::is_free(seat);
+    let slot = admit::slot_of(seat);
+    let i = net::index(slot);
+    let m = s.members[i];
+    let k = admit::member_if(m, fresh, call, via, time);
+    s.members[i] = k;
+    let r = s.recent[i];
+    let z = admit::recent_if(r, fresh);
+    s.recent[i] = z;
+    let q = s.queues[i];
+    let y = admit::queue_if(q, fresh);
+    s.queues[i] = y;
+    s.used = admit::with_if(s.used, fresh, i);
+    let acks = admit::with_if(s.round.toack, !admit::is_full(seat), i);
+    s.round.toack = acks;
+    let at = admit::events_if(o, 0, fresh, slot, via);
     Answered {
-        station: t,
-        answer: Answer::Words(at),
+        station: s,
+        answer: answer_of(no, at),
     }
 }
 

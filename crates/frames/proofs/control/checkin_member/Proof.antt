@@ -1,9 +1,13 @@
 -- Assumes nothing.
+use borrow.Author.Tests.{not-true, not-false}
 use Rattle.frames.specs.Control.{payloadIn}
 use Rattle.frames.proofs.Entries.{checkin-is}
 use borrow.Author.Needs.{needs}
 use Rattle.frames.proofs.control.checkin_member.Statement.{statement}
 use Rattle.frames.proofs.control.checkin_member.Tie as tie
+
+returns : tie.Need-returns
+returns c = rw (not-true (c .before .before .args .sits) (c .if1 .taken))
 
 byte-in-requires : tie.Need-byte-in-requires
 byte-in-requires c κs = search needs
@@ -26,18 +30,18 @@ byte-in-requires-3 c κs = search needs
 with-version-requires : tie.Need-with-version-requires
 with-version-requires c κs = search needs
 
-returns : tie.Need-returns
-returns c =
-    let b = c .before .before .before .before .before .before .before .before in
-    checkin-is (b .args .a) (b .args .len) (payloadIn (b .args .words .now) (b .args .at) (b .args .len)) (b .args .m) _ _ _ _ _ _ _
-    (c .before .before .before .before .before .before .byte-in .ensures) (c .before .before .before .byte-in2 .ensures)
-    (c .before .byte-in3 .ensures) (c .before .before .before .before .before .snr-from-q .ensures)
-    (c .before .before .before .before .received .ensures) (c .before .before .with-caps .ensures) (c .with-version .ensures)
+returns-2 : tie.Need-returns-2
+returns-2 c =
+    let b = c .before .before .before .before .before .before .before .before .before .args in
+    rw (not-false (b .sits) (c .before .before .before .before .before .before .before .if1 .left))
+    (checkin-is (b .a) (b .len) (payloadIn (b .words .now) (b .at) (b .len)) (b .m) _ _ _ _ _ _ _
+    (c .before .before .before .before .before .before .byte-in .ensures) (c .before .before .before .byte-in2 .ensures) (c .before .byte-in3 .ensures) (c .before .before .before .before .before .snr-from-q .ensures) (c .before .before .before .before .received .ensures) (c .before .before .with-caps .ensures) (c .with-version .ensures))
 
 pub checkin-member-spec : {M : Type 1} → statement M
 checkin-member-spec =
     tie.close
     (tie.spec
+    returns
     byte-in-requires
     snr-from-q-requires
     received-requires
@@ -45,4 +49,4 @@ checkin-member-spec =
     with-caps-requires
     byte-in-requires-3
     with-version-requires
-    returns)
+    returns-2)
