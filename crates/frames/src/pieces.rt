@@ -1,5 +1,7 @@
 // Reception, up frames: a boat's piece, kept or not, and what lands.
 use crate::Air;
+use crate::Frame;
+use crate::Rx;
 use inbox::cell::Cell;
 use inbox::keep;
 use inbox::keep::Kept;
@@ -15,7 +17,7 @@ use stream::window::Window;
 use wire::number;
 use wire::number::Number;
 ghost use mathlib.Core.Path.{_≡_};
-ghost use Prim.Native.Nat.{_/_, _%_, _≤_};
+ghost use Prim.Native.Nat.{_+_, _/_, _%_, _^_, _<_, _≤_};
 ghost use lib.ListN.{length, drop};
 ghost use mathlib.Core.Bool.{cond};
 ghost use Rattle.bits.specs.Mask.{withoutBit};
@@ -23,9 +25,10 @@ ghost use Rattle.bits.specs.Stop.{stop};
 ghost use Rattle.roster.specs.Members.{barredOne};
 ghost use Rattle.words.specs.Words.{bytesAt};
 ghost use Rattle.out.specs.Encode.{Wrote};
-ghost use Rattle.stream.specs.Table.{took, takeOf, leftOf, roomFor, ownerOf};
+ghost use Rattle.stream.specs.Table.{took, takeOf, leftOf, roomFor, ownerOf, placeOf};
 ghost use Rattle.frames.specs.Pieces.{sizeOf, directIf, heardMember};
-ghost use Rattle.frames.specs.Code.Pieces.{unwantedOf, numberedOf, pieceOf, RoomIn, takenOf, ownerAfter, frees, busyAfter, landedAfter, withIf, memberAfter, relayedBy, roundAfter, totalsAfter, landedEvents};
+ghost use Rattle.frames.specs.Code.Reading.{nextRx};
+ghost use Rattle.frames.specs.Code.Pieces.{keptRx, unwantedOf, numberedOf, pieceOf, RoomIn, takenOf, ownerAfter, frees, busyAfter, landedAfter, withIf, memberAfter, relayedBy, roundAfter, totalsAfter, landedEvents};
 
 // A boat's piece as it is read. wanted: its slot has a member, and its message a number that is not handed over; else nothing is done
 // with its bytes. barred: that number is barred.
@@ -39,23 +42,31 @@ pub struct Piece {
     pub room: Room,
 }
 
-// The piece in a frame of `slot`, whose boat has the window w where it is `here`.
+// The piece in the frame f, whose boat is m where it is `here`.
 pub fn piece_of(
-    w: Window,
+    m: Member,
     here: bool,
-    slot: u8,
-    field: u32,
+    f: Frame,
     owners: &[u64; 64],
     busy: u64,
     landed: u64,
     count: usize,
 ) -> Piece
-    ensures { λ r. ⌜ r ≡ pieceOf w here slot field (now (owners .entry)) busy landed count ⌝ }
+    ensures { λ r. ⌜ r ≡ pieceOf (m .up) here (f .slot) (f .field) (now (owners .entry)) busy landed count ⌝ }
 {
-    let Number::Is(n) = number::widen8(high8(field), w.next) else {
-        return unwanted(slot, here);
+    let w = m.up;
+    let Number::Is(n) = number::widen8(high8(f.field), w.next) else {
+        return unwanted(f.slot, here);
     };
-    numbered(w, here, slot, field, n, owners, busy, landed, count)
+    numbered(w, here, f.slot, f.field, n, owners, busy, landed, count)
+}
+
+// The cell it is offered to.
+pub fn cell_of(p: Piece) -> usize
+    ensures { λ r. ⌜ r ≡ placeOf (p .room) ⌝ }
+{
+    let room = p.room;
+    table::place_of(room)
 }
 
 // The piece offered to its cell c.
@@ -173,6 +184,17 @@ pub fn totals_after(t: Totals, relayed: bool) -> Totals
     let mut k = t;
     k.relays = bits::one_more(t.relays);
     k
+}
+
+// On to the next frame; a piece that was not kept is noted.
+pub fn next_piece(x: Rx, f: Frame, d: Taken) -> Rx
+    requires { ⌜ (x .word + f .size < 2 ^ 64) × (x .frame + 1 < 2 ^ 64) ⌝ }
+    ensures { λ r. ⌜ r ≡ nextRx (keptRx x d) f ⌝ }
+{
+    let kept = d.kept;
+    let mut k = x;
+    k.unkept = with_if(x.unkept, table::lost(kept), x.frame);
+    crate::next_frame(k, f)
 }
 
 // Event 4, where another boat brought it, and event 2.

@@ -13,7 +13,6 @@ use frames::control;
 use frames::pieces;
 use net::Station;
 use net::Wait;
-use stream::table;
 use words::Head;
 
 pub mod ending;
@@ -65,40 +64,21 @@ fn read_burst(
         if f.ty == wire::T_UP {
             let i = net::index(f.slot);
             let m = s.members[i];
-            let up = m.up;
             let here = net::is_member(s.used, f.slot);
-            let p = pieces::piece_of(
-                up,
-                here,
-                f.slot,
-                f.field,
-                &s.owners,
-                s.busy,
-                s.landed,
-                s.count,
-            );
-            let room = p.room;
-            let c = table::place_of(room);
-            let before = s.cells[c];
-            let d = pieces::take(p, before, words, x.word, f.len, lent);
-            let after = d.cell;
-            let kept = d.kept;
-            s.cells[c] = after;
+            let p = pieces::piece_of(m, here, f, &s.owners, s.busy, s.landed, s.count);
+            let c = pieces::cell_of(p);
+            let d = pieces::take(p, s.cells[c], words, x.word, f.len, lent);
+            let cell = d.cell;
+            s.cells[c] = cell;
             s.owners[c] = pieces::owner_after(s.owners[c], d, p);
             s.busy = pieces::busy_after(s.busy, d, p, c);
             s.landed = pieces::landed_after(s.landed, d, p, c);
-            let k = pieces::member_after(m, d, p, a);
-            s.members[i] = k;
+            s.members[i] = pieces::member_after(m, d, p, a);
             let relayed = pieces::is_relayed(d, p, a, s.used);
-            let r = s.round;
-            let q = pieces::round_after(r, d, relayed);
-            s.round = q;
-            let t = s.totals;
-            let u = pieces::totals_after(t, relayed);
-            s.totals = u;
+            s.round = pieces::round_after(s.round, d, relayed);
+            s.totals = pieces::totals_after(s.totals, relayed);
             x.at = pieces::landed_events(o, x.at, d, p, c, relayed, a.polled);
-            x.unkept = pieces::with_if(x.unkept, table::lost(kept), x.frame);
-            x = frames::next_frame(x, f);
+            x = pieces::next_piece(x, f, d);
             continue;
         }
         let mut end = x.at;
@@ -118,12 +98,9 @@ fn read_burst(
                     let m = s.members[i];
                     let forwarded = control::is_forwarded(m, here, a);
                     let q = control::byte_in(words, x.word, f.len, 2);
-                    let k = control::report_member(m, here, forwarded, a, q);
-                    s.members[i] = k;
+                    s.members[i] = control::report_member(m, here, forwarded, a, q);
                     control::report_hears(&mut s.hears, here, slot, words, x.word, f.len);
-                    let b = s.queues[i];
-                    let d = control::report_queue(b, here, words, x.word, f.len);
-                    s.queues[i] = d;
+                    s.queues[i] = control::report_queue(s.queues[i], here, words, x.word, f.len);
                     let pending = control::is_pending(words, x.word, f.len);
                     x = control::report_rx(x, forwarded, slot, pending);
                 }
@@ -149,20 +126,16 @@ fn read_burst(
     let m = s.members[i];
     let k = ending::end_member(m, e, here, h, a);
     s.members[i] = k;
-    let y = s.recent[i];
-    let z = ending::end_recent(y, e, here, a);
-    s.recent[i] = z;
+    s.recent[i] = ending::end_recent(s.recent[i], e, here, a);
     *at = ending::put_end(o, x.at, e, h, x.heard, ending::ack_level(g, k, here));
     let source = e.reply.relayfor;
     let b = net::index(source);
     let c = s.members[b];
     let d = ending::end_source(&s.hears, s.used, c, e, source);
     s.members[b] = d;
-    let v = ending::end_wait(w, e);
-    s.wait = v;
+    s.wait = ending::end_wait(w, e);
     let t = s.totals;
-    let u = ending::end_totals(t, e, g.misslimit <= m.missed, g.misslimit <= k.missed);
-    s.totals = u;
+    s.totals = ending::end_totals(t, e, g.misslimit <= m.missed, g.misslimit <= k.missed);
     s
 }
 

@@ -27,6 +27,7 @@ use Rattle.net.specs.declared.Totals.{Totals}
 use Rattle.net.specs.State.{indexOf, withTraffic, withRxdirty, withRelays}
 use Rattle.net.specs.Net.{isMember}
 use Rattle.frames.specs.declared.Air.{Air}
+use Rattle.frames.specs.declared.Rx.{Rx}
 use Rattle.frames.specs.declared.pieces.Piece.{Piece}
 use Rattle.frames.specs.Reading.{Reading}
 use Rattle.frames.specs.Pieces.{sizeOf, heardMember}
@@ -67,6 +68,11 @@ ownerAfter old d p = cond (changes (d .kept)) (ownerOf (p .slot) (p .number)) ol
 
 abbrev pub withIf : ℕ → Bool → ℕ → ℕ
 withIf mask given c = cond given (withBit mask c) mask
+
+-- a piece that was not kept is noted
+abbrev pub keptRx : Rx → Taken → Rx
+keptRx x d =
+    record { word = x .word; frame = x .frame; at = x .at; sender = x .sender; more = x .more; heard = x .heard; unkept = withIf (x .unkept) (isLost (d .kept)) (x .frame) }
 
 -- the message claims too much and has a cell: it is given back
 abbrev pub frees : Taken → Piece → Bool

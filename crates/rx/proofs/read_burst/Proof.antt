@@ -45,38 +45,38 @@ is-member-requires c κs = search needs
 piece-of-requires : tie.Need-piece-of-requires Inv-loop μ-loop
 piece-of-requires c κs = search needs
 
-place-of-requires : tie.Need-place-of-requires Inv-loop μ-loop
-place-of-requires c κs = search needs
+cell-of-requires : tie.Need-cell-of-requires Inv-loop μ-loop
+cell-of-requires c κs = search needs
 
-mul-before : tie.Need-mul-before Inv-loop μ-loop
-mul-before c = omega (arith, cell-lt _ _ _ _ _ _ _ _ (c .before .piece-of .ensures) (c .place-of .ensures))
+mul-take : tie.Need-mul-take Inv-loop μ-loop
+mul-take c = omega (arith, cell-lt _ _ _ _ _ _ _ _ (c .before .piece-of .ensures) (c .cell-of .ensures))
 
-element-copy-out-before : tie.Need-element-copy-out-before Inv-loop μ-loop
-element-copy-out-before c = omega (arith, cell-lt _ _ _ _ _ _ _ _ (c .before .piece-of .ensures) (c .place-of .ensures))
+element-copy-out-take : tie.Need-element-copy-out-take Inv-loop μ-loop
+element-copy-out-take c = omega (arith, cell-lt _ _ _ _ _ _ _ _ (c .before .piece-of .ensures) (c .cell-of .ensures))
 
 take-requires : tie.Need-take-requires Inv-loop μ-loop
-take-requires c κs = room-now (c .before .before .before .before .before .before .before .before .before .before .before .before .before .before .before .loop .inv) (c .before .before .before .before .before .before .before .before .before .before .before .before .before .if1 .taken) (c .before .before .before .before .before .before .before .before .before .before .before .before .frame-at .result) (c .before .before .before .before .before .before .before .before .before .before .before .before .frame-at .ensures) Piece (kind-up _ _ (c .before .before .before .before .before .before .before .before .before .before .if2 .taken)) _ _ _ _ _ _ _ (c .before .before .before .piece-of .ensures) (c .before .before .before .before .before .before .before .before .before .before .before .before .before .before .before .before .before .before .before .before .pre (omega arith) .1)
+take-requires c κs = room-now (c .before .before .before .before .before .before .before .before .before .before .before .before .before .before .loop .inv) (c .before .before .before .before .before .before .before .before .before .before .before .before .if1 .taken) (c .before .before .before .before .before .before .before .before .before .before .before .frame-at .result) (c .before .before .before .before .before .before .before .before .before .before .before .frame-at .ensures) Piece (kind-up _ _ (c .before .before .before .before .before .before .before .before .before .if2 .taken)) _ _ _ _ _ _ _ (c .before .before .before .piece-of .ensures) (c .before .before .before .before .before .before .before .before .before .before .before .before .before .before .before .before .before .before .before .pre (omega arith) .1)
 
-mul-after : tie.Need-mul-after Inv-loop μ-loop
-mul-after c = omega (arith, cell-lt _ _ _ _ _ _ _ _ (c .before .before .before .before .before .before .before .piece-of .ensures) (c .before .before .before .before .before .before .place-of .ensures))
+mul-cell : tie.Need-mul-cell Inv-loop μ-loop
+mul-cell c = omega (arith, cell-lt _ _ _ _ _ _ _ _ (c .before .before .before .before .before .before .before .piece-of .ensures) (c .before .before .before .before .before .before .cell-of .ensures))
 
-element-set-from-after : tie.Need-element-set-from-after Inv-loop μ-loop
-element-set-from-after c = omega (arith, cell-lt _ _ _ _ _ _ _ _ (c .before .before .before .before .before .before .before .piece-of .ensures) (c .before .before .before .before .before .before .place-of .ensures))
+element-set-from-cell : tie.Need-element-set-from-cell Inv-loop μ-loop
+element-set-from-cell c = omega (arith, cell-lt _ _ _ _ _ _ _ _ (c .before .before .before .before .before .before .before .piece-of .ensures) (c .before .before .before .before .before .before .cell-of .ensures))
 
 mul-owner-after : tie.Need-mul-owner-after Inv-loop μ-loop
-mul-owner-after c = omega (arith, cell-lt _ _ _ _ _ _ _ _ (c .before .before .before .before .before .before .before .piece-of .ensures) (c .before .before .before .before .before .before .place-of .ensures))
+mul-owner-after c = omega (arith, cell-lt _ _ _ _ _ _ _ _ (c .before .before .before .before .before .before .before .piece-of .ensures) (c .before .before .before .before .before .before .cell-of .ensures))
 
 element-copy-out-owner-after : tie.Need-element-copy-out-owner-after Inv-loop μ-loop
-element-copy-out-owner-after c = omega (arith, cell-lt _ _ _ _ _ _ _ _ (c .before .before .before .before .before .before .before .piece-of .ensures) (c .before .before .before .before .before .before .place-of .ensures))
+element-copy-out-owner-after c = omega (arith, cell-lt _ _ _ _ _ _ _ _ (c .before .before .before .before .before .before .before .piece-of .ensures) (c .before .before .before .before .before .before .cell-of .ensures))
 
 owner-after-requires : tie.Need-owner-after-requires Inv-loop μ-loop
 owner-after-requires c κs = search needs
 
 mul-s : tie.Need-mul-s Inv-loop μ-loop
-mul-s c = omega (arith, cell-lt _ _ _ _ _ _ _ _ (c .before .before .before .before .before .before .before .before .before .piece-of .ensures) (c .before .before .before .before .before .before .before .before .place-of .ensures))
+mul-s c = omega (arith, cell-lt _ _ _ _ _ _ _ _ (c .before .before .before .before .before .before .before .before .before .piece-of .ensures) (c .before .before .before .before .before .before .before .before .cell-of .ensures))
 
 element-write-s : tie.Need-element-write-s Inv-loop μ-loop
-element-write-s c = omega (arith, cell-lt _ _ _ _ _ _ _ _ (c .before .before .before .before .before .before .before .before .before .piece-of .ensures) (c .before .before .before .before .before .before .before .before .place-of .ensures))
+element-write-s c = omega (arith, cell-lt _ _ _ _ _ _ _ _ (c .before .before .before .before .before .before .before .before .before .piece-of .ensures) (c .before .before .before .before .before .before .before .before .cell-of .ensures))
 
 busy-after-requires : tie.Need-busy-after-requires Inv-loop μ-loop
 busy-after-requires c κs = search needs
@@ -87,11 +87,11 @@ landed-after-requires c κs = search needs
 member-after-requires : tie.Need-member-after-requires Inv-loop μ-loop
 member-after-requires c κs = search needs
 
-mul-k : tie.Need-mul-k Inv-loop μ-loop
-mul-k c = omega (arith, rw (← c .before .before .before .before .before .before .before .before .before .before .before .before .before .before .before .before .before .before .index .ensures) at (index-lt (c .before .before .before .before .before .before .before .before .before .before .before .before .before .before .before .before .before .before .before .before .before .frame-at .result .slot)))
+mul-t59 : tie.Need-mul-t59 Inv-loop μ-loop
+mul-t59 c = omega (arith, rw (← c .before .before .before .before .before .before .before .before .before .before .before .before .before .before .before .before .before .index .ensures) at (index-lt (c .before .before .before .before .before .before .before .before .before .before .before .before .before .before .before .before .before .before .before .before .frame-at .result .slot)))
 
-element-set-from-k : tie.Need-element-set-from-k Inv-loop μ-loop
-element-set-from-k c = omega (arith, rw (← c .before .before .before .before .before .before .before .before .before .before .before .before .before .before .before .before .before .before .index .ensures) at (index-lt (c .before .before .before .before .before .before .before .before .before .before .before .before .before .before .before .before .before .before .before .before .before .frame-at .result .slot)))
+element-set-from-s : tie.Need-element-set-from-s Inv-loop μ-loop
+element-set-from-s c = omega (arith, rw (← c .before .before .before .before .before .before .before .before .before .before .before .before .before .before .before .before .before .index .ensures) at (index-lt (c .before .before .before .before .before .before .before .before .before .before .before .before .before .before .before .before .before .before .before .before .frame-at .result .slot)))
 
 is-relayed-requires : tie.Need-is-relayed-requires Inv-loop μ-loop
 is-relayed-requires c κs = search needs
@@ -105,37 +105,18 @@ totals-after-requires c κs = search needs
 landed-events-requires : tie.Need-landed-events-requires Inv-loop μ-loop
 landed-events-requires c κs = search needs
 
-lost-requires : tie.Need-lost-requires Inv-loop μ-loop
-lost-requires c κs = search needs
-
-with-if-requires : tie.Need-with-if-requires Inv-loop μ-loop
-with-if-requires c κs = search needs
-
-next-frame-requires : tie.Need-next-frame-requires Inv-loop μ-loop
-next-frame-requires c κs = fits (c .before .before .before .before .before .before .before .before .before .before .before .before .before .before .before .before .before .before .before .before .before .before .before .before .before .before .before .before .before .before .before .before .before .before .before .loop .inv) (c .before .before .before .before .before .before .before .before .before .before .before .before .before .before .before .before .before .before .before .before .before .before .before .before .before .before .before .before .before .before .before .before .before .if1 .taken) (c .before .before .before .before .before .before .before .before .before .before .before .before .before .before .before .before .before .before .before .before .before .before .before .before .before .before .before .before .before .before .before .before .frame-at .result) (c .before .before .before .before .before .before .before .before .before .before .before .before .before .before .before .before .before .before .before .before .before .before .before .before .before .before .before .before .before .before .before .before .frame-at .ensures) (c .before .before .before .before .before .before .before .before .before .before .before .before .before .before .before .before .before .before .before .before .before .before .before .before .before .before .before .before .before .before .before .before .before .before .before .before .before .before .before .before .good .1 .1 .1 .0 .0)
+next-piece-requires : tie.Need-next-piece-requires Inv-loop μ-loop
+next-piece-requires c κs = fits (c .before .before .before .before .before .before .before .before .before .before .before .before .before .before .before .before .before .before .before .before .before .before .before .before .before .before .before .before .before .before .before .before .loop .inv) (c .before .before .before .before .before .before .before .before .before .before .before .before .before .before .before .before .before .before .before .before .before .before .before .before .before .before .before .before .before .before .if1 .taken) (c .before .before .before .before .before .before .before .before .before .before .before .before .before .before .before .before .before .before .before .before .before .before .before .before .before .before .before .before .before .frame-at .result) (c .before .before .before .before .before .before .before .before .before .before .before .before .before .before .before .before .before .before .before .before .before .before .before .before .before .before .before .before .before .frame-at .ensures) (c .before .before .before .before .before .before .before .before .before .before .before .before .before .before .before .before .before .before .before .before .before .before .before .before .before .before .before .before .before .before .before .before .before .before .before .before .before .good .1 .1 .1 .0 .0)
 
 loop-less : tie.Need-loop-less Inv-loop μ-loop
-loop-less c = fewer (ap (λ (k : Rx). k .frame) (c .next-frame .ensures)) (c .before .before .before .before .before .before .before .before .before .before .before .before .before .before .before .before .before .before .before .before .before .before .before .before .before .before .before .before .before .before .before .before .before .before .if1 .taken)
+loop-less c = fewer (ap (λ (k : Rx). k .frame) (c .next-piece .ensures)) (c .before .before .before .before .before .before .before .before .before .before .before .before .before .before .before .before .before .before .before .before .before .before .before .before .before .before .before .before .before .before .before .if1 .taken)
 
 loop-again : tie.Need-loop-again Inv-loop μ-loop
 loop-again c =
-    turn-piece (c .before .before .before .before .before .before .before .before .before .before .before .before .before .before .before .before .before .before .before .before .before .before .before .before .before .before .before .before .before .before .before .before .before .before .before .before .loop .inv) (c .before .before .before .before .before .before .before .before .before .before .before .before .before .before .before .before .before .before .before .before .before .before .before .before .before .before .before .before .before .before .before .before .before .before .if1 .taken) (c .before .before .before .before .before .before .before .before .before .before .before .before .before .before .before .before .before .before .before .before .before .before .before .before .before .before .before .before .before .before .before .before .before .frame-at .result) (c .before .before .before .before .before .before .before .before .before .before .before .before .before .before .before .before .before .before .before .before .before .before .before .before .before .before .before .before .before .before .before .before .before .frame-at .ensures) Piece (kind-up _ _ (c .before .before .before .before .before .before .before .before .before .before .before .before .before .before .before .before .before .before .before .before .before .before .before .before .before .before .before .before .before .before .before .if2 .taken)) refl
-    (c .before .before .before .before .before .before .before .before .before .before .before .before .before .before .before .before .before .before .before .before .before .before .before .before .before .before .before .before .before .before .index .ensures)
-    (c .before .before .before .before .before .before .before .before .before .before .before .before .before .before .before .before .before .before .before .before .before .before .before .before .before .before .before .is-member .ensures)
-    (c .before .before .before .before .before .before .before .before .before .before .before .before .before .before .before .before .before .before .before .before .before .before .before .before .piece-of .ensures)
-    (c .before .before .before .before .before .before .before .before .before .before .before .before .before .before .before .before .before .before .before .before .before .before .before .place-of .ensures)
-    (c .before .before .before .before .before .before .before .before .before .before .before .before .before .before .before .before .before .before .before .before .take .ensures)
-    (c .before .before .before .before .before .before .before .before .before .before .before .before .before .before .before .owner-after .ensures)
-    (c .before .before .before .before .before .before .before .before .before .before .before .before .before .before .busy-after .ensures)
-    (c .before .before .before .before .before .before .before .before .before .before .before .before .before .landed-after .ensures)
-    (c .before .before .before .before .before .before .before .before .before .before .before .before .member-after .ensures)
-    (c .before .before .before .before .before .before .before .before .before .before .before .is-relayed .ensures)
-    (c .before .before .before .before .before .before .before .before .before .round-after .ensures)
-    (c .before .before .before .before .before .before .before .totals-after .ensures)
-    (c .before .before .before .before .before .landed-events .ensures)
-    (rw (c .before .before .lost .ensures) at (c .before .with-if .ensures))
-    (c .before .before .before .before .before .before .before .before .before .before .before .before .before .before .before .before .before .before .before .before .take .kept .1 .1 .1 .1 .1 .0)
-    (c .next-frame .ensures)
+    turn-piece (c .before .before .before .before .before .before .before .before .before .before .before .before .before .before .before .before .before .before .before .before .before .before .before .before .before .before .before .before .before .before .before .before .before .loop .inv) (c .before .before .before .before .before .before .before .before .before .before .before .before .before .before .before .before .before .before .before .before .before .before .before .before .before .before .before .before .before .before .before .if1 .taken) (c .before .before .before .before .before .before .before .before .before .before .before .before .before .before .before .before .before .before .before .before .before .before .before .before .before .before .before .before .before .before .frame-at .result) (c .before .before .before .before .before .before .before .before .before .before .before .before .before .before .before .before .before .before .before .before .before .before .before .before .before .before .before .before .before .before .frame-at .ensures) Piece (kind-up _ _ (c .before .before .before .before .before .before .before .before .before .before .before .before .before .before .before .before .before .before .before .before .before .before .before .before .before .before .before .before .if2 .taken)) refl
+    (c .before .before .before .before .before .before .before .before .before .before .before .before .before .before .before .before .before .before .before .before .before .before .before .before .before .before .before .index .ensures) (c .before .before .before .before .before .before .before .before .before .before .before .before .before .before .before .before .before .before .before .before .before .before .before .before .before .is-member .ensures) (c .before .before .before .before .before .before .before .before .before .before .before .before .before .before .before .before .before .before .before .before .before .before .piece-of .ensures) (c .before .before .before .before .before .before .before .before .before .before .before .before .before .before .before .before .before .before .before .before .before .cell-of .ensures) (c .before .before .before .before .before .before .before .before .before .before .before .before .before .before .before .before .before .before .take .ensures) (c .before .before .before .before .before .before .before .before .before .before .before .before .before .owner-after .ensures) (c .before .before .before .before .before .before .before .before .before .before .before .before .busy-after .ensures) (c .before .before .before .before .before .before .before .before .before .before .before .landed-after .ensures)
+    (c .before .before .before .before .before .before .before .before .before .before .member-after .ensures) (c .before .before .before .before .before .before .before .before .before .is-relayed .ensures) (c .before .before .before .before .before .before .before .round-after .ensures) (c .before .before .before .before .before .totals-after .ensures) (c .before .before .before .landed-events .ensures) refl
+    (c .before .before .before .before .before .before .before .before .before .before .before .before .before .before .before .before .before .before .take .kept .1 .1 .1 .1 .1 .0) (c .next-piece .ensures)
 
 control-byte-requires : tie.Need-control-byte-requires Inv-loop μ-loop
 control-byte-requires c κs = search needs
@@ -167,29 +148,29 @@ byte-in-requires-2 c κs = search needs
 report-member-requires : tie.Need-report-member-requires Inv-loop μ-loop
 report-member-requires c κs = search needs
 
-mul-k-2 : tie.Need-mul-k-2 Inv-loop μ-loop
-mul-k-2 c = omega (arith, rw (← c .before .before .before .before .index2 .ensures) at (index-lt (c .before .before .before .before .before .before .byte-in .result)))
+mul-t78 : tie.Need-mul-t78 Inv-loop μ-loop
+mul-t78 c = omega (arith, rw (← c .before .before .before .before .index2 .ensures) at (index-lt (c .before .before .before .before .before .before .byte-in .result)))
 
-element-set-from-k-2 : tie.Need-element-set-from-k-2 Inv-loop μ-loop
-element-set-from-k-2 c = omega (arith, rw (← c .before .before .before .before .index2 .ensures) at (index-lt (c .before .before .before .before .before .before .byte-in .result)))
+element-set-from-s-2 : tie.Need-element-set-from-s-2 Inv-loop μ-loop
+element-set-from-s-2 c = omega (arith, rw (← c .before .before .before .before .index2 .ensures) at (index-lt (c .before .before .before .before .before .before .byte-in .result)))
 
 report-hears-requires : tie.Need-report-hears-requires Inv-loop μ-loop
 report-hears-requires c κs = search needs
 
-mul-b : tie.Need-mul-b Inv-loop μ-loop
-mul-b c = omega (arith, rw (← c .before .before .before .before .before .before .index2 .ensures) at (index-lt (c .before .before .before .before .before .before .before .before .byte-in .result)))
+mul-report-queue : tie.Need-mul-report-queue Inv-loop μ-loop
+mul-report-queue c = omega (arith, rw (← c .before .before .before .before .before .before .index2 .ensures) at (index-lt (c .before .before .before .before .before .before .before .before .byte-in .result)))
 
-element-copy-out-b : tie.Need-element-copy-out-b Inv-loop μ-loop
-element-copy-out-b c = omega (arith, rw (← c .before .before .before .before .before .before .index2 .ensures) at (index-lt (c .before .before .before .before .before .before .before .before .byte-in .result)))
+element-copy-out-report-queue : tie.Need-element-copy-out-report-queue Inv-loop μ-loop
+element-copy-out-report-queue c = omega (arith, rw (← c .before .before .before .before .before .before .index2 .ensures) at (index-lt (c .before .before .before .before .before .before .before .before .byte-in .result)))
 
 report-queue-requires : tie.Need-report-queue-requires Inv-loop μ-loop
 report-queue-requires c κs = search needs
 
-mul-d : tie.Need-mul-d Inv-loop μ-loop
-mul-d c = omega (arith, rw (← c .before .before .before .before .before .before .before .before .index2 .ensures) at (index-lt (c .before .before .before .before .before .before .before .before .before .before .byte-in .result)))
+mul-t90 : tie.Need-mul-t90 Inv-loop μ-loop
+mul-t90 c = omega (arith, rw (← c .before .before .before .before .before .before .before .before .index2 .ensures) at (index-lt (c .before .before .before .before .before .before .before .before .before .before .byte-in .result)))
 
-element-set-from-d : tie.Need-element-set-from-d Inv-loop μ-loop
-element-set-from-d c = omega (arith, rw (← c .before .before .before .before .before .before .before .before .index2 .ensures) at (index-lt (c .before .before .before .before .before .before .before .before .before .before .byte-in .result)))
+element-set-from-s-3 : tie.Need-element-set-from-s-3 Inv-loop μ-loop
+element-set-from-s-3 c = omega (arith, rw (← c .before .before .before .before .before .before .before .before .index2 .ensures) at (index-lt (c .before .before .before .before .before .before .before .before .before .before .byte-in .result)))
 
 is-pending-requires : tie.Need-is-pending-requires Inv-loop μ-loop
 is-pending-requires c κs = search needs
@@ -224,16 +205,16 @@ went c =
     (λ w. rw (w .1, w .2, w .3, w .4) (went-none (c .before .before .before .before .before .before .before .loop .inv) (c .before .before .before .before .before .if1 .taken) (c .before .before .before .before .frame-at .result) (c .before .before .before .before .frame-at .ensures) (is-none len (w .0 .rest .0 .0 .0 .1) (w .0 .rest .0 .0 .1) (w .0 .rest .0 .1) (w .0 .rest .1) ∙ byte))))))))
     (c .match .came)
 
-next-frame-requires-2 : tie.Need-next-frame-requires-2 Inv-loop μ-loop
-next-frame-requires-2 c κs =
+next-frame-requires : tie.Need-next-frame-requires Inv-loop μ-loop
+next-frame-requires c κs =
     let r = went c in
     rw (r .word, r .frame) (fits (c .before .before .before .before .before .before .before .loop .inv) (c .before .before .before .before .before .if1 .taken) (c .before .before .before .before .frame-at .result) (c .before .before .before .before .frame-at .ensures) (c .before .before .before .before .before .before .before .before .before .before .before .before .good .1 .1 .1 .0 .0))
 
 loop-less-2 : tie.Need-loop-less-2 Inv-loop μ-loop
-loop-less-2 c = fewer (ap (λ (k : Rx). k .frame) (c .next-frame2 .ensures) ∙ (rw (went (c .before) .frame))) (c .before .before .before .before .before .before .if1 .taken)
+loop-less-2 c = fewer (ap (λ (k : Rx). k .frame) (c .next-frame .ensures) ∙ (rw (went (c .before) .frame))) (c .before .before .before .before .before .before .if1 .taken)
 
 loop-again-2 : tie.Need-loop-again-2 Inv-loop μ-loop
-loop-again-2 c = went (c .before) .on (c .next-frame2 .ensures)
+loop-again-2 c = went (c .before) .on (c .next-frame .ensures)
 
 ending-of-requires : tie.Need-ending-of-requires Inv-loop μ-loop
 ending-of-requires c κs = search needs
@@ -253,26 +234,26 @@ element-copy-out-m-3 c = omega (arith, rw (← c .index3 .ensures) at (index-lt 
 end-member-requires : tie.Need-end-member-requires Inv-loop μ-loop
 end-member-requires c κs = search needs
 
-mul-k-3 : tie.Need-mul-k-3 Inv-loop μ-loop
-mul-k-3 c = omega (arith, rw (← c .before .before .index3 .ensures) at (index-lt (c .before .before .before .before .ending-of .result .slot)))
+mul-k : tie.Need-mul-k Inv-loop μ-loop
+mul-k c = omega (arith, rw (← c .before .before .index3 .ensures) at (index-lt (c .before .before .before .before .ending-of .result .slot)))
 
-element-set-from-k-3 : tie.Need-element-set-from-k-3 Inv-loop μ-loop
-element-set-from-k-3 c = omega (arith, rw (← c .before .before .index3 .ensures) at (index-lt (c .before .before .before .before .ending-of .result .slot)))
+element-set-from-k : tie.Need-element-set-from-k Inv-loop μ-loop
+element-set-from-k c = omega (arith, rw (← c .before .before .index3 .ensures) at (index-lt (c .before .before .before .before .ending-of .result .slot)))
 
-mul-y : tie.Need-mul-y Inv-loop μ-loop
-mul-y c = omega (arith, rw (← c .before .before .index3 .ensures) at (index-lt (c .before .before .before .before .ending-of .result .slot)))
+mul-end-recent : tie.Need-mul-end-recent Inv-loop μ-loop
+mul-end-recent c = omega (arith, rw (← c .before .before .index3 .ensures) at (index-lt (c .before .before .before .before .ending-of .result .slot)))
 
-element-copy-out-y : tie.Need-element-copy-out-y Inv-loop μ-loop
-element-copy-out-y c = omega (arith, rw (← c .before .before .index3 .ensures) at (index-lt (c .before .before .before .before .ending-of .result .slot)))
+element-copy-out-end-recent : tie.Need-element-copy-out-end-recent Inv-loop μ-loop
+element-copy-out-end-recent c = omega (arith, rw (← c .before .before .index3 .ensures) at (index-lt (c .before .before .before .before .ending-of .result .slot)))
 
 end-recent-requires : tie.Need-end-recent-requires Inv-loop μ-loop
 end-recent-requires c κs = search needs
 
-mul-z : tie.Need-mul-z Inv-loop μ-loop
-mul-z c = omega (arith, rw (← c .before .before .before .before .index3 .ensures) at (index-lt (c .before .before .before .before .before .before .ending-of .result .slot)))
+mul-t114 : tie.Need-mul-t114 Inv-loop μ-loop
+mul-t114 c = omega (arith, rw (← c .before .before .before .before .index3 .ensures) at (index-lt (c .before .before .before .before .before .before .ending-of .result .slot)))
 
-element-set-from-z : tie.Need-element-set-from-z Inv-loop μ-loop
-element-set-from-z c = omega (arith, rw (← c .before .before .before .before .index3 .ensures) at (index-lt (c .before .before .before .before .before .before .ending-of .result .slot)))
+element-set-from-s-4 : tie.Need-element-set-from-s-4 Inv-loop μ-loop
+element-set-from-s-4 c = omega (arith, rw (← c .before .before .before .before .index3 .ensures) at (index-lt (c .before .before .before .before .before .before .ending-of .result .slot)))
 
 ack-level-requires : tie.Need-ack-level-requires Inv-loop μ-loop
 ack-level-requires c κs = search needs
@@ -292,11 +273,11 @@ element-copy-out-c c = omega (arith, rw (← c .index4 .ensures) at (index-lt (c
 end-source-requires : tie.Need-end-source-requires Inv-loop μ-loop
 end-source-requires c κs = search needs
 
-mul-d-2 : tie.Need-mul-d-2 Inv-loop μ-loop
-mul-d-2 c = omega (arith, rw (← c .before .before .before .before .index4 .ensures) at (index-lt (c .before .before .before .before .before .before .before .before .before .before .before .before .before .before .before .before .ending-of .result .reply .relayfor)))
+mul-d : tie.Need-mul-d Inv-loop μ-loop
+mul-d c = omega (arith, rw (← c .before .before .before .before .index4 .ensures) at (index-lt (c .before .before .before .before .before .before .before .before .before .before .before .before .before .before .before .before .ending-of .result .reply .relayfor)))
 
-element-set-from-d-2 : tie.Need-element-set-from-d-2 Inv-loop μ-loop
-element-set-from-d-2 c = omega (arith, rw (← c .before .before .before .before .index4 .ensures) at (index-lt (c .before .before .before .before .before .before .before .before .before .before .before .before .before .before .before .before .ending-of .result .reply .relayfor)))
+element-set-from-d : tie.Need-element-set-from-d Inv-loop μ-loop
+element-set-from-d c = omega (arith, rw (← c .before .before .before .before .index4 .ensures) at (index-lt (c .before .before .before .before .before .before .before .before .before .before .before .before .before .before .before .before .ending-of .result .reply .relayfor)))
 
 end-wait-requires : tie.Need-end-wait-requires Inv-loop μ-loop
 end-wait-requires c κs = search needs
@@ -333,12 +314,12 @@ read-burst-spec =
     element-copy-out-m
     is-member-requires
     piece-of-requires
-    place-of-requires
-    mul-before
-    element-copy-out-before
+    cell-of-requires
+    mul-take
+    element-copy-out-take
     take-requires
-    mul-after
-    element-set-from-after
+    mul-cell
+    element-set-from-cell
     mul-owner-after
     element-copy-out-owner-after
     owner-after-requires
@@ -347,15 +328,13 @@ read-burst-spec =
     busy-after-requires
     landed-after-requires
     member-after-requires
-    mul-k
-    element-set-from-k
+    mul-t59
+    element-set-from-s
     is-relayed-requires
     round-after-requires
     totals-after-requires
     landed-events-requires
-    lost-requires
-    with-if-requires
-    next-frame-requires
+    next-piece-requires
     loop-less
     loop-again
     control-byte-requires
@@ -368,19 +347,19 @@ read-burst-spec =
     is-forwarded-requires
     byte-in-requires-2
     report-member-requires
-    mul-k-2
-    element-set-from-k-2
+    mul-t78
+    element-set-from-s-2
     report-hears-requires
-    mul-b
-    element-copy-out-b
+    mul-report-queue
+    element-copy-out-report-queue
     report-queue-requires
-    mul-d
-    element-set-from-d
+    mul-t90
+    element-set-from-s-3
     is-pending-requires
     report-rx-requires
     overheard-requires
     kids-requires
-    next-frame-requires-2
+    next-frame-requires
     loop-less-2
     loop-again-2
     ending-of-requires
@@ -389,21 +368,21 @@ read-burst-spec =
     mul-m-3
     element-copy-out-m-3
     end-member-requires
-    mul-k-3
-    element-set-from-k-3
-    mul-y
-    element-copy-out-y
+    mul-k
+    element-set-from-k
+    mul-end-recent
+    element-copy-out-end-recent
     end-recent-requires
-    mul-z
-    element-set-from-z
+    mul-t114
+    element-set-from-s-4
     ack-level-requires
     put-end-requires
     index-requires-4
     mul-c
     element-copy-out-c
     end-source-requires
-    mul-d-2
-    element-set-from-d-2
+    mul-d
+    element-set-from-d
     end-wait-requires
     end-totals-requires
     same-length
