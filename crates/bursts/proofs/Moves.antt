@@ -25,23 +25,23 @@ use Rattle.roster.proofs.Silent.{tally-same}
 use Rattle.net.specs.declared.Station.{Station}
 use Rattle.net.specs.State.{withRound, withTreenews, withRecent, recentAt}
 use Rattle.net.specs.Net.{Said, said}
-use Rattle.bursts.specs.Rows.{seated, maskWhere}
-use Rattle.bursts.specs.Reroute.{withSeated, ableOf, promotedBy, recentBy, promoteWith, promoteAt, newRelay, moveTo, mustMove, moveAt, moveAll, leavesOf}
+use Rattle.bursts.specs.Rows.{memberIn, maskWhere}
+use Rattle.bursts.specs.Reroute.{withMemberIn, ableOf, promotedBy, recentBy, promoteWith, promoteAt, newRelay, moveTo, mustMove, moveAt, moveAll, leavesOf}
 use Rattle.bursts.proofs.Masks.{mask-without}
 use Rattle.bursts.proofs.Saying.{ahead, fold-ahead}
 
 -- the station with another member in slot i, the total of silent boats with it, and other news
 abbrev pub changed : Station → ℕ → Member → ℕ → Station
-changed s i m news = withRound (withSeated s i m) (withTreenews (s .round) news)
+changed s i m news = withRound (withMemberIn s i m) (withTreenews (s .round) news)
 
 -- where nothing changes
-changed-none : (s : Station) (i : ℕ) (ws : List ℕ) → said s ws ≡ said (changed s i (seated s i) (s .round .treenews)) (ws ++ [])
+changed-none : (s : Station) (i : ℕ) (ws : List ℕ) → said s ws ≡ said (changed s i (memberIn s i) (s .round .treenews)) (ws ++ [])
 changed-none s i ws = rw (tally-same, set-getD, append-nil)
 
 -- a leaf that was heard directly at x leaves its relay; Unheard: it stays
 abbrev pub promotedIn : Level → ℕ → Station → Station
 promotedIn x i s =
-    withRecent (changed s i (promotedBy x (seated s i)) (cond (isHeard x) (withBit (s .round .treenews) i) (s .round .treenews)))
+    withRecent (changed s i (promotedBy x (memberIn s i)) (cond (isHeard x) (withBit (s .round .treenews) i) (s .round .treenews)))
     (set (s .recent) i (recentBy x (recentAt s i)))
 
 promote-by : (x : Level) (i : ℕ) (s : Station) (ws : List ℕ)
@@ -50,7 +50,7 @@ promote-by Unheard i s ws = changed-none s i ws ∙ rw (set-getD (s .recent) i n
 promote-by (Decibels snr) i s ws = refl
 
 -- x: the level at which the boat in slot i was heard directly, where it is to leave its relay
-pub promote-turn : (floor : Float) (i : ℕ) (s : Station) (x : Level) → x ≡ promotableAt (hasBit (s .used) i) (seated s i) floor → (ws : List ℕ)
+pub promote-turn : (floor : Float) (i : ℕ) (s : Station) (x : Level) → x ≡ promotableAt (hasBit (s .used) i) (memberIn s i) floor → (ws : List ℕ)
     → promoteAt floor i (said s ws) ≡ said (promotedIn x i s) (ws ++ cond (isHeard x) (eventWord 5 i 63 ∷ []) [])
 unfolding promoteAt
 promote-turn floor i s x e ws = ap (λ (y : Level). promoteWith y i (said s ws)) (sym e) ∙ promote-by x i s ws
@@ -58,10 +58,10 @@ promote-turn floor i s x e ws = ap (λ (y : Level). promoteWith y i (said s ws))
 -- a leaf goes to slot r; 63: it stays
 abbrev pub movedTo : ℕ → ℕ → Station → Station
 movedTo r c s =
-    changed s c (cond (eqb r 63) (seated s c) (reroutedTo (seated s c) r)) (cond (not (eqb r 63)) (withBit (s .round .treenews) c) (s .round .treenews))
+    changed s c (cond (eqb r 63) (memberIn s c) (reroutedTo (memberIn s c) r)) (cond (not (eqb r 63)) (withBit (s .round .treenews) c) (s .round .treenews))
 
 move-by : (t : Bool) (r c : ℕ) (s : Station) (ws : List ℕ)
-    → cond t (said s ws) (said (changed s c (reroutedTo (seated s c) r) (withBit (s .round .treenews) c)) (ws ++ (eventWord 5 c r ∷ []))) ≡ said (changed s c (cond t (seated s c) (reroutedTo (seated s c) r)) (cond (not t) (withBit (s .round .treenews) c) (s .round .treenews))) (ws ++ cond (not t) (eventWord 5 c r ∷ []) [])
+    → cond t (said s ws) (said (changed s c (reroutedTo (memberIn s c) r) (withBit (s .round .treenews) c)) (ws ++ (eventWord 5 c r ∷ []))) ≡ said (changed s c (cond t (memberIn s c) (reroutedTo (memberIn s c) r)) (cond (not t) (withBit (s .round .treenews) c) (s .round .treenews))) (ws ++ cond (not t) (eventWord 5 c r ∷ []) [])
 move-by true r c s ws = changed-none s c ws
 move-by false r c s ws = refl
 
@@ -116,7 +116,7 @@ unfolding moveAt
 ahead-at leaves ws c x =
     let s = x .station in
     let r = newRelay s c in
-    ahead-by (mustMove leaves s c) (eqb r 63) (changed s c (reroutedTo (seated s c) r) (withBit (s .round .treenews) c)) x ws (eventWord 5 c r ∷ [])
+    ahead-by (mustMove leaves s c) (eqb r 63) (changed s c (reroutedTo (memberIn s c) r) (withBit (s .round .treenews) c)) x ws (eventWord 5 c r ∷ [])
 
 -- words said before it stand before what it says
 pub move-ahead : (ws : List ℕ) (x : Said) → moveAll (ahead ws x) ≡ ahead ws (moveAll x)

@@ -11,7 +11,7 @@ use Rattle.bits.specs.Loop.{fold}
 use Rattle.bits.specs.Mask.{hasBit, withoutBit, bothOf, eitherOf, minusOf, lowestBit}
 use Rattle.bits.specs.declared.Found.{Found}
 use Rattle.bits.specs.declared.Found.the-variants as found
-use Rattle.level.specs.Consts.{nought}
+use Rattle.level.specs.Consts.{zeroTime}
 use Rattle.level.specs.Order.{isNan}
 use Rattle.rounding.specs.Round.{announced}
 use Rattle.wire.specs.Call.{packCall}
@@ -24,7 +24,7 @@ use Rattle.net.specs.declared.Settings.{Settings}
 use Rattle.net.specs.declared.Turn.the-variants.{Sending}
 use Rattle.net.specs.State.{withWait, withRound, withMembers, withToack, withTreenews, withRxdirty, withBeacon, oneList}
 use Rattle.net.specs.Net.{plus, times, membersIn, waitOf, tinyWave, capFor, slotLen, Said, said}
-use Rattle.bursts.specs.Rows.{seated, leastOf, ackRows, ackRowsOn, treeRows, listRows, anyHoles, leastReach, leastDirect}
+use Rattle.bursts.specs.Rows.{memberIn, leastOf, ackRows, ackRowsOn, treeRows, listRows, anyHoles, leastReach, leastDirect}
 
 -- the head of a burst, and of one without frames
 abbrev pub headWords : ℕ → ℕ → ℕ → ℕ → List ℕ
@@ -168,7 +168,7 @@ beaconWords s =
 -- now + dur + turnaround + window_slots * slot_len + 0.0 (no chorus) + reply_slack, of a beacon with this many frames after the first
 abbrev pub windowEnd : Settings → Float → ℕ → Float
 windowEnd g now acks =
-    plus (plus (plus (plus (plus now (beaconLasts g acks)) (g .turnaround)) (times (ofInt binary64 (pos (g .windowslots))) (slotLen g))) nought) (g .replyslack)
+    plus (plus (plus (plus (plus now (beaconLasts g acks)) (g .turnaround)) (times (ofInt binary64 (pos (g .windowslots))) (slotLen g))) zeroTime) (g .replyslack)
 
 -- those waiting and not listed go on waiting
 unfoldable pub beaconOf : Station → Float → Said
@@ -183,7 +183,7 @@ abbrev pub tellOf : Bool → Member → Member
 tellOf here m = cond (here && isNews m) (toldNow m) m
 
 abbrev pub tellAt : ℕ → Station → Station
-tellAt i s = withMembers s (set (s .members) i (tellOf (hasBit (s .used) i) (seated s i)))
+tellAt i s = withMembers s (set (s .members) i (tellOf (hasBit (s .used) i) (memberIn s i)))
 
 unfoldable pub tellAll : Station → Station
 tellAll s = fold tellAt 62 0 s

@@ -17,7 +17,7 @@ use Rattle.net.specs.declared.Station.{Station}
 use Rattle.net.specs.declared.Settings.{Settings}
 use Rattle.net.specs.State.{queueAt, withQueue, withRound, withTraffic}
 use Rattle.net.specs.Net.{isMember, Said, said}
-use Rattle.bursts.specs.Rows.{seated, reachLevel}
+use Rattle.bursts.specs.Rows.{memberIn, reachLevel}
 use Rattle.bursts.specs.Bursts.{headWords, sends}
 
 -- ---- to whom: before the poll of a slot the slot itself, then the boats relayed by it in slot order; the first with something to send, not sent to in this round
@@ -27,7 +27,7 @@ hasWord s slot = isMember (s .used) slot && isDue (queueAt s slot) (s .round .nu
 
 -- the boat in slot i has `slot` for its relay; 63 is none
 abbrev pub leafOf : Station → ℕ → ℕ → Bool
-leafOf s slot i = eqb (seated s i .via) slot && not (eqb slot 63)
+leafOf s slot i = eqb (memberIn s i .via) slot && not (eqb slot 63)
 
 -- of the boats relayed by the slot
 abbrev pub leafWord : Station → ℕ → ℕ → Bool

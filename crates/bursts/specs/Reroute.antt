@@ -19,25 +19,25 @@ use Rattle.net.specs.declared.Station.{Station}
 use Rattle.net.specs.State.{withMembers, withTotals, memberAt, alsoNews, tallied, emptied}
 use Rattle.net.specs.Net.{isMember, Said, said}
 use Rattle.bursts.specs.declared.reroute.Surveyed.{Surveyed}
-use Rattle.bursts.specs.Rows.{seated, maskWhere}
+use Rattle.bursts.specs.Rows.{memberIn, maskWhere}
 
 -- ---- what one look over the members finds
 
 abbrev pub ableAt : Station → ℕ → Bool
-ableAt s i = hasBit (s .used) i && couldRelay (seated s i)
+ableAt s i = hasBit (s .used) i && couldRelay (memberIn s i)
 
 abbrev pub ableOf : Station → ℕ
 ableOf s = maskWhere (ableAt s)
 
 abbrev pub needsAt : Station → ℕ → Bool
-needsAt s i = hasBit (s .used) i && needsRelay (seated s i)
+needsAt s i = hasBit (s .used) i && needsRelay (memberIn s i)
 
 abbrev pub needsOf : Station → ℕ
 needsOf s = maskWhere (needsAt s)
 
 -- the relayers tried for each slot
 abbrev pub triedAt : Station → ℕ → List ℕ → List ℕ
-triedAt s i ts = set ts i (seated s i .tried)
+triedAt s i ts = set ts i (memberIn s i .tried)
 
 unfoldable pub triedOf : Station → List ℕ
 triedOf s = fold (triedAt s) 62 0 (replicate 62 0)
@@ -50,8 +50,8 @@ abbrev pub surveyOf : Station → Surveyed
 surveyOf s = record { able = ableOf s; needs = needsOf s; tried = triedOf s }
 
 -- a boat that changes its relay starts anew with no missed poll: the total of silent boats goes with it
-abbrev pub withSeated : Station → ℕ → Member → Station
-withSeated s i k = withTotals (withMembers s (set (s .members) i k)) (tallied s (seated s i) k)
+abbrev pub withMemberIn : Station → ℕ → Member → Station
+withMemberIn s i k = withTotals (withMembers s (set (s .members) i k)) (tallied s (memberIn s i) k)
 
 -- ---- promotion, for all at once
 
@@ -71,11 +71,11 @@ recentBy (Decibels snr) r = empty
 abbrev pub promoteWith : Level → ℕ → Said → Said
 promoteWith Unheard i x = x
 promoteWith (Decibels snr) i x =
-    said (alsoNews (emptied (withSeated (x .station) i (promotedAt (seated (x .station) i) snr)) i) i)
+    said (alsoNews (emptied (withMemberIn (x .station) i (promotedAt (memberIn (x .station) i) snr)) i) i)
     (x .words ++ (eventWord 5 i 63 ∷ []))
 
 unfoldable pub promoteAt : Float → ℕ → Said → Said
-promoteAt floor i x = promoteWith (promotableAt (hasBit (x .station .used) i) (seated (x .station) i) floor) i x
+promoteAt floor i x = promoteWith (promotableAt (hasBit (x .station .used) i) (memberIn (x .station) i) floor) i x
 
 unfoldable pub promoteAll : Station → Said
 promoteAll s = fold (promoteAt (floorOf s)) 62 0 (said s [])
@@ -84,7 +84,7 @@ promoteAll s = fold (promoteAt (floorOf s)) 62 0 (said s [])
 
 -- leaves, and members never heard directly that keep missing their polls
 abbrev pub leafAt : Station → ℕ → Bool
-leafAt s i = hasBit (s .used) i && isLeaf (seated s i) (s .settings .misslimit)
+leafAt s i = hasBit (s .used) i && isLeaf (memberIn s i) (s .settings .misslimit)
 
 abbrev pub leavesOf : Station → ℕ
 leavesOf s = maskWhere (leafAt s)
@@ -98,18 +98,18 @@ abbrev pub relayFrom : List ℕ → ℕ → ℕ → ℕ → Float → ℕ
 relayFrom hears able via c floor = bestHigh hears (withoutBit (withoutBit able c) via) c floor
 
 abbrev pub newRelay : Station → ℕ → ℕ
-newRelay s c = relayFrom (s .hears) (ableOf s) (seated s c .via) c (s .settings .relaysnr)
+newRelay s c = relayFrom (s .hears) (ableOf s) (memberIn s c .via) c (s .settings .relaysnr)
 
 abbrev pub moveTo : ℕ → ℕ → Said → Said
 moveTo r c x =
     cond (eqb r 63) x
-    (said (alsoNews (withSeated (x .station) c (reroutedTo (seated (x .station) c) r)) c)
+    (said (alsoNews (withMemberIn (x .station) c (reroutedTo (memberIn (x .station) c) r)) c)
     (x .words ++ (eventWord 5 c r ∷ [])))
 
 -- slot c is one of the leaves, and to be moved
 abbrev pub mustMove : ℕ → Station → ℕ → Bool
 mustMove leaves s c =
-    hasBit leaves c && isDown (s .used) (seated s c) (memberAt s (seated s c .via)) (s .settings .misslimit)
+    hasBit leaves c && isDown (s .used) (memberIn s c) (memberAt s (memberIn s c .via)) (s .settings .misslimit)
 
 unfoldable pub moveAt : ℕ → ℕ → Said → Said
 moveAt leaves c x = cond (mustMove leaves (x .station) c) (moveTo (newRelay (x .station) c) c x) x

@@ -18,8 +18,8 @@ use Rattle.net.specs.State.{memberAt}
 use Rattle.net.specs.Net.{isMember, downLevel}
 
 -- the member in slot i, of the 62
-abbrev pub seated : Station → ℕ → Member
-seated s i = getD (s .members) i noMember
+abbrev pub memberIn : Station → ℕ → Member
+memberIn s i = getD (s .members) i noMember
 
 -- the slots below 62 of which p holds
 abbrev pub markIf : (ℕ → Bool) → ℕ → ℕ → ℕ
@@ -45,7 +45,7 @@ rowsOf p row = rowsOn p row []
 
 -- slot and packed call of the members in the mask, `most` rows in all
 abbrev pub ackRow : Station → ℕ → List ℕ
-ackRow s i = i ∷ packCall (seated s i .call)
+ackRow s i = i ∷ packCall (memberIn s i .call)
 
 abbrev pub ackAt : ℕ → ℕ → ℕ → List ℕ → Bool
 ackAt mask most i bs = hasBit mask i && ltb (length bs / 6) most
@@ -58,27 +58,27 @@ ackRows s mask most = ackRowsOn s mask most []
 
 -- a leaf and its relay, or a member that moved
 abbrev pub treeRow : Station → ℕ → List ℕ
-treeRow s i = i ∷ seated s i .via ∷ []
+treeRow s i = i ∷ memberIn s i .via ∷ []
 
 abbrev pub treeAt : Station → ℕ → ℕ → ℕ → List ℕ → Bool
-treeAt s mask moved i bs = hasBit mask i && (not (eqb (seated s i .via) 63) || hasBit moved i)
+treeAt s mask moved i bs = hasBit mask i && (not (eqb (memberIn s i .via) 63) || hasBit moved i)
 
 abbrev pub treeRows : Station → ℕ → ℕ → List ℕ
 treeRows s mask moved = rowsOf (treeAt s mask moved) (treeRow s)
 
 -- the first message that is missing, mod 256, and which of the eight after it are there
 abbrev pub listRow : Station → ℕ → List ℕ
-listRow s i = i ∷ (seated s i .up .next % 256) ∷ bitmapOf (seated s i .up) ∷ []
+listRow s i = i ∷ (memberIn s i .up .next % 256) ∷ bitmapOf (memberIn s i .up) ∷ []
 
 abbrev pub listAt : Station → ℕ → List ℕ → Bool
-listAt s i bs = hasBit (s .used) i && isNews (seated s i)
+listAt s i bs = hasBit (s .used) i && isNews (memberIn s i)
 
 abbrev pub listRows : Station → List ℕ
 listRows s = rowsOf (listAt s) (listRow s)
 
 -- some member has whole messages past one that is missing
 abbrev pub holeAt : Station → ℕ → Bool
-holeAt s i = hasBit (s .used) i && holesOf (seated s i .up)
+holeAt s i = hasBit (s .used) i && holesOf (memberIn s i .up)
 
 abbrev pub anyHoles : Station → Bool
 anyHoles s = any (holeAt s) 62 0
@@ -100,7 +100,7 @@ abbrev pub reachBy : Settings → ℕ → Member → Member → ℕ
 reachBy g used m p = cond (isMember used (m .via)) (downLevel g p) (downLevel g m)
 
 abbrev pub reachLevel : Station → ℕ → ℕ
-reachLevel s i = reachBy (s .settings) (s .used) (seated s i) (memberAt s (seated s i .via))
+reachLevel s i = reachBy (s .settings) (s .used) (memberIn s i) (memberAt s (memberIn s i .via))
 
 -- of the members in the mask
 abbrev pub reachAt : Station → ℕ → ℕ → ℕ → ℕ
@@ -112,7 +112,7 @@ leastReach s mask = orFloor (fold (reachAt s mask) 62 0 17)
 -- of the members that are polled directly
 abbrev pub directAt : Station → ℕ → ℕ → ℕ
 directAt s i lev =
-    leastIf lev (hasBit (s .used) i && isDirect (seated s i) (s .settings .misslimit)) (downLevel (s .settings) (seated s i))
+    leastIf lev (hasBit (s .used) i && isDirect (memberIn s i) (s .settings .misslimit)) (downLevel (s .settings) (memberIn s i))
 
 unfoldable pub leastDirect : Station → ℕ
 leastDirect s = orFloor (fold (directAt s) 62 0 17)

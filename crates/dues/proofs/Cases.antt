@@ -5,7 +5,7 @@ use Prim.Native.Nat.{ℕ}
 use lib.ListN.{replicate}
 use Rattle.bits.specs.Loop.{every}
 use Rattle.bits.specs.Mask.{hasBit}
-use Rattle.level.specs.Consts.{nought}
+use Rattle.level.specs.Consts.{zeroTime}
 use Rattle.roster.specs.Members.{newMember}
 use Rattle.net.specs.declared.Station.{Station}
 use Rattle.net.specs.declared.Settings.{Settings}
@@ -21,7 +21,7 @@ charge-cases = (refl, refl, refl, refl, refl, refl, refl, refl, refl, refl)
 -- two boats, in slots 0 and 1; the relay of the second is in slot r
 abbrev two : Settings → ℕ → Station
 two g r =
-    withUsed (withMembers (newStation g 1) (newMember blankCall 63 nought ∷ newMember blankCall r nought ∷ replicate 60 (newMember blankCall 63 nought))) 3
+    withUsed (withMembers (newStation g 1) (newMember blankCall 63 zeroTime ∷ newMember blankCall r zeroTime ∷ replicate 60 (newMember blankCall 63 zeroTime))) 3
 
 -- the figure of slot 2, which is empty, is charged nothing
 abbrev month : List ℕ

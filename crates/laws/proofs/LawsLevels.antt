@@ -11,7 +11,7 @@ use lib.IntN.{pos}
 use Rattle.bits.proofs.Lists.{cond-keeps}
 use Rattle.level.specs.declared.Level.{Level}
 use Rattle.level.specs.declared.Level.the-variants.{Unheard, Decibels}
-use Rattle.level.specs.Consts.{nought, half, twentyFour}
+use Rattle.level.specs.Consts.{zeroTime, half, twentyFour}
 use Rattle.level.specs.Levels.{smoothed}
 use Rattle.rounding.proofs.Between.{smoothed-between}
 use Rattle.wire.specs.Fields.{fieldDb, snrFromQ}
@@ -91,7 +91,7 @@ each-kept =
 
 station-fits : (g : Settings) (count : ℕ) → Fits (newStation g count)
 unfolding newStation
-station-fits g count = every-new MemberFits 62 (newMember blankCall 63 nought) (tt, tt) (tt, tt)
+station-fits g count = every-new MemberFits 62 (newMember blankCall 63 zeroTime) (tt, tt) (tt, tt)
 
 -- ---- the law
 

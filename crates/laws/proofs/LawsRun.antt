@@ -37,12 +37,12 @@ use Rattle.rx.specs.Reception.{ncsRx}
 use Rattle.station.specs.Entries.{admitRefusal, admitOf, receiveRefusal, receiveOf, cellRefusal, freeOf}
 use Rattle.promise.specs.Promise.{another, Net, Call, admission, reception, freeing, result, step, after}
 use Rattle.laws.specs.Laws.{Placed, from, SameJoined, wentAll, wentWith, inCells, StoresOk, cellNow, piecesNow, AllCut, noneYet, Up, both, boxAfter, IsUp, Cells, LandsNone}
-use Rattle.promise.proofs.Runs.{nought, joins, hears, one-cell}
+use Rattle.promise.proofs.Runs.{zeroTime, joins, hears, one-cell}
 use Rattle.promise.proofs.Alike.{three-cells}
 
 -- boat B is admitted, to slot 1
 abbrev joins-too : Call
-joins-too = admission (packCall (66 ∷ 32 ∷ 32 ∷ 32 ∷ 32 ∷ 32 ∷ 32 ∷ [])) 63 nought 8192
+joins-too = admission (packCall (66 ∷ 32 ∷ 32 ∷ 32 ∷ 32 ∷ 32 ∷ 32 ∷ [])) 63 zeroTime 8192
 
 abbrev two-boats : Net → Net
 two-boats n = after (joins ∷ joins-too ∷ []) n
@@ -58,7 +58,7 @@ y = record { slot = 1; field = 2; bytes = 7 ∷ [] }
 
 -- the bursts that they come in
 abbrev air : Air
-air = record { level = nought; time = nought; aside = false; polled = 255; start = 3 }
+air = record { level = zeroTime; time = zeroTime; aside = false; polled = 255; start = 3 }
 
 abbrev xy : Net → Reading
 xy n = both n air x air y
@@ -155,7 +155,7 @@ abbrev rewritten : List Call
 rewritten =
     joins
     ∷ hears (heard 0 0 (2 ∷ 0 ∷ []) ∷ heard 0 3 (105 ∷ []) ∷ []) (0 ∷ 0 ∷ [])
-    ∷ reception (burstWords (record { head = record { code = 0; hi = 0; extra = 0 }; frames = [] })) nought nought (another (replicate 19200 9)) 8192 []
+    ∷ reception (burstWords (record { head = record { code = 0; hi = 0; extra = 0 }; frames = [] })) zeroTime zeroTime (another (replicate 19200 9)) 8192 []
     ∷ []
 
 -- or there is no place: 16 bytes of one message wait, and the second part, which comes first, finds none

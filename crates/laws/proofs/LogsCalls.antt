@@ -21,7 +21,7 @@ use Rattle.net.specs.declared.Wait.{Wait}
 use Rattle.net.specs.State.{memberAt, withWait, withRound, queueAt}
 use Rattle.net.specs.Net.{isMember, Said, onTxDone}
 use Rattle.admit.specs.Admission.{seatOf, isFull, viaFor}
-use Rattle.bursts.specs.Rows.{leastDirect, reachLevel, seated}
+use Rattle.bursts.specs.Rows.{leastDirect, reachLevel, memberIn}
 use Rattle.bursts.specs.Bursts.{tinyWords, pollBurst, acksBurst, beaconOf, acksLevel}
 use Rattle.bursts.specs.Reroute.{sourceFor}
 use Rattle.next.specs.Next.{ncsNext}
@@ -92,7 +92,7 @@ down-ok s queue slot =
     let q = queueAt s slot in
     let level = reachLevel s slot in
     burst-level level (downFrames (roomAt g level) queue slot (payloadAt g level) (q .posted) (firstOf q))
-    (reach-lt g (s .used) (seated s slot) (memberAt s (seated s slot .via)))
+    (reach-lt g (s .used) (memberIn s slot) (memberAt s (memberIn s slot .via)))
     (frames-less (least-le (getD (g .rooms) level 0) 64) (frames-downs (roomAt g level) queue slot (payloadAt g level) (q .posted) (firstOf q) (least-le (getD (g .payloads) level 0) 255)))
     (word-other s queue slot)
 

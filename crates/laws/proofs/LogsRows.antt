@@ -26,7 +26,7 @@ use Rattle.net.specs.State.{memberAt}
 use Rattle.net.specs.Net.{isMember, membersIn, times, slotLen}
 use Rattle.net.proofs.Laws.{index-is, member-lt, member-is}
 use Rattle.roster.specs.Members.{noMember}
-use Rattle.bursts.specs.Rows.{seated, rowIf, rowsOn, rowsOf, ackRow, ackAt, ackRows, treeRow, treeAt, treeRows, listRow, listAt, listRows}
+use Rattle.bursts.specs.Rows.{memberIn, rowIf, rowsOn, rowsOf, ackRow, ackAt, ackRows, treeRow, treeAt, treeRows, listRow, listAt, listRows}
 use Rattle.bursts.specs.Bursts.{acked, movedIn, ackedOrMoved, thousand, firstMs, orOne, lenMs, twoBytes, timing, namePayload, beaconPayload, beaconRows, beaconAcks}
 use Rattle.promise.specs.Promise.{LinksHold}
 use Rattle.laws.proofs.Dues.{relay-is}
@@ -68,7 +68,7 @@ module _ (p : ℕ → List ℕ → Bool) (row : ℕ → List ℕ) (k : ℕ) (eac
   rows = let r = rows-on [] 0 (record { bytes = Bytes.none; long = omega arith }) in record { bytes = r .bytes; long = omega (arith, r .long) }
 
 ack-row : (s : Station) (i : ℕ) → i < 62 → Row 6 (ackRow s i)
-ack-row s i h = record { bytes = Bytes.more {b = i} (omega arith) (bytes-of 5 (packed (seated s i .call))); long = omega arith }
+ack-row s i h = record { bytes = Bytes.more {b = i} (omega arith) (bytes-of 5 (packed (memberIn s i .call))); long = omega arith }
 
 ack-rows : (s : Station) (mask most : ℕ) → Row 372 (ackRows s mask most)
 ack-rows s mask most = rows (ackAt mask most) (ackRow s) 6 (λ i bs h e. ack-row s i h)
@@ -80,7 +80,7 @@ beacon-rows s =
     record { bytes = r .bytes; long = omega (arith, r .long) }
 
 list-row : (s : Station) (i : ℕ) → i < 62 → Row 3 (listRow s i)
-list-row s i h = record { bytes = Bytes.more {b = i} (omega arith) (Bytes.more {b = seated s i .up .next % 256} (omega arith) (Bytes.more {b = bitmapOf (seated s i .up)} (omega arith) Bytes.none)); long = omega arith }
+list-row s i h = record { bytes = Bytes.more {b = i} (omega arith) (Bytes.more {b = memberIn s i .up .next % 256} (omega arith) (Bytes.more {b = bitmapOf (memberIn s i .up)} (omega arith) Bytes.none)); long = omega arith }
 
 list-rows : (s : Station) → Row 186 (listRows s)
 list-rows s = rows (listAt s) (listRow s) 3 (λ i bs h e. list-row s i h)
@@ -97,21 +97,21 @@ moved-used s i e =
     (λ q. member-used (s .round .toack) (s .used) i q)
     (λ q. member-used (s .round .treenews) (s .used) i q)
 
-via-byte : (s : Station) → LinksHold s → (i : ℕ) → i < 62 → hasBit (s .used) i ≡ true → seated s i .via < 256
+via-byte : (s : Station) → LinksHold s → (i : ℕ) → i < 62 → hasBit (s .used) i ≡ true → memberIn s i .via < 256
 via-byte s l i h e =
     let m : isMember (s .used) i ≡ true = member-is (s .used) i h ∙ e in
     ⊎-elim
-    (λ q. let z : seated s i .via ≡ 63 = subst (λ (j : ℕ). getD (s .members) j noMember .via ≡ 63) (index-is i h) q in omega arith)
-    (λ q. let z : seated s i .via < 62 = subst (λ (j : ℕ). getD (s .members) j noMember .via < 62) (index-is i h) (member-lt (s .used) (memberAt s i .via) q) in omega arith)
+    (λ q. let z : memberIn s i .via ≡ 63 = subst (λ (j : ℕ). getD (s .members) j noMember .via ≡ 63) (index-is i h) q in omega arith)
+    (λ q. let z : memberIn s i .via < 62 = subst (λ (j : ℕ). getD (s .members) j noMember .via < 62) (index-is i h) (member-lt (s .used) (memberAt s i .via) q) in omega arith)
     (relay-is s l i m)
 
-tree-row : (s : Station) (i : ℕ) → i < 62 → seated s i .via < 256 → Row 2 (treeRow s i)
+tree-row : (s : Station) (i : ℕ) → i < 62 → memberIn s i .via < 256 → Row 2 (treeRow s i)
 tree-row s i h v = record { bytes = Bytes.more {b = i} (omega arith) (Bytes.more v Bytes.none); long = omega arith }
 
 tree-rows : (s : Station) → LinksHold s → Row 124 (treeRows s (ackedOrMoved s) (movedIn s))
 tree-rows s l =
     rows (treeAt s (ackedOrMoved s) (movedIn s)) (treeRow s) 2
-    (λ i bs h e. tree-row s i h (via-byte s l i h (moved-used s i (and-true (hasBit (ackedOrMoved s) i) (not (eqb (seated s i .via) 63) || hasBit (movedIn s) i) e .0))))
+    (λ i bs h e. tree-row s i h (via-byte s l i h (moved-used s i (and-true (hasBit (ackedOrMoved s) i) (not (eqb (memberIn s i .via) 63) || hasBit (movedIn s) i) e .0))))
 
 -- ---- the frames of each burst
 

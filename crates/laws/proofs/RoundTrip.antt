@@ -30,8 +30,8 @@ use Rattle.net.specs.declared.Wait.{Wait}
 use Rattle.net.specs.State.{indexOf, memberAt, tableOf, withList, withToack, withTreenews, withSilent, withMembers, withUsed, withRecent, recentAt, emptied, alsoAck, withQueues}
 use Rattle.net.specs.Net.{isMember, Said, said}
 use Rattle.net.proofs.Laws.{index-is, member-is, member-lt}
-use Rattle.bursts.specs.Rows.{seated}
-use Rattle.bursts.specs.Reroute.{withSeated}
+use Rattle.bursts.specs.Rows.{memberIn}
+use Rattle.bursts.specs.Reroute.{withMemberIn}
 use Rattle.admit.specs.declared.Seat.{Seat}
 use Rattle.admit.specs.declared.Seat.the-variants.{Free}
 use Rattle.admit.specs.Admission.{seatOf, isFull, viaFor, admitBy, enterAt, leadsTo}
@@ -76,11 +76,11 @@ round-is r l a n p q w =
     λ j. record { list = p j; toack = q j; treenews = w j; windowend = r .windowend; nextbeacon = r .nextbeacon; nextround = r .nextround; txat = r .txat; number = r .number; rxsent = r .rxsent; closeleft = r .closeleft; closed = r .closed; traffic = r .traffic; rxdirty = r .rxdirty; activity = r .activity }
 
 -- a boat and its readings written as they are
-seated-same : (s : Station) (j : ℕ) (m : Member) (r : Recent) → m ≡ seated s j → r ≡ recentAt s j → withRecent (withSeated s j m) (set (s .recent) j r) ≡ s
-seated-same s j m r e q =
-    ap (λ (x : Member). withRecent (withSeated s j x) (set (s .recent) j r)) e
+memberIn-same : (s : Station) (j : ℕ) (m : Member) (r : Recent) → m ≡ memberIn s j → r ≡ recentAt s j → withRecent (withMemberIn s j m) (set (s .recent) j r) ≡ s
+memberIn-same s j m r e q =
+    ap (λ (x : Member). withRecent (withMemberIn s j x) (set (s .recent) j r)) e
     ∙ station-is s (s .wait) (s .round) _ (s .used) (tableOf s) _ _ (s .queues) (s .hears) refl refl
-    (ap (withSilent (s .totals)) (tally-same (s .totals .silent) (silentAt (s .settings .misslimit) (seated s j)))) refl refl (set-getD (s .members) j noMember)
+    (ap (withSilent (s .totals)) (tally-same (s .totals .silent) (silentAt (s .settings .misslimit) (memberIn s j)))) refl refl (set-getD (s .members) j noMember)
     (ap (set (s .recent) j) q ∙ set-getD (s .recent) j noRecent) refl refl
 
 module _ (s : Station) (slot : ℕ) (low : slot < 62) (free : hasBit (s .used) slot ≡ false) (k : AllKeep s) (u : UnreadIn s) (posted : UnpostedIn s) (links : LinksHold s) (unnamed : Unnamed s slot) where
@@ -101,16 +101,16 @@ module _ (s : Station) (slot : ℕ) (low : slot < 62) (free : hasBit (s .used) s
   untried-same : (m : Member) → hasBit (m .tried) slot ≡ false → untried slot m ≡ m
   untried-same m f = ap (withMark m (m .marknext) (m .markbits)) (without-gone (m .tried) slot f)
 
-  bereft-same : (j : ℕ) → j < 62 → hasBit (s .used) j ≡ true → bereft slot (s .settings .misslimit) (seated s j) ≡ seated s j
-  bereft-same j l h = cond-false (eqb (seated s j .via) slot) _ _ (ne-eqb (seated s j .via) slot (no-relay j l h)) ∙ untried-same (seated s j) (b .tried j)
+  bereft-same : (j : ℕ) → j < 62 → hasBit (s .used) j ≡ true → bereft slot (s .settings .misslimit) (memberIn s j) ≡ memberIn s j
+  bereft-same j l h = cond-false (eqb (memberIn s j .via) slot) _ _ (ne-eqb (memberIn s j .via) slot (no-relay j l h)) ∙ untried-same (memberIn s j) (b .tried j)
 
   bereave-same : (j : ℕ) → j < 62 → bereaveAt slot j s ≡ s
   unfolding bereaveAt
   bereave-same j l =
       cond-keeps (λ (x : Station). x ≡ s) (hasBit (s .used) j)
-      (withRecent (withSeated s j (bereft slot (s .settings .misslimit) (seated s j))) (set (s .recent) j (bereftOf slot (seated s j) (recentAt s j)))) s
-      (λ h. seated-same s j (bereft slot (s .settings .misslimit) (seated s j)) (bereftOf slot (seated s j) (recentAt s j)) (bereft-same j l h)
-      (cond-false (eqb (seated s j .via) slot) empty (recentAt s j) (ne-eqb (seated s j .via) slot (no-relay j l h)))) (λ _. refl)
+      (withRecent (withMemberIn s j (bereft slot (s .settings .misslimit) (memberIn s j))) (set (s .recent) j (bereftOf slot (memberIn s j) (recentAt s j)))) s
+      (λ h. memberIn-same s j (bereft slot (s .settings .misslimit) (memberIn s j)) (bereftOf slot (memberIn s j) (recentAt s j)) (bereft-same j l h)
+      (cond-false (eqb (memberIn s j .via) slot) empty (recentAt s j) (ne-eqb (memberIn s j .via) slot (no-relay j l h)))) (λ _. refl)
 
   all-same : bereaveAll slot s ≡ s
   unfolding bereaveAll

@@ -22,14 +22,14 @@ use Rattle.station.specs.Entries.{admitRefusal, admitOf, receiveRefusal, receiv
 use Rattle.signoff.specs.SignOff.{bereaveAt, bereaveAll, clearAt, clearAll, unhearAt, unhearAll, signOff}
 use Rattle.station.specs.SignOff.{signOffRefusal, signOffOf}
 use Rattle.promise.specs.Promise.{Call, admission, signing, result, outcome, step, after}
-use Rattle.promise.proofs.Runs.{nought, joins, hears, one-cell}
+use Rattle.promise.proofs.Runs.{zeroTime, joins, hears, one-cell}
 
 -- boat B
 abbrev packed-b : List ℕ
 packed-b = packCall (66 ∷ 32 ∷ 32 ∷ 32 ∷ 32 ∷ 32 ∷ 32 ∷ [])
 
 abbrev joins-b : Call
-joins-b = admission packed-b 63 nought 8192
+joins-b = admission packed-b 63 zeroTime 8192
 
 -- A reports that it hears slot 1, which has no boat, at the level field 40
 abbrev reports : Call

@@ -14,14 +14,14 @@ use Rattle.bits.proofs.Lists.{cond-keeps, and-true}
 use Rattle.wire.specs.Call.{numberOf}
 use Rattle.roster.specs.declared.Member.{Member}
 use Rattle.roster.specs.Members.{noMember, newMember, promotedAt, reroutedTo}
-use Rattle.level.specs.Consts.{nought}
+use Rattle.level.specs.Consts.{zeroTime}
 use Rattle.net.specs.declared.Station.{Station}
 use Rattle.net.specs.State.{withRecent, recentAt}
 use Rattle.net.specs.declared.Settings.{Settings}
 use Rattle.net.specs.Net.{isMember, blankCall, newStation}
 use Rattle.net.proofs.Laws.{member-lt, member-is}
-use Rattle.bursts.specs.Rows.{seated}
-use Rattle.bursts.specs.Reroute.{withSeated}
+use Rattle.bursts.specs.Rows.{memberIn}
+use Rattle.bursts.specs.Reroute.{withMemberIn}
 use Rattle.config.specs.declared.Given.{Given}
 use Rattle.config.specs.Checks.{secondsOk, durationsOk, decibelsOk, numbersOk, settingsOk, settingsOf, dataOk, payloadsOk}
 use Rattle.station.specs.Entries.{startRefusal}
@@ -48,8 +48,8 @@ bereave-kept : (slot j : ℕ) (s : Station) → j < 62 → Keeps s → Keeps (be
 unfolding bereaveAt
 bereave-kept slot j s l k =
     cond-keeps Keeps (hasBit (s .used) j)
-    (withRecent (withSeated s j (bereft slot (s .settings .misslimit) (seated s j))) (set (s .recent) j (bereftOf slot (seated s j) (recentAt s j)))) s
-    (λ h. kept-tally _ _ (s .used) (s .members) j (bereft slot (s .settings .misslimit) (seated s j)) l (member-is (s .used) j l ∙ h) k) (λ _. k)
+    (withRecent (withMemberIn s j (bereft slot (s .settings .misslimit) (memberIn s j))) (set (s .recent) j (bereftOf slot (memberIn s j) (recentAt s j)))) s
+    (λ h. kept-tally _ _ (s .used) (s .members) j (bereft slot (s .settings .misslimit) (memberIn s j)) l (member-is (s .used) j l ∙ h) k) (λ _. k)
 
 sign-kept : (s : Station) (slot : ℕ) → isMember (s .used) slot ≡ true → Keeps s → Keeps (signOff s slot)
 unfolding signOff bereaveAll
@@ -60,8 +60,8 @@ roster-kept : {s : Station} {g : Settings} {used n : ℕ} {ms : List Member} →
 roster-kept same k = k
 roster-kept {s} (written i m l here f) k = kept-same _ _ (s .used) (s .members) i m (f .missed) k
 roster-kept {s} (counted i m l here c v) k = kept-tally _ _ (s .used) (s .members) i m l here k
-roster-kept {s} (promoted i snr l here) k = kept-tally _ _ (s .used) (s .members) i (promotedAt (seated s i) snr) l here k
-roster-kept {s} (moved c r l here there able n) k = kept-tally _ _ (s .used) (s .members) c (reroutedTo (seated s c) r) l here k
+roster-kept {s} (promoted i snr l here) k = kept-tally _ _ (s .used) (s .members) i (promotedAt (memberIn s i) snr) l here k
+roster-kept {s} (moved c r l here there able n) k = kept-tally _ _ (s .used) (s .members) c (reroutedTo (memberIn s c) r) l here k
 roster-kept {s} (entered i call v now l free r) k = kept-new _ _ (s .used) (s .members) i (newMember call v now) l free refl k
 roster-kept {s} (signsOff slot here) k = sign-kept s slot here k
 
@@ -72,7 +72,7 @@ change-kept s t c k = roster-kept (roster c) k
 
 new-kept : (g : Settings) (count : ℕ) → 1 ≤ g .misslimit → Keeps (newStation g count)
 unfolding newStation
-new-kept g count h = kept-none (g .misslimit) (newMember blankCall 63 nought) h
+new-kept g count h = kept-none (g .misslimit) (newMember blankCall 63 zeroTime) h
 
 -- a start that is not refused has a miss limit of 1 or more
 limit-by : (short ok : Bool) → _≡_ {A = ℕ} (cond short 7 (cond ok 0 5)) 0 → ok ≡ true

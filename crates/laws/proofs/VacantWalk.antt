@@ -24,7 +24,7 @@ use Rattle.net.specs.declared.Turn.the-variants.{Waiting}
 use Rattle.net.specs.State.{indexOf, memberAt, withWait, withTable}
 use Rattle.net.specs.Net.{newStation}
 use Rattle.net.proofs.Laws.{member-has}
-use Rattle.bursts.specs.Rows.{seated}
+use Rattle.bursts.specs.Rows.{memberIn}
 use Rattle.bursts.specs.Reroute.{needsAt, needsOf, ableOf, triedOf, sourceFor}
 use Rattle.bursts.proofs.Masks.{mask-where}
 use Rattle.next.specs.Next.{listFor}
@@ -46,7 +46,7 @@ module _ (i : ℕ) (low : i < 62) where
   source-by s slot f (found.At a) q e =
       let r = first-found (isSource (s .hears) (withoutBit (needsOf s) slot) (ableOf s) (triedOf s) slot (s .settings .relaysnr)) 62 0 a q in
       let h : hasBit (withoutBit (needsOf s) slot) a ≡ true = and-true (hasBit (withoutBit (needsOf s) slot) a) _ (r .1) .0 in
-      let z : hasBit (needsOf s) i ≡ false = mask-where (needsAt s) i low ∙ ap (λ (b : Bool). b && needsRelay (seated s i)) f in
+      let z : hasBit (needsOf s) i ≡ false = mask-where (needsAt s) i low ∙ ap (λ (b : Bool). b && needsRelay (memberIn s i)) f in
       never-both (hasBit (withoutBit (needsOf s) slot) i) (subst (λ (y : ℕ). hasBit (withoutBit (needsOf s) slot) y ≡ true) e h) (without-false (needsOf s) i slot z)
 
   source-not : (s : Station) (slot : ℕ) → hasBit (s .used) i ≡ false → sourceFor s slot ≡ i → ⊥
@@ -61,8 +61,8 @@ module _ (i : ℕ) (low : i < 62) where
   unlisted : (s : Station) (n : ℕ) → hasBit (s .used) i ≡ false → hasBit (listFor s n) i ≡ false
   unfolding listFor
   unlisted s n f =
-      mask-where (λ j. hasBit (s .used) j && eqb (seated s j .via) 63 && (eqb (n % 4) 0 || ltb (seated s j .missed) (s .settings .misslimit))) i low
-      ∙ ap (λ (x : Bool). x && eqb (seated s i .via) 63 && (eqb (n % 4) 0 || ltb (seated s i .missed) (s .settings .misslimit))) f
+      mask-where (λ j. hasBit (s .used) j && eqb (memberIn s j .via) 63 && (eqb (n % 4) 0 || ltb (memberIn s j .missed) (s .settings .misslimit))) i low
+      ∙ ap (λ (x : Bool). x && eqb (memberIn s i .via) 63 && (eqb (n % 4) 0 || ltb (memberIn s i .missed) (s .settings .misslimit))) f
 
   -- ---- the round, the list and the turn
 
@@ -94,8 +94,8 @@ change-kept s t (over a r e here) k i low =
 change-kept s t (hears r c q l h) k i low = hears-kept i low s r c (q % 64) (member-has (s .used) r l) h (k i low)
 change-kept s t (written j m l here f) k i low = seat-kept i low s j m (member-has (s .used) j here) (stays-tried f) (k i low)
 change-kept s t (counted j m n l here f) k i low = seat-kept i low s j _ (member-has (s .used) j here) (stays-tried f) (k i low)
-change-kept s t (promoted j snr l here d) k i low = seat-kept i low s j (promotedAt (seated s j) snr) (member-has (s .used) j here) refl (k i low)
-change-kept s t (moved c r l here there able n) k i low = seat-kept i low s c (reroutedTo (seated s c) r) (member-has (s .used) c here) refl (k i low)
+change-kept s t (promoted j snr l here d) k i low = seat-kept i low s j (promotedAt (memberIn s j) snr) (member-has (s .used) j here) refl (k i low)
+change-kept s t (moved c r l here there able n) k i low = seat-kept i low s c (reroutedTo (memberIn s c) r) (member-has (s .used) c here) refl (k i low)
 change-kept s t (readings j r l here) k i low = k i low
 change-kept s t (entered c call v now l free r) k i low = enter-kept i low s c (newMember call v now) l refl (k i low)
 change-kept s t (queued j q l here f) k i low = k i low

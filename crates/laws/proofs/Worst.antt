@@ -42,7 +42,7 @@ use Rattle.admit.specs.declared.Seat.{Seat}
 use Rattle.admit.specs.declared.Seat.the-variants.{Known, Free, Full}
 use Rattle.admit.specs.Admission.{seatOf, slotOf, isFull, viaFor, admitBy}
 use Rattle.admit.proofs.Laws.{known-lt, seat-lt}
-use Rattle.bursts.specs.Rows.{seated}
+use Rattle.bursts.specs.Rows.{memberIn}
 use Rattle.bursts.specs.Bursts.{tellAt, tellAll, listSent, rxListBurst, acksBurst, beaconOf}
 use Rattle.bursts.specs.Direct.{directBurst}
 use Rattle.bursts.specs.Reroute.{floorOf, promoteWith, promoteAt, promoteAll, newRelay, mustMove, leavesOf, moveAt, moveAll, rerouteOf}
@@ -50,7 +50,7 @@ use Rattle.next.specs.declared.Due.{Due}
 use Rattle.next.specs.declared.Due.the-variants as due
 use Rattle.next.specs.declared.Act.{Act}
 use Rattle.next.specs.declared.Act.the-variants as act
-use Rattle.next.specs.Next.{Decision, pollBy, directedBy, wordBy, pollStage, drawn, drawStage, reroutedStage, rerouteStage, roundEnd, hurried, actOf, actBy, windowStage, closeStage, againStage, missedIn, missedStage, dueOf, byDue, ncsNext}
+use Rattle.next.specs.Next.{Decision, pollBy, directedBy, wordBy, pollStage, drawn, drawStage, reroutedStage, rerouteStage, roundEnd, broughtForward, actOf, actBy, windowStage, closeStage, againStage, missedIn, missedStage, dueOf, byDue, ncsNext}
 use Rattle.next.specs.Next as next
 use Rattle.frames.specs.declared.Air.{Air}
 use Rattle.frames.specs.Reading.{Reading}
@@ -244,7 +244,7 @@ reception-follows s b snr now store =
 -- the boats from i on are those of s
 pub record Same (s : Station) (i : ℕ) (t : Station) : Type 0 where
   pub used : t .used ≡ s .used
-  pub seat : (j : ℕ) → i ≤ j → seated t j ≡ seated s j
+  pub seat : (j : ℕ) → i ≤ j → memberIn t j ≡ memberIn s j
 
 promote-with : (s : Station) (l : Level) (i : ℕ) (x : Said) → Same s i (x .station)
     → Follows (x .station) (promoteWith l i x .station) (emptiedIf (isHeard l) i) × Same s (suc i) (promoteWith l i x .station)
@@ -253,12 +253,12 @@ promote-with s (Decibels snr) i x h =
     (refl, record { used = h .used; seat = λ j l. getD-set-other (x .station .members) i j _ noMember (λ e. omega arith) ∙ h .seat j (omega arith) })
 
 promote-one : (s : Station) (i : ℕ) (x : Said) → Same s i (x .station)
-    → Follows (x .station) (promoteAt (floorOf s) i x .station) (emptiedIf (isHeard (promotableAt (hasBit (s .used) i) (seated s i) (floorOf s))) i)
+    → Follows (x .station) (promoteAt (floorOf s) i x .station) (emptiedIf (isHeard (promotableAt (hasBit (s .used) i) (memberIn s i) (floorOf s))) i)
     × Same s (suc i) (promoteAt (floorOf s) i x .station)
 unfolding promoteAt
 promote-one s i x h =
-    let l = promotableAt (hasBit (s .used) i) (seated s i) (floorOf s) in
-    let e : l ≡ promotableAt (hasBit (x .station .used) i) (seated (x .station) i) (floorOf s) =
+    let l = promotableAt (hasBit (s .used) i) (memberIn s i) (floorOf s) in
+    let e : l ≡ promotableAt (hasBit (x .station .used) i) (memberIn (x .station) i) (floorOf s) =
     ap₂ (λ (u : ℕ) (m : Member). promotableAt (hasBit u i) m (floorOf s)) (sym (h .used)) (sym (h .seat i (omega arith))) in
     subst (λ (y : Level). Follows (x .station) (promoteWith y i x .station) (emptiedIf (isHeard l) i) × Same s (suc i) (promoteWith y i x .station)) e (promote-with s l i x h)
 
@@ -326,7 +326,7 @@ act-follows act.Poll s now queue = word-same (directedBy (lowestBit (s .round .l
 window-follows : (s : Station) (now : Float) (queue : List ℕ) → Follows s (windowStage s now queue .station) (ofWindow s now)
 unfolding windowStage
 window-follows s now queue =
-    let t = hurried s now in
+    let t = broughtForward s now in
     let e : t .recent ≡ s .recent = cond-keeps (λ (r : Station). r .recent ≡ s .recent) (s .round .activity) _ s (λ _. refl) (λ _. refl) in
     follow-cond stationOf s (lt now (s .round .windowend)) _ _ [] _ (λ _. refl)
     (λ _. act-follows (actOf (t .round) (t .used) now) t now queue ∙ ap (applied (ofAct (actOf (t .round) (t .used) now) t now)) e)
@@ -354,9 +354,9 @@ module _ (s : Station) (slot : ℕ) where
   -- the boats from i on are those of s, the slot's apart
   record Left (i : ℕ) (t : Station) : Type 0 where
     pub used : t .used ≡ withoutBit (s .used) slot
-    pub seat : (j : ℕ) → i ≤ j → (j ≡ slot → ⊥) → seated t j ≡ seated s j
+    pub seat : (j : ℕ) → i ≤ j → (j ≡ slot → ⊥) → memberIn t j ≡ memberIn s j
 
-  bereave-by : (b v : Bool) (i : ℕ) (t : Station) → hasBit (t .used) i ≡ b → eqb (seated t i .via) slot ≡ v → Left i t
+  bereave-by : (b v : Bool) (i : ℕ) (t : Station) → hasBit (t .used) i ≡ b → eqb (memberIn t i .via) slot ≡ v → Left i t
       → Follows t (bereaveAt slot i t) (emptiedIf (b && v) i) × Left (suc i) (bereaveAt slot i t)
   unfolding bereaveAt
   bereave-by false v i t p q h = rw p (refl, record { used = h .used; seat = λ j l z. h .seat j (omega arith) z })
@@ -366,18 +366,18 @@ module _ (s : Station) (slot : ℕ) where
       rw (p, q) (set-getD (t .recent) i noRecent, record { used = h .used; seat = λ j l z. getD-set-other (t .members) i j _ noMember (λ e. omega arith) ∙ h .seat j (omega arith) z })
 
   bereave-one : (i : ℕ) (t : Station) → Left i t
-      → Follows t (bereaveAt slot i t) (emptiedIf (hasBit (withoutBit (s .used) slot) i && eqb (seated s i .via) slot) i) × Left (suc i) (bereaveAt slot i t)
+      → Follows t (bereaveAt slot i t) (emptiedIf (hasBit (withoutBit (s .used) slot) i && eqb (memberIn s i .via) slot) i) × Left (suc i) (bereaveAt slot i t)
   bereave-one i t h = go (hasBit (t .used) i) refl
     where
       here : hasBit (t .used) i ≡ hasBit (withoutBit (s .used) slot) i
       here = ap (λ (u : ℕ). hasBit u i) (h .used)
 
       go : (b : Bool) → hasBit (t .used) i ≡ b
-          → Follows t (bereaveAt slot i t) (emptiedIf (hasBit (withoutBit (s .used) slot) i && eqb (seated s i .via) slot) i) × Left (suc i) (bereaveAt slot i t)
-      go false e = rw (← here, e) (bereave-by false (eqb (seated t i .via) slot) i t e refl h)
+          → Follows t (bereaveAt slot i t) (emptiedIf (hasBit (withoutBit (s .used) slot) i && eqb (memberIn s i .via) slot) i) × Left (suc i) (bereaveAt slot i t)
+      go false e = rw (← here, e) (bereave-by false (eqb (memberIn t i .via) slot) i t e refl h)
       go true e =
           let z : i ≡ slot → ⊥ = λ q. never-both (hasBit (withoutBit (s .used) slot) i) (sym here ∙ e) (ap (hasBit (withoutBit (s .used) slot)) q ∙ without-same (s .used) slot) in
-          rw (← here, e, ← h .seat i (omega arith) z) (bereave-by true (eqb (seated t i .via) slot) i t e refl h)
+          rw (← here, e, ← h .seat i (omega arith) z) (bereave-by true (eqb (memberIn t i .via) slot) i t e refl h)
 
   sign-follows : Follows s (signOff s slot) (ofSignOff s slot)
   unfolding signOff bereaveAll

@@ -33,14 +33,14 @@ use Rattle.net.specs.Net.{isMember, idleWait, Said, said}
 use Rattle.admit.specs.declared.Seat.{Seat}
 use Rattle.admit.specs.declared.Seat.the-variants.{Known, Free, Full}
 use Rattle.admit.specs.Admission.{seatOf, slotOf}
-use Rattle.bursts.specs.Rows.{seated}
+use Rattle.bursts.specs.Rows.{memberIn}
 use Rattle.bursts.specs.Bursts.{listSent, rxListBurst}
 use Rattle.bursts.specs.Reroute.{floorOf}
 use Rattle.next.specs.declared.Due.{Due}
 use Rattle.next.specs.declared.Due.the-variants as due
 use Rattle.next.specs.declared.Act.{Act}
 use Rattle.next.specs.declared.Act.the-variants as act
-use Rattle.next.specs.Next.{actOf, hurried, turnOverIn, missedIn, dueOf}
+use Rattle.next.specs.Next.{actOf, broughtForward, turnOverIn, missedIn, dueOf}
 use Rattle.frames.specs.declared.Air.{Air}
 use Rattle.frames.specs.Reading.{Reading}
 use Rattle.frames.specs.Control.{callAt, relayOf, overheardEntry, isKid, kidEntry}
@@ -146,7 +146,7 @@ empties-fine false i = tt
 
 reroute-fine : (s : Station) (now : Float) → Fine (ofReroute s now)
 reroute-fine s now =
-    fine-if (not (s .round .traffic) && ltb 0 (s .round .number) && lt now (s .round .nextround)) [] _ tt (slots-fine _ (λ i. empties-fine (isHeard (promotableAt (hasBit (s .used) i) (seated s i) (floorOf s))) i) 62 0)
+    fine-if (not (s .round .traffic) && ltb 0 (s .round .number) && lt now (s .round .nextround)) [] _ tt (slots-fine _ (λ i. empties-fine (isHeard (promotableAt (hasBit (s .used) i) (memberIn s i) (floorOf s))) i) 62 0)
 
 act-fine : (a : Act) (s : Station) (now : Float) → Fine (ofAct a s now)
 act-fine act.Wait s now = tt
@@ -159,7 +159,7 @@ act-fine act.Poll s now = tt
 
 window-fine : (s : Station) (now : Float) → Fine (ofWindow s now)
 window-fine s now =
-    let t = hurried s now in
+    let t = broughtForward s now in
     fine-if (lt now (s .round .windowend)) [] _ tt (act-fine (actOf (t .round) (t .used) now) t now)
 
 due-fine : (d : Due) (s : Station) (now : Float) → Fine (ofDue d s now)
@@ -210,7 +210,7 @@ call-fine (reading cell lent) n e = tt
 call-fine (freeing cell) n e = tt
 call-fine (charging figures) n e = tt
 call-fine (signing slot) n e =
-    slots-fine _ (λ i. empties-fine (hasBit (withoutBit (n .station .used) slot) i && eqb (seated (n .station) i .via) slot) i) 62 0
+    slots-fine _ (λ i. empties-fine (hasBit (withoutBit (n .station .used) slot) i && eqb (memberIn (n .station) i .via) slot) i) 62 0
 call-fine (asking slot) n e = tt
 
 updates-fine : (cs : List Call) (n : Net) → Fine (updatesOf cs n)

@@ -27,14 +27,14 @@ use Rattle.net.specs.Net.{isMember, idleWait, Said, said}
 use Rattle.admit.specs.declared.Seat.{Seat}
 use Rattle.admit.specs.declared.Seat.the-variants.{Known, Free, Full}
 use Rattle.admit.specs.Admission.{seatOf, slotOf}
-use Rattle.bursts.specs.Rows.{seated}
+use Rattle.bursts.specs.Rows.{memberIn}
 use Rattle.bursts.specs.Bursts.{listSent, rxListBurst}
 use Rattle.bursts.specs.Reroute.{floorOf}
 use Rattle.next.specs.declared.Due.{Due}
 use Rattle.next.specs.declared.Due.the-variants as due
 use Rattle.next.specs.declared.Act.{Act}
 use Rattle.next.specs.declared.Act.the-variants as act
-use Rattle.next.specs.Next.{actOf, hurried, turnOverIn, missedIn, dueOf}
+use Rattle.next.specs.Next.{actOf, broughtForward, turnOverIn, missedIn, dueOf}
 use Rattle.frames.specs.declared.Air.{Air}
 use Rattle.frames.specs.Reading.{Reading}
 use Rattle.frames.specs.Control.{callAt, relayOf, overheardEntry, isKid, kidEntry}
@@ -145,7 +145,7 @@ emptiedIf b i = cond b (emptied i ∷ []) []
 
 -- a leaf that is heard well enough directly
 abbrev pub promotions : Station → List Update
-promotions s = ofSlots (λ i. emptiedIf (isHeard (promotableAt (hasBit (s .used) i) (seated s i) (floorOf s))) i) 62 0
+promotions s = ofSlots (λ i. emptiedIf (isHeard (promotableAt (hasBit (s .used) i) (memberIn s i) (floorOf s))) i) 62 0
 
 abbrev pub ofReroute : Station → Float → List Update
 ofReroute s now = cond (not (s .round .traffic) && ltb 0 (s .round .number) && lt now (s .round .nextround)) [] (promotions s)
@@ -165,7 +165,7 @@ ofAct act.Poll s now = []
 
 abbrev pub ofWindow : Station → Float → List Update
 ofWindow s now =
-    let t = hurried s now in
+    let t = broughtForward s now in
     cond (lt now (s .round .windowend)) [] (ofAct (actOf (t .round) (t .used) now) t now)
 
 abbrev pub ofDue : Due → Station → Float → List Update
@@ -181,7 +181,7 @@ ofDecision s now = ofDue (dueOf (s .wait) (s .round .closed) now) s now
 -- ---- in a sign-off: the boat's own window, and those of the boats that it relayed for
 
 abbrev pub ofSignOff : Station → ℕ → List Update
-ofSignOff s slot = emptied slot ∷ ofSlots (λ i. emptiedIf (hasBit (withoutBit (s .used) slot) i && eqb (seated s i .via) slot) i) 62 0
+ofSignOff s slot = emptied slot ∷ ofSlots (λ i. emptiedIf (hasBit (withoutBit (s .used) slot) i && eqb (memberIn s i .via) slot) i) 62 0
 
 -- ---- in the calls
 

@@ -5,12 +5,12 @@ use mathlib.Core.Bool.{false}
 use lib.Ieee.{Float, binary32, binary64, ofBits, round}
 
 -- 0.0
-abbrev pub nought : Float
-nought = ofBits binary64 0x0000_0000_0000_0000
+abbrev pub zeroTime : Float
+zeroTime = ofBits binary64 0x0000_0000_0000_0000
 
-pub nought-is : nought ≡ round binary64 false 0 1
+pub zeroTime-is : zeroTime ≡ round binary64 false 0 1
 unfolding ofBits round
-nought-is = refl
+zeroTime-is = refl
 
 -- 1.0
 abbrev pub one : Float

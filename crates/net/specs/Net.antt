@@ -11,7 +11,7 @@ use Rattle.level.specs.declared.Level.{Level}
 use Rattle.level.specs.declared.Clock.{Clock}
 use Rattle.level.specs.declared.Clock.the-variants.{Never, At}
 use Rattle.level.specs.Levels.{levelFor, isHeard}
-use Rattle.level.specs.Consts.{nought, one, two, three, slotSlack}
+use Rattle.level.specs.Consts.{zeroTime, one, two, three, slotSlack}
 use Rattle.inbox.specs.Messages.{emptyCell}
 use Rattle.recent.specs.Readings.{empty}
 use Rattle.queue.specs.Queues.{emptyQueue}
@@ -48,7 +48,7 @@ abbrev pub blankCall : List ℕ
 blankCall = replicate 7 32
 
 abbrev pub firstRound : Round
-firstRound = record { list = 0; toack = 0; treenews = 0; windowend = nought; nextbeacon = nought; nextround = nought; txat = nought; number = 0; rxsent = 0; closeleft = 0; closed = false; traffic = false; rxdirty = false; activity = false }
+firstRound = record { list = 0; toack = 0; treenews = 0; windowend = zeroTime; nextbeacon = zeroTime; nextround = zeroTime; txat = zeroTime; number = 0; rxsent = 0; closeleft = 0; closed = false; traffic = false; rxdirty = false; activity = false }
 
 abbrev pub noTotals : Totals
 noTotals = record { polls = 0; relays = 0; rxlists = 0; rounds = 0; replies = 0; silent = 0 }
@@ -63,7 +63,7 @@ idleWait = waitOf Idle Never
 -- no boat, no message: every slot and every cell is free
 unfoldable pub newStation : Settings → ℕ → Station
 newStation settings count =
-    record { settings = settings; wait = idleWait; round = firstRound; totals = noTotals; used = 0; busy = 0; landed = 0; count = count; members = replicate 62 (newMember blankCall 63 nought); recent = replicate 62 empty; queues = replicate 62 emptyQueue; hears = replicate 3844 63; owners = replicate 64 0; cells = replicate 64 emptyCell }
+    record { settings = settings; wait = idleWait; round = firstRound; totals = noTotals; used = 0; busy = 0; landed = 0; count = count; members = replicate 62 (newMember blankCall 63 zeroTime); recent = replicate 62 empty; queues = replicate 62 emptyQueue; hears = replicate 3844 63; owners = replicate 64 0; cells = replicate 64 emptyCell }
 
 -- ---- waiting
 

@@ -32,7 +32,7 @@ use Rattle.next.specs.declared.Act.{Act}
 use Rattle.next.specs.declared.Act.the-variants as act
 use Rattle.next.specs.declared.Late.{Late}
 use Rattle.next.specs.Next.{dueOf, drawn, ncsNext}
-use Rattle.next.specs.Code.Decision.{saidAfter, lateOf, lateWords, lateMember, lateSource, lateWait, lateTotals, lateRound, lateStation, lateSays, actIn, isSaid, isDraw, spokenOf, reroutedThen, reroutingOf, listThen, roundThen, endedOf, seldomOf, frontOf, pollWait, pollTotals, pollList, pollSource, pollWords, pollIf, directTo, directIf, wordThen, nextStraight}
+use Rattle.next.specs.Code.Decision.{saidAfter, lateOf, lateWords, lateMember, lateSource, lateWait, lateTotals, lateRound, lateStation, lateSays, actIn, isSaid, isDraw, spokenOf, reroutedThen, reroutingOf, listThen, roundThen, endedOf, stageBy, frontOf, pollWait, pollTotals, pollList, pollSource, pollWords, pollIf, directTo, directIf, wordThen, nextStraight}
 use Rattle.next.proofs.Stages.{said-nil, poll-is, next-is}
 
 -- nothing is written
@@ -125,16 +125,16 @@ is-draw act.Acks s now e = cc
 is-draw act.Draw s now e = refl
 is-draw act.Poll s now e = cc
 
-seldom-is : (a : Act) (s : Station) (now : Float) → saidAfter (spokenOf a s now .words) (endedOf a (spokenOf a s now .station) now) ≡ seldomOf a s now
-seldom-is act.Wait s now = refl
-seldom-is act.Beacon s now = said-nil (beaconOf s now)
-seldom-is act.Acks s now = said-nil (acksBurst s)
-seldom-is act.Draw s now = refl
-seldom-is act.Poll s now = refl
+stage-by-is : (a : Act) (s : Station) (now : Float) → saidAfter (spokenOf a s now .words) (endedOf a (spokenOf a s now .station) now) ≡ stageBy a s now
+stage-by-is act.Wait s now = refl
+stage-by-is act.Beacon s now = said-nil (beaconOf s now)
+stage-by-is act.Acks s now = said-nil (acksBurst s)
+stage-by-is act.Draw s now = refl
+stage-by-is act.Poll s now = refl
 
-pub seldom-did : (a : Act) (s : Station) (now : Float) (t : Station) (m : List ℕ) (j : ℕ) {r : Station} {l n : List ℕ} {i k : ℕ}
-    → Did (spokenOf a s now) t l i m j → Did (endedOf a t now) r m j n k → Did (seldomOf a s now) r l i n k
-seldom-did a s now t m j p q = did-as (did-on (λ u. endedOf a u now) p q) (seldom-is a s now)
+pub stage-by-did : (a : Act) (s : Station) (now : Float) (t : Station) (m : List ℕ) (j : ℕ) {r : Station} {l n : List ℕ} {i k : ℕ}
+    → Did (spokenOf a s now) t l i m j → Did (endedOf a t now) r m j n k → Did (stageBy a s now) r l i n k
+stage-by-did a s now t m j p q = did-as (did-on (λ u. endedOf a u now) p q) (stage-by-is a s now)
 
 -- no word is sent
 pub direct-none : (to : ℕ) (s : Station) (queue : List ℕ) → to ≡ 255 → said s [] ≡ directIf to s queue
@@ -205,11 +205,11 @@ module _ (s : Station) (ok : Bool) (now : Float) {d : Due} {l : Late} {a : ℕ} 
 
   pub next-said : (queue : List ℕ) (t : Station) (o₂ : List ℕ) (i₂ to : ℕ) (d : Station) (o₃ : List ℕ) (i₃ : ℕ) {q : Station} {o o₁ o₄ : List ℕ} {i i₁ i₄ : ℕ}
       → Wrote o i (lateWords l (s .round .closeleft) (s .settings) (getD (s .members) a noMember) here) o₁ i₁
-      → Did (pollIf x d) q o₃ i₃ o₄ i₄ → to ≡ directTo x t → Did (directIf to t queue) d o₂ i₂ o₃ i₃ → Did (seldomOf x (laid s a k b c v u r) now) t o₁ i₁ o₂ i₂
+      → Did (pollIf x d) q o₃ i₃ o₄ i₄ → to ≡ directTo x t → Did (directIf to t queue) d o₂ i₂ o₃ i₃ → Did (stageBy x (laid s a k b c v u r) now) t o₁ i₁ o₂ i₂
       → Did (cond ok (said (ncsNext s now queue .station) (ncsNext s now queue .words)) (said s [])) q o i o₄ i₄
   unfolding nextStraight
   next-said queue t o₂ i₂ to d o₃ i₃ w f et n e =
-      let g = did-as e (ap (λ (y : Station). seldomOf x y now) laid-is) in
+      let g = did-as e (ap (λ (y : Station). stageBy x y now) laid-is) in
       let m : Did (wordThen x t queue) _ o₂ i₂ _ _ = did-on (pollIf x) (did-as n (ap (λ (j : ℕ). directIf j t queue) et)) f in
       let z = did-on (λ y. wordThen x y queue) g m in
       let y = rw act-is at z in

@@ -27,13 +27,13 @@ use Rattle.net.specs.declared.Station.{Station}
 use Rattle.net.specs.declared.Round.{Round}
 use Rattle.net.specs.State.{memberAt, withMembers, withRound, withTotals, withList, withRxsent, withRxdirty, withNumber, withRounds}
 use Rattle.net.specs.Net.{plus, isIdle, Said, said, Did}
-use Rattle.bursts.specs.Rows.{seated, anyHoles}
+use Rattle.bursts.specs.Rows.{memberIn, anyHoles}
 use Rattle.bursts.specs.Bursts.{acksBurst, rxListBurst, tellOf, tellAt, tellAll, listSent, listTold}
 use Rattle.bursts.specs.Reroute.{floorOf, promoteWith, promoteAt, promoteAll, leafAt, leavesOf, isDown, mustMove, moveAt, moveAll, rerouteOf}
 use Rattle.bursts.proofs.Masks.{mask-where}
 use Rattle.bursts.proofs.Saying.{did-as}
 use Rattle.next.specs.Next.{listFor, drawn}
-use Rattle.next.specs.Code.Decision.{reroutedThen, reroutingOf, listThen, roundThen, listIn, listDue, tellIn, toldIn, listRound, stirsIn, restsIn}
+use Rattle.next.specs.Code.Decision.{reroutedThen, reroutingOf, listThen, roundThen, listIn, listDue, tellIn, toldIn, listRound, eventfulIn, noListYet}
 
 -- ### What the list would tell
 
@@ -88,11 +88,11 @@ no-hole false holes move e = refl
 no-hole true false move e = refl
 no-hole true true move e = e
 
-module _ (u : Station) (h : (i : ℕ) → i < 62 → stirsIn (u .members) (u .used) (u .settings) i ≡ false) where
+module _ (u : Station) (h : (i : ℕ) → i < 62 → eventfulIn (u .members) (u .used) (u .settings) i ≡ false) where
   promote-one : (i : ℕ) → i < 62 → promoteAt (floorOf u) i (said u []) ≡ said u []
   unfolding promoteAt
   promote-one i l =
-      ap (λ (x : Level). promoteWith x i (said u [])) (unheard (promotableAt (hasBit (u .used) i) (seated u i) (floorOf u)) (or-false _ _ (h i l) .0))
+      ap (λ (x : Level). promoteWith x i (said u [])) (unheard (promotableAt (hasBit (u .used) i) (memberIn u i) (floorOf u)) (or-false _ _ (h i l) .0))
 
   promote-none : promoteAll u ≡ said u []
   unfolding promoteAll
@@ -103,8 +103,8 @@ module _ (u : Station) (h : (i : ℕ) → i < 62 → stirsIn (u .members) (u .us
   must-not : (c : ℕ) → c < 62 → mustMove (leavesOf u) u c ≡ false
   must-not c l =
       rw (mask-where (leafAt u) c l)
-      (no-move (hasBit (u .used) c) (holesOf (seated u c .up)) (isLeaf (seated u c) (u .settings .misslimit)) (isDown (u .used) (seated u c) (memberAt u (seated u c .via)) (u .settings .misslimit))
-      (or-false (isHeard (promotableAt (hasBit (u .used) c) (seated u c) (floorOf u))) _ (h c l) .1))
+      (no-move (hasBit (u .used) c) (holesOf (memberIn u c .up)) (isLeaf (memberIn u c) (u .settings .misslimit)) (isDown (u .used) (memberIn u c) (memberAt u (memberIn u c .via)) (u .settings .misslimit))
+      (or-false (isHeard (promotableAt (hasBit (u .used) c) (memberIn u c) (floorOf u))) _ (h c l) .1))
 
   move-one : (c : ℕ) → c < 62 → moveAt (leavesOf u) c (said u []) ≡ said u []
   unfolding moveAt
@@ -142,14 +142,14 @@ is-due false true e = sym e
 is-due false false e = refl
 
 module _ (s : Station) (now : Float) (idle : isIdle (s .wait .turn) ≡ true) (clean : s .round .rxdirty ≡ false) (news : s .round .treenews ≡ 0)
-    (none : any (stirsIn (toldIn (listDue (s .round)) (s .used) (s .members)) (s .used) (s .settings)) 62 0 ≡ false) where
-  still : (i : ℕ) → i < 62 → stirsIn (calmed s .members) (s .used) (s .settings) i ≡ false
+    (none : any (eventfulIn (toldIn (listDue (s .round)) (s .used) (s .members)) (s .used) (s .settings)) 62 0 ≡ false) where
+  still : (i : ℕ) → i < 62 → eventfulIn (calmed s .members) (s .used) (s .settings) i ≡ false
   still i l = any-none _ 62 0 none i (omega arith) (omega arith)
 
-  hole-none : (i : ℕ) → i < 62 → hasBit (s .used) i && holesOf (seated s i .up) ≡ false
+  hole-none : (i : ℕ) → i < 62 → hasBit (s .used) i && holesOf (memberIn s i .up) ≡ false
   hole-none i l =
       rw (← up-kept (listDue (s .round)) (s .used) (s .members) i)
-      (no-hole (hasBit (s .used) i) (holesOf (seated (calmed s) i .up)) _ (or-false (isHeard (promotableAt (hasBit (s .used) i) (seated (calmed s) i) (floorOf s))) _ (still i l) .1))
+      (no-hole (hasBit (s .used) i) (holesOf (memberIn (calmed s) i .up)) _ (or-false (isHeard (promotableAt (hasBit (s .used) i) (memberIn (calmed s) i) (floorOf s))) _ (still i l) .1))
 
   holes-none : anyHoles s ≡ false
   holes-none = any-false _ 62 0 (λ j l q. hole-none j (omega arith))
@@ -187,27 +187,27 @@ module _ (s : Station) (now : Float) (idle : isIdle (s .wait .turn) ≡ true) (c
   news-kept false = refl
 
   -- no new list yet
-  pub round-rests : restsIn (listRound (s .round)) now ≡ true → roundThen s now ≡ said (calmed s) []
+  pub round-no-list-yet : noListYet (listRound (s .round)) now ≡ true → roundThen s now ≡ said (calmed s) []
   unfolding reroutingOf
-  round-rests e = round-by (listDue (s .round)) refl ∙ cond-true (restsIn (listRound (s .round)) now) (said (calmed s) []) (reroutedThen (rerouteOf (calmed s)) now) e
+  round-no-list-yet e = round-by (listDue (s .round)) refl ∙ cond-true (noListYet (listRound (s .round)) now) (said (calmed s) []) (reroutedThen (rerouteOf (calmed s)) now) e
 
-  pub round-drawn : restsIn (listRound (s .round)) now ≡ false → roundThen s now ≡ said (drawn (calmed s) now) []
+  pub round-drawn : noListYet (listRound (s .round)) now ≡ false → roundThen s now ≡ said (drawn (calmed s) now) []
   unfolding reroutingOf
   round-drawn e =
       round-by (listDue (s .round)) refl
-      ∙ cond-false (restsIn (listRound (s .round)) now) (said (calmed s) []) (reroutedThen (rerouteOf (calmed s)) now) e
+      ∙ cond-false (noListYet (listRound (s .round)) now) (said (calmed s) []) (reroutedThen (rerouteOf (calmed s)) now) e
       ∙ ap (λ (x : Said). reroutedThen x now) (none-moved (calmed s) still)
       ∙ cond-true (eqb (calmed s .round .treenews) 0) (said (drawn (calmed s) now) []) (acksBurst (calmed s)) (eq-eqb _ 0 (news-kept (listDue (s .round)) ∙ news))
 
   -- as the calls of the code give it
-  pub rests-did : {ks : List Member} {k : Round} {l : List ℕ} {i : ℕ}
-      → ks ≡ toldIn (listDue (s .round)) (s .used) (s .members) → k ≡ listRound (s .round) → restsIn k now ≡ true
+  pub no-list-yet-did : {ks : List Member} {k : Round} {l : List ℕ} {i : ℕ}
+      → ks ≡ toldIn (listDue (s .round)) (s .used) (s .members) → k ≡ listRound (s .round) → noListYet k now ≡ true
       → Did (roundThen s now) (withRound (withMembers s ks) k) l i l i
-  rests-did {ks} {k} {l} {i} a b e =
-      did-as (record { station = rw (a, b); wrote = wrote-none l i }) (sym (round-rests (rw b at e)))
+  no-list-yet-did {ks} {k} {l} {i} a b e =
+      did-as (record { station = rw (a, b); wrote = wrote-none l i }) (sym (round-no-list-yet (rw b at e)))
 
   pub drawn-did : {ks : List Member} {k q : Round} {list rounds : ℕ} {l : List ℕ} {i : ℕ}
-      → ks ≡ toldIn (listDue (s .round)) (s .used) (s .members) → k ≡ listRound (s .round) → restsIn k now ≡ false
+      → ks ≡ toldIn (listDue (s .round)) (s .used) (s .members) → k ≡ listRound (s .round) → noListYet k now ≡ false
       → q ≡ withNumber k ((k .number + 1) % 2 ^ 32) (plus now (s .settings .idleroundgap)) false
       → list ≡ listIn ks (s .used) (s .settings .misslimit) (q .number) → rounds ≡ stop (s .totals .rounds + 1)
       → Did (roundThen s now) (withTotals (withRound (withMembers s ks) (withList q list)) (withRounds (s .totals) rounds)) l i l i

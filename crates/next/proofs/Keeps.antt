@@ -15,9 +15,9 @@ use Rattle.net.specs.declared.Station.{Station}
 use Rattle.net.specs.declared.Wait.{Wait}
 use Rattle.net.specs.State.{withRound, withRxdirty, alsoNews, oneList}
 use Rattle.net.specs.Net.{Said, said, isIdle}
-use Rattle.bursts.specs.Rows.{seated}
+use Rattle.bursts.specs.Rows.{memberIn}
 use Rattle.bursts.specs.Bursts.{sends, acksBurst, listSent, tellAt, tellAll, listTold, listWords, rxListBurst}
-use Rattle.bursts.specs.Reroute.{withSeated, floorOf, promoteWith, promoteAt, promoteAll, leavesOf, newRelay, mustMove, moveAt, moveAll, rerouteOf}
+use Rattle.bursts.specs.Reroute.{withMemberIn, floorOf, promoteWith, promoteAt, promoteAll, leavesOf, newRelay, mustMove, moveAt, moveAll, rerouteOf}
 
 -- after a burst its end is waited for
 pub acks-busy : (s : Station) → isIdle (acksBurst s .station .wait .turn) ≡ false
@@ -37,10 +37,10 @@ module _ (w : Wait) where
   promote-step : (floor : Float) (i : ℕ) (x : Said) → Waits x → Waits (promoteAt floor i x)
   unfolding promoteAt
   promote-step floor i x h =
-      promote-with (promotableAt (hasBit (x .station .used) i) (seated (x .station) i) floor) i x h
+      promote-with (promotableAt (hasBit (x .station .used) i) (memberIn (x .station) i) floor) i x h
 
   move-by : (a b : Bool) (c : ℕ) (x : Said) (k : Member) (ws : List ℕ) → Waits x
-      → Waits (cond a (cond b x (said (alsoNews (withSeated (x .station) c k) c) ws)) x)
+      → Waits (cond a (cond b x (said (alsoNews (withMemberIn (x .station) c k) c) ws)) x)
   move-by true true c x k ws h = h
   move-by true false c x k ws h = h
   move-by false b c x k ws h = h

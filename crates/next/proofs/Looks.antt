@@ -21,7 +21,7 @@ use Rattle.queue.specs.Queues.{emptyQueue}
 use Rattle.net.specs.declared.Station.{Station}
 use Rattle.net.specs.Net.{isMember, isIdle}
 use Rattle.net.proofs.Laws.{index-is, member-lt, member-is, member-none}
-use Rattle.bursts.specs.Rows.{seated, leastOf, markIf, maskWhere}
+use Rattle.bursts.specs.Rows.{memberIn, leastOf, markIf, maskWhere}
 use Rattle.bursts.specs.Direct.{hasWord, leafOf, leafWord, directedTo, directBurst, slotOr255}
 use Rattle.bursts.specs.Reroute.{ableOf, needsAt, needsOf, triedOf, sourceFor}
 use Rattle.bursts.proofs.Levels.{least-le}
@@ -70,7 +70,7 @@ unfolding maskWhere
 looking-start s slot end h = record { below = omega arith; most = h; start = λ e. refl; asking = refl; told = refl }
 
 pub looking-turn : {s : Station} {slot end j : ℕ} {x y : Seen} → j < end → Looking s slot end x j
-    → y ≡ lookAt x (s .used) j (seated s j) (getD (s .queues) j emptyQueue) (s .round .number) slot → Looking s slot end y (j + 1)
+    → y ≡ lookAt x (s .used) j (memberIn s j) (getD (s .queues) j emptyQueue) (s .round .number) slot → Looking s slot end y (j + 1)
 looking-turn {s} {slot} {end} {j} {x} {y} h a e =
     let l : j < 62 = omega (arith, a .most) in
     record {

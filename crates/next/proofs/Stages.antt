@@ -37,8 +37,8 @@ use Rattle.next.specs.declared.Due.{Due}
 use Rattle.next.specs.declared.Due.the-variants.{Free, Quiet, Close, Again, Missed}
 use Rattle.next.specs.declared.Act.{Act}
 use Rattle.next.specs.declared.Act.the-variants as act
-use Rattle.next.specs.Next.{silent, spoke, after, pollBy, pollFront, directedBy, wordBy, pollStage, drawn, drawStage, reroutedStage, rerouteStage, listStage, roundEnd, hurried, actOf, actBy, actStage, windowStage, closeStage, againStage, missedEvent, turnOverIn, missedStage, dueTurn, dueOf, byDue, ncsNext}
-use Rattle.next.specs.Code.Decision.{saidOf, saidAfter, noLate, lateReply, lateBy, lateOf, lateMembers, lateStation, lateSays, lateThen, forwardTo, reroutedThen, reroutingOf, listThen, roundThen, seldomOf, mayPoll, frontBy, frontOf, pollSlot, pollIf, directSlot, directIf, pollAfter, wordThen, pollThen, restOf, nextStraight}
+use Rattle.next.specs.Next.{silent, spoke, after, pollBy, pollFront, directedBy, wordBy, pollStage, drawn, drawStage, reroutedStage, rerouteStage, listStage, roundEnd, broughtForward, actOf, actBy, actStage, windowStage, closeStage, againStage, missedEvent, turnOverIn, missedStage, dueTurn, dueOf, byDue, ncsNext}
+use Rattle.next.specs.Code.Decision.{saidOf, saidAfter, noLate, lateReply, lateBy, lateOf, lateMembers, lateStation, lateSays, lateThen, forwardTo, reroutedThen, reroutingOf, listThen, roundThen, stageBy, mayPoll, frontBy, frontOf, pollSlot, pollIf, directSlot, directIf, pollAfter, wordThen, pollThen, restOf, nextStraight}
 use Rattle.next.proofs.Keeps.{acks-busy, reroute-wait, list-busy, unsent}
 
 -- ### Tests
@@ -200,7 +200,7 @@ round-then s now queue e f =
 -- ### What is to be done
 
 act-then : (a : Act) (s : Station) (now : Float) (queue : List ℕ) → isIdle (s .wait .turn) ≡ true → (a ≡ act.Draw → s .round .list ≡ 0)
-    → pollThen a (seldomOf a s now) queue ≡ saidOf (actBy a s now queue)
+    → pollThen a (stageBy a s now) queue ≡ saidOf (actBy a s now queue)
 act-then act.Wait s now queue e f = word-never s act.Wait queue refl
 act-then act.Beacon s now queue e f = then-none act.Beacon (beaconOf s now) queue (word-never (beaconOf s now .station) act.Beacon queue refl)
 act-then act.Acks s now queue e f = then-none act.Acks (acksBurst s) queue (word-never (acksBurst s .station) act.Acks queue refl)
@@ -229,12 +229,12 @@ windowed s now =
 
 rest-act : (s : Station) (now : Float) (queue : List ℕ) → isIdle (s .wait .turn) ≡ true → lt now (s .round .windowend) ≡ false → restOf false s now queue ≡ saidOf (actStage s now queue)
 rest-act s now queue e h =
-    ap (λ (a : Act). pollThen a (seldomOf a s now) queue) (cond-false (lt now (s .round .windowend)) act.Wait (actOf (s .round) (s .used) now) h)
+    ap (λ (a : Act). pollThen a (stageBy a s now) queue) (cond-false (lt now (s .round .windowend)) act.Wait (actOf (s .round) (s .used) now) h)
     ∙ act-then (actOf (s .round) (s .used) now) s now queue e (draw-empty (s .round) (s .used) now)
 
 rest-wait : (s : Station) (now : Float) (queue : List ℕ) → lt now (s .round .windowend) ≡ true → restOf false s now queue ≡ said s []
 rest-wait s now queue h =
-    ap (λ (a : Act). pollThen a (seldomOf a s now) queue) (cond-true (lt now (s .round .windowend)) act.Wait (actOf (s .round) (s .used) now) h)
+    ap (λ (a : Act). pollThen a (stageBy a s now) queue) (cond-true (lt now (s .round .windowend)) act.Wait (actOf (s .round) (s .used) now) h)
     ∙ word-never s act.Wait queue refl
 
 module _ (s : Station) (now : Float) (queue : List ℕ) (e : isIdle (s .wait .turn) ≡ true) where
@@ -244,7 +244,7 @@ module _ (s : Station) (now : Float) (queue : List ℕ) (e : isIdle (s .wait .tu
   forward-by false r h g = rest-act s now queue e h
 
   window-by : (b : Bool) → lt now (s .round .windowend) ≡ b
-      → restOf false (withRound s (cond b (s .round) (forwardTo (s .round) (plus now (s .settings .quickbeacon))))) now queue ≡ saidOf (cond b (silent s) (actStage (hurried s now) now queue))
+      → restOf false (withRound s (cond b (s .round) (forwardTo (s .round) (plus now (s .settings .quickbeacon))))) now queue ≡ saidOf (cond b (silent s) (actStage (broughtForward s now) now queue))
   window-by true h = rest-wait s now queue h
   window-by false h = forward-by (s .round .activity) _ h refl
 

@@ -23,7 +23,7 @@ use Rattle.net.specs.declared.Turn.the-variants.{Idle, Sending, Waiting}
 use Rattle.net.specs.declared.Wait.{Wait}
 use Rattle.net.specs.State.{memberAt, withMember, withCounted, withWait, withRound, withList, withTxat, withClosing, withActivity, withNextbeacon, withRxsent, withNumber, onePoll, oneRound}
 use Rattle.net.specs.Net.{plus, isMember, membersIn, waitOf, idleWait, Said, said}
-use Rattle.bursts.specs.Rows.{seated, maskWhere}
+use Rattle.bursts.specs.Rows.{memberIn, maskWhere}
 use Rattle.bursts.specs.Bursts.{tinyWords, pollBurst, acksBurst, beaconOf, rxListBurst, listSent}
 use Rattle.bursts.specs.Direct.{directedTo, directBurst}
 use Rattle.bursts.specs.Reroute.{sourceFor, rerouteOf}
@@ -90,7 +90,7 @@ nextNumber s = (s .round .number + 1) % 2 ^ 32
 -- members with no relay that miss few polls; in every fourth round all of them
 unfoldable pub listFor : Station → ℕ → ℕ
 listFor s number =
-    maskWhere (λ i. hasBit (s .used) i && eqb (seated s i .via) 63 && (eqb (number % 4) 0 || ltb (seated s i .missed) (s .settings .misslimit)))
+    maskWhere (λ i. hasBit (s .used) i && eqb (memberIn s i .via) 63 && (eqb (number % 4) 0 || ltb (memberIn s i .missed) (s .settings .misslimit)))
 
 abbrev pub drawn : Station → Float → Station
 drawn s now =
@@ -127,8 +127,8 @@ roundEnd s now queue =
 -- ---- window, beacon, acknowledgements
 
 -- something happened in the last check-in window: the next beacon comes soon
-abbrev pub hurried : Station → Float → Station
-hurried s now =
+abbrev pub broughtForward : Station → Float → Station
+broughtForward s now =
     cond (s .round .activity)
     (withRound s (withNextbeacon (withActivity (s .round) false) (least (s .round .nextbeacon) (plus now (s .settings .quickbeacon))))) s
 
@@ -150,7 +150,7 @@ abbrev pub actStage : Station → Float → List ℕ → Decision
 actStage s now queue = actBy (actOf (s .round) (s .used) now) s now queue
 
 unfoldable pub windowStage : Station → Float → List ℕ → Decision
-windowStage s now queue = cond (lt now (s .round .windowend)) (silent s) (actStage (hurried s now) now queue)
+windowStage s now queue = cond (lt now (s .round .windowend)) (silent s) (actStage (broughtForward s now) now queue)
 
 -- ---- close and timeout
 

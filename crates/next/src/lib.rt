@@ -11,7 +11,7 @@ ghost use Rattle.net.specs.State.{withNumber};
 ghost use Rattle.net.specs.Net.{Did, said};
 ghost use Rattle.bursts.specs.Reroute.{sourceFor};
 ghost use Rattle.next.specs.Next.{overdueOf, dueBy, dueOf, drawn, ncsNext};
-ghost use Rattle.next.specs.Code.Decision.{noLate, lateReply, lateOf, lateWords, lateMember, lateSource, lateWait, lateTotals, closeRound, forwardTo, lateRound, actIn, isSaid, isDraw, spokenOf, reroutingOf, roundThen, listIn, listDue, toldIn, stirsAt, stirsIn, listRound, restsIn, mayPoll, frontOf, Ends, noneSeen, lookAt, toOf, asksFor, pollWait, pollTotals, pollList, pollWords};
+ghost use Rattle.next.specs.Code.Decision.{noLate, lateReply, lateOf, lateWords, lateMember, lateSource, lateWait, lateTotals, closeRound, forwardTo, lateRound, actIn, isSaid, isDraw, spokenOf, reroutingOf, roundThen, listIn, listDue, toldIn, eventfulAt, eventfulIn, listRound, noListYet, mayPoll, frontOf, Ends, noneSeen, lookAt, toOf, asksFor, pollWait, pollTotals, pollList, pollWords};
 use bits::Found;
 use bursts::direct;
 use bursts::reroute;
@@ -498,8 +498,8 @@ fn told_in(ms: [Member; 62], used: u64, due: bool) -> [Member; 62]
 }
 
 // The boat m, with p in its relay's slot, has a hole in its messages, or is to be promoted or moved.
-fn stirs_at(used: u64, here: bool, m: Member, p: Member, floor: f32, limit: u32) -> bool
-    ensures { λ r. ⌜ r ≡ stirsAt used here m p floor limit ⌝ }
+fn eventful_at(used: u64, here: bool, m: Member, p: Member, floor: f32, limit: u32) -> bool
+    ensures { λ r. ⌜ r ≡ eventfulAt used here m p floor limit ⌝ }
 {
     let w = m.up;
     let x = relay::promotable(here, m, floor);
@@ -508,8 +508,8 @@ fn stirs_at(used: u64, here: bool, m: Member, p: Member, floor: f32, limit: u32)
 }
 
 // Some boat does.
-fn stirs(ms: [Member; 62], used: u64, g: Settings) -> bool
-    ensures { λ r. ⌜ r ≡ any (stirsIn ms used g) 62 0 ⌝ }
+fn eventful(ms: [Member; 62], used: u64, g: Settings) -> bool
+    ensures { λ r. ⌜ r ≡ any (eventfulIn ms used g) 62 0 ⌝ }
 {
     let th = g.thresholds;
     let floor = th[0] + g.margin;
@@ -518,7 +518,7 @@ fn stirs(ms: [Member; 62], used: u64, g: Settings) -> bool
         let m = ms[i];
         let v = net::index(m.via);
         let p = ms[v];
-        if stirs_at(used, bits::has(used, i), m, p, floor, g.misslimit) {
+        if eventful_at(used, bits::has(used, i), m, p, floor, g.misslimit) {
             return true;
         }
         i += 1;
@@ -539,8 +539,8 @@ fn list_round(r: Round) -> Round
 }
 
 // No new list yet.
-fn rests(r: Round, time: f64) -> bool
-    ensures { λ x. ⌜ x ≡ restsIn r time ⌝ }
+fn no_list_yet(r: Round, time: f64) -> bool
+    ensures { λ x. ⌜ x ≡ noListYet r time ⌝ }
 {
     !r.traffic & (0 < r.number) & (time < r.nextround)
 }
@@ -555,13 +555,13 @@ fn round_end(mut s: Station, time: f64, o: &mut [u32], at: &mut usize) -> Statio
     let ms = s.members;
     let ks = told_in(ms, s.used, list_due(r));
     let still = net::is_idle(w) & !r.rxdirty & (r.treenews == 0);
-    if !still | stirs(ks, s.used, g) {
+    if !still | eventful(ks, s.used, g) {
         s = list_end(s, time, o, at);
     } else {
         s.members = ks;
         let k = list_round(r);
         s.round = k;
-        if !rests(k, time) {
+        if !no_list_yet(k, time) {
             let q = next_round(k, time + g.idleroundgap);
             s.round = q;
             let list = draw(ks, s.used, g.misslimit, q.number);

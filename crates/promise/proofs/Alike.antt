@@ -35,7 +35,7 @@ use Rattle.rx.specs.Reception.{ncsRx}
 use Rattle.station.specs.Entries.{admitRefusal, admitOf, receiveRefusal, receiveOf, cellRefusal, freeOf}
 use Rattle.promise.specs.Promise.{handed, Net, net, Call, freeing, result, inBook, step, after, sentNow, Book, cover, alsoHanded, allBelow, bookFrame, bookFrames, eventsIn, answersOf, bookCall, CallOk}
 use Rattle.promise.proofs.Ledgers.{of-all}
-use Rattle.promise.proofs.Runs.{nought, joins, hears, all-empty, whole, apart, near}
+use Rattle.promise.proofs.Runs.{zeroTime, joins, hears, all-empty, whole, apart, near}
 
 -- n numbers from k on, each handed over and its cell freed
 unfoldable pub filled : ℕ → ℕ → List Call
@@ -58,7 +58,7 @@ having g w k =
       busy = 0;
       landed = 0;
       count = 3;
-      members = set (newStation g 3 .members) 0 (withUp (newMember (65 ∷ 32 ∷ 32 ∷ 32 ∷ 32 ∷ 32 ∷ 32 ∷ []) 63 nought) w 0);
+      members = set (newStation g 3 .members) 0 (withUp (newMember (65 ∷ 32 ∷ 32 ∷ 32 ∷ 32 ∷ 32 ∷ 32 ∷ []) 63 zeroTime) w 0);
       recent = newStation g 3 .recent;
       queues = newStation g 3 .queues;
       hears = newStation g 3 .hears;

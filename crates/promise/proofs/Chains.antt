@@ -7,7 +7,7 @@ use mathlib.Core.Bool.{true, false}
 use mathlib.Core.List.{List, [], _∷_}
 use lib.ListN.{replicate}
 use lib.Ieee.{ofBits}
-use Rattle.level.specs.Consts.{nought}
+use Rattle.level.specs.Consts.{zeroTime}
 use Rattle.bits.specs.Loop.{first, every}
 use Rattle.bits.specs.Mask.{hasBit, withBit, lowestFree}
 use Rattle.wire.specs.Call.{digit, char, trimStart, trimEnd, unpacked, shifted}
@@ -21,9 +21,9 @@ use Rattle.promise.specs.Promise.{net, Call, admission, result, step, af
 
 abbrev pub three : List Call
 three =
-    admission (0 ∷ 0 ∷ 0 ∷ 0 ∷ 1 ∷ []) 63 nought 8192
-    ∷ admission (0 ∷ 0 ∷ 0 ∷ 0 ∷ 2 ∷ []) 0 nought 8192
-    ∷ admission (0 ∷ 0 ∷ 0 ∷ 0 ∷ 3 ∷ []) 1 nought 8192
+    admission (0 ∷ 0 ∷ 0 ∷ 0 ∷ 1 ∷ []) 63 zeroTime 8192
+    ∷ admission (0 ∷ 0 ∷ 0 ∷ 0 ∷ 2 ∷ []) 0 zeroTime 8192
+    ∷ admission (0 ∷ 0 ∷ 0 ∷ 0 ∷ 3 ∷ []) 1 zeroTime 8192
     ∷ []
 
 abbrev pub line : Settings → List ℕ → Station

@@ -11,7 +11,7 @@ use borrow.Author.Tests.{eqb-true, eq-eqb}
 use Rattle.bits.specs.Mask.{hasBit}
 use Rattle.bits.proofs.Laws.{without-same, without-other}
 use Rattle.bits.proofs.Lists.{and-true}
-use Rattle.level.specs.Consts.{nought}
+use Rattle.level.specs.Consts.{zeroTime}
 use Rattle.roster.specs.declared.Member.{Member}
 use Rattle.roster.specs.Members.{noMember, newMember, promotedAt, reroutedTo}
 use Rattle.roster.specs.Relays.{couldRelay}
@@ -19,7 +19,7 @@ use Rattle.net.specs.declared.Station.{Station}
 use Rattle.net.specs.declared.Settings.{Settings}
 use Rattle.net.specs.Net.{isMember, blankCall, newStation}
 use Rattle.net.proofs.Laws.{index-is, member-lt, member-is}
-use Rattle.bursts.specs.Rows.{seated}
+use Rattle.bursts.specs.Rows.{memberIn}
 use Rattle.config.specs.declared.Given.{Given}
 use Rattle.station.specs.Entries.{startRefusal}
 use Rattle.signoff.specs.SignOff.{bereft, signOff}
@@ -81,9 +81,9 @@ roster-kept : {s : Station} {g : Settings} {used n : ℕ} {ms : List Member} →
 roster-kept same k = k
 roster-kept {s} (written i m l here f) k = kept-same (s .used) (s .members) i m (f .via) k
 roster-kept {s} (counted i m l here c v) k = kept-same (s .used) (s .members) i m v k
-roster-kept {s} (promoted i snr l here) k = kept-cut (s .used) (s .members) i (promotedAt (seated s i) snr) refl k
+roster-kept {s} (promoted i snr l here) k = kept-cut (s .used) (s .members) i (promotedAt (memberIn s i) snr) refl k
 roster-kept {s} (moved c r l here there able z) k =
-    kept-hang (s .used) (s .members) c r (reroutedTo (seated s c) r) refl z there (able-via (seated s r) able) k
+    kept-hang (s .used) (s .members) c r (reroutedTo (memberIn s c) r) refl z there (able-via (memberIn s r) able) k
 roster-kept {s} (entered i call v now l free r) k = kept-new (s .used) (s .members) i (newMember call v now) l free r k
 roster-kept {s} (signsOff slot here) k = sign-kept s slot here k
 
@@ -92,7 +92,7 @@ change-kept s t c k = roster-kept (roster c) k
 
 new-kept : (g : Settings) (count : ℕ) → Keeps (newStation g count)
 unfolding newStation
-new-kept g count = kept-none (newMember blankCall 63 nought)
+new-kept g count = kept-none (newMember blankCall 63 zeroTime)
 
 -- after any calls from a start that is not refused, relay slots lead from any member to one without a relay in at most 61 steps
 pub links : (s : Station) (g : Given) (store : List ℕ) → startRefusal g (length store) ≡ 0 → (cs : List Call) → LinksHold (after cs (started s g store) .station)

@@ -24,7 +24,7 @@ use Rattle.stream.proofs.Rooms.{cells-most}
 use Rattle.stream.proofs.Tables.{start-tidy, freed-tidy}
 use Rattle.stream.proofs.Windows.{Sound, sound-fresh, fresh-none}
 use Rattle.roster.specs.Members.{newMember}
-use Rattle.level.specs.Consts.{nought}
+use Rattle.level.specs.Consts.{zeroTime}
 use Rattle.net.specs.declared.Station.{Station}
 use Rattle.net.specs.declared.Settings.{Settings}
 use Rattle.net.specs.State.{tableOf, withTable, withWait, queueAt}
@@ -91,10 +91,10 @@ start-tied M g store room =
         bare = λ s k on h free z i. refl;
         entries = λ c. sym (ap (entryOf M) (free c));
       };
-      long = length-replicate 62 (newMember blankCall 63 nought);
+      long = length-replicate 62 (newMember blankCall 63 zeroTime);
     }
   where
-    fresh : (i : ℕ) → windowIn 0 (replicate 62 (newMember blankCall 63 nought)) i ≡ freshOf
+    fresh : (i : ℕ) → windowIn 0 (replicate 62 (newMember blankCall 63 zeroTime)) i ≡ freshOf
     fresh i = either-up (isMember 0 i) _ (nobody i)
 
     free : (c : ℕ) → useOf (hasBit 0 c) (hasBit 0 c) (getD (replicate 64 0) c 0) ≡ Vacant

@@ -33,7 +33,7 @@ use Rattle.station.specs.Entries.{admitRefusal, admitOf, receiveRefusal, receiv
 use Rattle.promise.specs.Promise.{handed, another, Net, InBook, Call, reception, reading, freeing, result, inBook, isRefused, step, after, Stays, Sent, sentNow, Ledger, Book, emptyBook, Entered, unchanged, same, cover, alsoHanded, allBelow, completes, bookPiece, isWatched, bookFrame, bookFrames, framesBy, eventsIn, named, Answers, answersOf, bookDone, bookCall, Lowest, Pairs, Holds}
 use Rattle.promise.proofs.Ledgers.{of-all}
 use Rattle.promise.proofs.Pieces.{enterBy}
-use Rattle.promise.proofs.Runs.{nought, one-cell, all-hi, all-empty, joins, hears, whole, apart}
+use Rattle.promise.proofs.Runs.{zeroTime, one-cell, all-hi, all-empty, joins, hears, whole, apart}
 use Rattle.promise.proofs.Alike.{filled, three-cells, having, upTo, run, reached, to-129}
 
 -- ---- each after boat A was admitted to slot 0
@@ -55,7 +55,7 @@ abbrev pub swapped : List Call
 swapped =
     joins
     ∷ hears (heard 0 0 (2 ∷ 0 ∷ 104 ∷ []) ∷ []) (0 ∷ [])
-    ∷ reception (burstWords (record { head = record { code = 0; hi = 0; extra = 0 }; frames = heard 0 3 (105 ∷ []) ∷ [] })) nought nought
+    ∷ reception (burstWords (record { head = record { code = 0; hi = 0; extra = 0 }; frames = heard 0 3 (105 ∷ []) ∷ [] })) zeroTime zeroTime
     (another (2 ∷ 0 ∷ 120 ∷ 120 ∷ replicate 6396 7)) 8192 (0 ∷ [])
     ∷ reading 0 handed
     ∷ []

@@ -35,7 +35,7 @@ use Rattle.station.specs.Entries.{admitRefusal, admitOf, receiveRefusal, receiv
 use Rattle.promise.specs.Promise.{handed, Net, InBook, result, step, after, leads, LinksHold, drew, over, poll, ack, struck, emptyView, TurnsHold, Sent, Message, Ledger, Entered, unchanged, Event2, Stayed, cover, alsoHanded, allBelow, completes, bookPiece, isWatched, bookFrame, bookFrames, alsoStayed, emptyBook, named, Pairs, Rising, Once, OnceInStay, ReadsAs, AtCall}
 use Rattle.promise.proofs.Pieces.{enterBy}
 use Rattle.promise.proofs.Receptions.{allHanded, once-append}
-use Rattle.promise.proofs.Runs.{nought, one-cell, joins, hi, apart}
+use Rattle.promise.proofs.Runs.{zeroTime, one-cell, joins, hi, apart}
 
 -- ---- turns: traces of slots 0, 1 and 2
 
@@ -227,7 +227,7 @@ readings g =
 -- ---- rosters of two boats, by their relays
 
 abbrev relays : Settings → ℕ → ℕ → Station
-relays g a b = withUsed (withMember (withMember (newStation g 1) 0 (newMember blankCall a nought)) 1 (newMember blankCall b nought)) 3
+relays g a b = withUsed (withMember (withMember (newStation g 1) 0 (newMember blankCall a zeroTime)) 1 (newMember blankCall b zeroTime)) 3
 
 pub record Rosters (g : Settings) : Type 0 where
   -- each relays for the other; a boat for itself; a relay without a member

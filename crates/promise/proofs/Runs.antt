@@ -39,22 +39,22 @@ use Rattle.config.proofs.Laws.{data-alike}
 -- ---- a start
 
 -- a clock and a level at 0
-abbrev pub nought : Float
-nought = fin false 0 (pos 0)
+abbrev pub zeroTime : Float
+zeroTime = fin false 0 (pos 0)
 
 -- settings that no start refuses
 abbrev pub plain : Given
 plain =
     record {
-      settings = record { turnaround = nought; maxburst = nought; replyslack = nought; detect = nought; beaconevery = nought; quickbeacon = nought; idleroundgap = nought; durations = replicate 4 nought; thresholds = replicate 17 nought; margin = nought; relaysnr = nought; misslimit = 1; beaconlevel = 0; windowslots = 0; call = replicate 7 32; name = replicate 6 32; prime = false; lead = nought; latency = nought; rooms = replicate 17 1; payloads = replicate 17 1 };
+      settings = record { turnaround = zeroTime; maxburst = zeroTime; replyslack = zeroTime; detect = zeroTime; beaconevery = zeroTime; quickbeacon = zeroTime; idleroundgap = zeroTime; durations = replicate 4 zeroTime; thresholds = replicate 17 zeroTime; margin = zeroTime; relaysnr = zeroTime; misslimit = 1; beaconlevel = 0; windowslots = 0; call = replicate 7 32; name = replicate 6 32; prime = false; lead = zeroTime; latency = zeroTime; rooms = replicate 17 1; payloads = replicate 17 1 };
       call = replicate 5 0;
-      times = replicate 1088 nought;
+      times = replicate 1088 zeroTime;
       payloads = replicate 17 1;
     }
 
 pub plain-starts : startRefusal plain 6400 ≡ 0
 unfolding startRefusal settingsOk thresholdsOk payloadsOk every
-plain-starts = rw (data-alike nought refl)
+plain-starts = rw (data-alike zeroTime refl)
 
 -- one cell
 abbrev bytes : List ℕ
@@ -80,11 +80,11 @@ all-hi = record { watched = λ s t. true; text = λ s t k. 104 ∷ 105 ∷ [] }
 
 -- boat A is admitted
 abbrev pub joins : Call
-joins = admission (packCall (65 ∷ 32 ∷ 32 ∷ 32 ∷ 32 ∷ 32 ∷ 32 ∷ [])) 63 nought 8192
+joins = admission (packCall (65 ∷ 32 ∷ 32 ∷ 32 ∷ 32 ∷ 32 ∷ 32 ∷ [])) 63 zeroTime 8192
 
 -- a burst of these frames, with their numbers
 abbrev pub hears : List Heard → List ℕ → Call
-hears fs numbers = reception (burstWords (record { head = record { code = 0; hi = 0; extra = 0 }; frames = fs })) nought nought handed 8192 numbers
+hears fs numbers = reception (burstWords (record { head = record { code = 0; hi = 0; extra = 0 }; frames = fs })) zeroTime zeroTime handed 8192 numbers
 
 -- number 0 of slot 0, whole, in one frame
 abbrev pub hi : Call
@@ -92,7 +92,7 @@ hi = hears (heard 0 0 (framed (104 ∷ 105 ∷ [])) ∷ []) (0 ∷ [])
 
 -- no room for output
 abbrev pub refused : Call
-refused = decision nought [] 0
+refused = decision zeroTime [] 0
 
 abbrev pub hi-calls : List Call
 hi-calls = joins ∷ hi ∷ refused ∷ reading 0 handed ∷ freeing 0 ∷ reading 0 handed ∷ []

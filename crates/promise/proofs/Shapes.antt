@@ -26,7 +26,7 @@ use Rattle.net.specs.declared.Wait.{Wait}
 use Rattle.net.specs.State.{indexOf, memberAt}
 use Rattle.net.specs.Net.{isMember, newStation, waitOf}
 use Rattle.net.proofs.Laws.{member-lt}
-use Rattle.bursts.specs.Rows.{seated}
+use Rattle.bursts.specs.Rows.{memberIn}
 use Rattle.bursts.proofs.Masks.{mask-past}
 use Rattle.next.specs.Next.{listFor}
 use Rattle.config.specs.declared.Given.{Given}
@@ -140,7 +140,7 @@ seat-narrow j m e k = put-narrow j m (subst Past (sym e) (k .tried j)) k
 bereave-narrow : (slot j : ℕ) (s : Station) → Narrow s → Narrow (bereaveAt slot j s)
 unfolding bereaveAt
 bereave-narrow slot j s k =
-    let m = seated s j in
+    let m = memberIn s j in
     let p = without-past (m .tried) slot (k .tried j) in
     cond-keeps Narrow (hasBit (s .used) j) _ s (λ _. put-narrow j _ (cond-keeps (λ (x : Member). Past (x .tried)) (eqb (m .via) slot) _ _ (λ _. p) (λ _. p)) k) (λ _. k)
 

@@ -22,8 +22,8 @@ use Rattle.net.specs.declared.Station.{Station}
 use Rattle.net.specs.declared.Settings.{Settings}
 use Rattle.net.specs.State.{tableOf, withRecent, recentAt}
 use Rattle.net.specs.Net.{isMember}
-use Rattle.bursts.specs.Rows.{seated}
-use Rattle.bursts.specs.Reroute.{withSeated}
+use Rattle.bursts.specs.Rows.{memberIn}
+use Rattle.bursts.specs.Reroute.{withMemberIn}
 use Rattle.signoff.specs.SignOff.{vacant, leave, bereft, bereftOf, bereaveAt, bereaveAll, struckOff, strikeRound, strikeWait, isCellOf, clearAt, clearAll, unhearAll, signOff}
 use Rattle.station.specs.SignOff.{signOffRefusal}
 
@@ -64,7 +64,7 @@ module _ (slot : ℕ) (s : Station) where
       bit : (t : Bool) → hasBit (r .used) i ≡ t → hasBit (s .used) i ≡ t
       bit t e = ap (λ (u : ℕ). hasBit u i) (sym (b .others .4)) ∙ e
 
-      go : (t : Bool) → hasBit (r .used) i ≡ t → Bereaved slot (i + 1) s (cond t (withRecent (withSeated r i (bereft slot (r .settings .misslimit) (seated r i))) (set (r .recent) i (bereftOf slot (seated r i) (recentAt r i)))) r)
+      go : (t : Bool) → hasBit (r .used) i ≡ t → Bereaved slot (i + 1) s (cond t (withRecent (withMemberIn r i (bereft slot (r .settings .misslimit) (memberIn r i))) (set (r .recent) i (bereftOf slot (memberIn r i) (recentAt r i)))) r)
       go false e =
           record {
             others = b .others;
@@ -73,9 +73,9 @@ module _ (slot : ℕ) (s : Station) where
           }
       go true e =
           let n = b .long in
-          let m = bereft slot (r .settings .misslimit) (seated r i) in
+          let m = bereft slot (r .settings .misslimit) (memberIn r i) in
           let same : m ≡ bereft slot (s .settings .misslimit) (getD (s .members) i noMember) =
-          ap (λ (g : Settings). bereft slot (g .misslimit) (seated r i)) (b .others .0) ∙ ap (bereft slot (s .settings .misslimit)) old in
+          ap (λ (g : Settings). bereft slot (g .misslimit) (memberIn r i)) (b .others .0) ∙ ap (bereft slot (s .settings .misslimit)) old in
           record {
             others = b .others;
             long = length-set (r .members) i m ∙ b .long;

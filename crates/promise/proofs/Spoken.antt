@@ -31,7 +31,7 @@ use Rattle.net.specs.declared.Turn.the-variants.{Idle, Sending, Waiting}
 use Rattle.net.specs.declared.Wait.{Wait}
 use Rattle.net.specs.State.{memberAt, withWait, withRound, withTxat, withClosing, withRxsent, withRxdirty, onePoll, oneList, oneReply}
 use Rattle.net.specs.Net.{plus, isMember, membersIn, waitOf, idleWait, Said, said}
-use Rattle.bursts.specs.Rows.{seated}
+use Rattle.bursts.specs.Rows.{memberIn}
 use Rattle.bursts.specs.Bursts.{tinyWords, pollBurst, acksBurst, beaconOf, tellAt, tellAll, listSent, listTold, listWords, rxListBurst}
 use Rattle.bursts.specs.Bursts as bursts
 use Rattle.bursts.specs.Reroute.{floorOf, promoteWith, promoteAt, promoteAll, leavesOf, newRelay, mustMove, moveAt, moveAll, rerouteOf, sourceFor}
@@ -41,7 +41,7 @@ use Rattle.next.specs.declared.Due.{Due}
 use Rattle.next.specs.declared.Due.the-variants.{Free, Quiet, Close, Again, Missed}
 use Rattle.next.specs.declared.Act.{Act}
 use Rattle.next.specs.declared.Act.the-variants as act
-use Rattle.next.specs.Next.{Decision, spoke, after, pollOf, pollBy, directedBy, wordBy, pollStage, nextNumber, listFor, drawn, drewList, drawStage, rerouteStage, listStage, roundEnd, hurried, actOf, actBy, windowStage, closeStage, againStage, missedIn, missedEvent, overBy, missedStage, dueTurn, dueOf, byDue, ncsNext}
+use Rattle.next.specs.Next.{Decision, spoke, after, pollOf, pollBy, directedBy, wordBy, pollStage, nextNumber, listFor, drawn, drewList, drawStage, rerouteStage, listStage, roundEnd, broughtForward, actOf, actBy, windowStage, closeStage, againStage, missedIn, missedEvent, overBy, missedStage, dueTurn, dueOf, byDue, ncsNext}
 use Rattle.frames.specs.declared.Air.{Air}
 use Rattle.frames.specs.Reading.{Reading}
 use Rattle.frames.specs.Frames.{readFrames}
@@ -161,7 +161,7 @@ module _ (A : Allowed) where
 
   promote-same : (s : Station) (floor : Float) (i : ℕ) (x : Said) → SameSaid s x → SameSaid s (promoteAt floor i x)
   unfolding promoteAt
-  promote-same s floor i x h = promote-with s (promotableAt (hasBit (x .station .used) i) (seated (x .station) i) floor) i x h
+  promote-same s floor i x h = promote-with s (promotableAt (hasBit (x .station .used) i) (memberIn (x .station) i) floor) i x h
 
   move-same : (s : Station) (leaves c : ℕ) (x : Said) → SameSaid s x → SameSaid s (moveAt leaves c x)
   unfolding moveAt
@@ -183,8 +183,8 @@ module _ (A : Allowed) where
       reaches (told-walk A s u (calm A s s _ _ refl refl refl refl start))
       (fold-keeps (Same s) tellAt (λ i t h. h) 62 0 u (same s))
 
-  reach-hurried : (s : Station) (now : Float) → Reaches A s (hurried s now) (s .wait .turn)
-  reach-hurried s now =
+  reach-broughtForward : (s : Station) (now : Float) → Reaches A s (broughtForward s now) (s .wait .turn)
+  reach-broughtForward s now =
       cond-keeps (λ (t : Station). Reaches A s t (s .wait .turn)) (s .round .activity) _ s
       (λ _. reaches (calm A s s _ _ refl refl refl refl start) (same s)) (λ _. self s)
 
@@ -315,8 +315,8 @@ module _ (A : Allowed) (allowed : A .turns) (now : Float) (lent : List ℕ) wher
   window-stage : (s : Station) (P : Decision → Type 0) → s .wait .turn ≡ Idle → Leads 124 s P → P (windowStage s now lent)
   unfolding windowStage
   window-stage s P e f =
-      let t = hurried s now in
-      let h = reach-hurried A s now in
+      let t = broughtForward s now in
+      let h = reach-broughtForward A s now in
       cond-keeps P (lt now (s .round .windowend)) _ _ (λ _. f _ none (burst nothing))
       (λ _. act-by (actOf (t .round) (t .used) now) t P refl (h .turn ∙ e) (λ x m k. f x m (led h k)))
 

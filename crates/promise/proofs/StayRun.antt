@@ -41,7 +41,7 @@ use Rattle.signoff.specs.SignOff.{bereaveAt, bereaveAll, clearAt, clearAll, unh
 use Rattle.station.specs.SignOff.{signOffRefusal, signOffOf}
 use Rattle.promise.specs.Promise.{handed, Net, net, Call, Sent, Ledger, Lowest, PieceOk, admission, reading, signing, result, outcome, step, after, started, Stays, emptyBook, cover, alsoHanded, allBelow, bookFrame, bookFrames, eventsIn, answersOf, bookEnds, CallsOk, Holds, handedIn, Messages}
 use Rattle.promise.proofs.Item3.{item-3}
-use Rattle.promise.proofs.Runs.{nought, plain, one-cell, starts, joins, hears, hi, apart, near}
+use Rattle.promise.proofs.Runs.{zeroTime, plain, one-cell, starts, joins, hears, hi, apart, near}
 
 -- every message of a first stay is "hi", and of a later one "ho"
 abbrev pub hi-then-ho : Stays
@@ -49,7 +49,7 @@ hi-then-ho = record { watched = λ s t. true; text = λ s t k. cond (eqb t 0) (1
 
 -- boat B is admitted
 abbrev pub joins-too : Call
-joins-too = admission (packCall (66 ∷ 32 ∷ 32 ∷ 32 ∷ 32 ∷ 32 ∷ 32 ∷ [])) 63 nought 8192
+joins-too = admission (packCall (66 ∷ 32 ∷ 32 ∷ 32 ∷ 32 ∷ 32 ∷ 32 ∷ [])) 63 zeroTime 8192
 
 -- number 0 of slot 0 once more, "ho"
 abbrev ho : Call
@@ -115,7 +115,7 @@ former-broken g h = let z : _≡_ {A = ℕ} 105 111 = ap (λ (l : List ℕ). get
 
 -- boats B, C and D, relayed by A in slot 0
 abbrev relayed : ℕ → Call
-relayed letter = admission (packCall (letter ∷ 32 ∷ 32 ∷ 32 ∷ 32 ∷ 32 ∷ 32 ∷ [])) 0 nought 8192
+relayed letter = admission (packCall (letter ∷ 32 ∷ 32 ∷ 32 ∷ 32 ∷ 32 ∷ 32 ∷ [])) 0 zeroTime 8192
 
 -- number 0 of A has landed, the first byte of number 1 has come, and B's number 0 has begun: three cells
 abbrev all-come : List Call
@@ -152,7 +152,7 @@ three-silent = (refl, refl)
 
 -- its own turn ends with no deadline, and one that relays for it goes on with no source
 abbrev asked : ℕ → ℕ → Wait
-asked slot source = waitOf (Waiting (record { slot = slot; relayfor = source; tries = 1; turnbursts = 2 })) (At nought)
+asked slot source = waitOf (Waiting (record { slot = slot; relayfor = source; tries = 1; turnbursts = 2 })) (At zeroTime)
 
 pub turn-ends : strikeWait 5 (asked 5 9) ≡ idleWait
 turn-ends = refl

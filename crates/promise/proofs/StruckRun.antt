@@ -32,24 +32,24 @@ use Rattle.signoff.specs.SignOff.{bereaveAt, bereaveAll, clearAt, clearAll, unh
 use Rattle.station.specs.SignOff.{signOffRefusal, signOffOf}
 use Rattle.promise.specs.Promise.{handed, Net, net, Call, admission, reception, decision, sending, signing, result, step, after, drew, over, poll, struck, burstsIn, turnEvents, trace}
 use Rattle.promise.proofs.TurnsRun.{settings}
-use Rattle.promise.proofs.Runs.{nought}
+use Rattle.promise.proofs.Runs.{zeroTime}
 use Rattle.queue.specs.Queues.{isDue}
 use Rattle.bursts.specs.Direct.{directedTo}
 
 abbrev next : Call
-next = decision nought (replicate 126976 0) 8192
+next = decision zeroTime (replicate 126976 0) 8192
 
 abbrev sent : Call
-sent = sending nought
+sent = sending zeroTime
 
 abbrev joined : List Call
-joined = admission (0 ∷ 0 ∷ 0 ∷ 0 ∷ 1 ∷ []) 63 nought 8192 ∷ admission (0 ∷ 0 ∷ 0 ∷ 0 ∷ 2 ∷ []) 63 nought 8192 ∷ []
+joined = admission (0 ∷ 0 ∷ 0 ∷ 0 ∷ 1 ∷ []) 63 zeroTime 8192 ∷ admission (0 ∷ 0 ∷ 0 ∷ 0 ∷ 2 ∷ []) 63 zeroTime 8192 ∷ []
 
 -- slot 0 is polled and signs off before its poll has been sent; another boat takes the slot, is acknowledged, and slot 1 has its turn: two polls without an answer
 abbrev pub run : List Call
 run =
     joined
-    ++ (next ∷ sent ∷ next ∷ signing 0 ∷ sent ∷ admission (0 ∷ 0 ∷ 0 ∷ 0 ∷ 3 ∷ []) 63 nought 8192 ∷ next ∷ sent ∷ next ∷ sent ∷ next ∷ sent ∷ next ∷ [])
+    ++ (next ∷ sent ∷ next ∷ signing 0 ∷ sent ∷ admission (0 ∷ 0 ∷ 0 ∷ 0 ∷ 3 ∷ []) 63 zeroTime 8192 ∷ next ∷ sent ∷ next ∷ sent ∷ next ∷ sent ∷ next ∷ [])
 
 struck-run : trace run (net (newStation settings 1) (replicate 6400 7))
     ≡ drew (0 ∷ 1 ∷ []) ∷ poll 0 ∷ struck 0 ∷ poll 1 ∷ poll 1 ∷ over 1 ∷ drew (0 ∷ 1 ∷ []) ∷ poll 0 ∷ []
@@ -60,7 +60,7 @@ struck-run = refl
 
 -- slot 1 reports that it hears slot 0 at the level field 40
 abbrev reports : Call
-reports = reception (burstWords (record { head = record { code = 0; hi = 0; extra = 0 }; frames = heard 128 0 (3 ∷ 1 ∷ 30 ∷ 0 ∷ 0 ∷ 0 ∷ 0 ∷ 0 ∷ 0 ∷ 0 ∷ 0 ∷ 0 ∷ 0 ∷ 40 ∷ []) ∷ [] })) nought nought handed 8192 []
+reports = reception (burstWords (record { head = record { code = 0; hi = 0; extra = 0 }; frames = heard 128 0 (3 ∷ 1 ∷ 30 ∷ 0 ∷ 0 ∷ 0 ∷ 0 ∷ 0 ∷ 0 ∷ 0 ∷ 0 ∷ 0 ∷ 0 ∷ 40 ∷ []) ∷ [] })) zeroTime zeroTime handed 8192 []
 
 -- slot 0 does not answer twice, so slot 1 is polled with K_RELAY for it; then slot 0 signs off, and slot 1 is polled again
 abbrev relaying : List Call

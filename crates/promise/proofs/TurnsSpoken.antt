@@ -18,7 +18,7 @@ use Rattle.net.specs.declared.Turn.{Turn}
 use Rattle.net.specs.declared.Turn.the-variants.{Idle, Sending, Waiting}
 use Rattle.net.specs.State.{memberAt, withWait, oneReply, queueAt}
 use Rattle.net.specs.Net.{isMember, idleWait, waitOf, Said}
-use Rattle.bursts.specs.Rows.{ackRows, treeRows, listRows, leastDirect, reachLevel, seated}
+use Rattle.bursts.specs.Rows.{ackRows, treeRows, listRows, leastDirect, reachLevel, memberIn}
 use Rattle.bursts.specs.Bursts.{acked, movedIn, ackedOrMoved, acksBurst, beaconPayload, beaconAcks, beaconRows, beaconOf, listWords, acksLevel}
 use Rattle.bursts.specs.Reroute.{sourceFor}
 use Rattle.bursts.specs.Direct.{directBurst}
@@ -94,7 +94,7 @@ pub word-other : (s : Station) (lent : List ℕ) (slot : ℕ) → burstsIn (dire
 unfolding directBurst
 word-other s lent slot =
     w.down-burst (s .settings) lent slot (queueAt s slot) (reachLevel s slot)
-    (reach-lt (s .settings) (s .used) (seated s slot) (memberAt s (seated s slot .via)))
+    (reach-lt (s .settings) (s .used) (memberIn s slot) (memberAt s (memberIn s slot .via)))
 
 -- a turn begins
 fine-poll : (s : Station) (slot : ℕ) (r : Run) → lowestBit (s .round .list) ≡ found.At slot → Rel r Idle → Low (s .round .list)

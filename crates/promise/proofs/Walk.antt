@@ -35,8 +35,8 @@ use Rattle.net.specs.declared.Turn.the-variants.{Idle, Sending, Waiting}
 use Rattle.net.specs.declared.Wait.{Wait}
 use Rattle.net.specs.State.{memberAt, withMember, withMembers, withUsed, withHears, withWait, withRound, withTotals, withTable, withRecent, tableOf, withQueues}
 use Rattle.net.specs.Net.{isMember}
-use Rattle.bursts.specs.Rows.{seated}
-use Rattle.bursts.specs.Reroute.{withSeated, sourceFor}
+use Rattle.bursts.specs.Rows.{memberIn}
+use Rattle.bursts.specs.Reroute.{withMemberIn, sourceFor}
 use Rattle.next.specs.Next.{listFor}
 use Rattle.frames.specs.Pieces.{sizeOf}
 use Rattle.signoff.specs.SignOff.{signOff}
@@ -192,12 +192,12 @@ pub data Change (A : Allowed) (s : Station) : Station → Type 0 where
   -- a member hears slot k
   hears : (r k q : ℕ) → isMember (s .used) r ≡ true → k < 62 → Change A s (withHears s (set (s .hears) (r * 62 + k) (q % 64)))
   -- a boat's fields, and those with its missed count, which the total of silent boats follows
-  written : (i : ℕ) (m : Member) → i < 62 → isMember (s .used) i ≡ true → Fields A (seated s i) m → Change A s (withMembers s (set (s .members) i m))
-  counted : (i : ℕ) (m : Member) (n : ℕ) → i < 62 → isMember (s .used) i ≡ true → Fields A (seated s i) m → Change A s (withSeated s i (withMissed m n))
+  written : (i : ℕ) (m : Member) → i < 62 → isMember (s .used) i ≡ true → Fields A (memberIn s i) m → Change A s (withMembers s (set (s .members) i m))
+  counted : (i : ℕ) (m : Member) (n : ℕ) → i < 62 → isMember (s .used) i ≡ true → Fields A (memberIn s i) m → Change A s (withMemberIn s i (withMissed m n))
   -- a leaf loses its relay; a boat gets another one, which has none itself
-  promoted : (i : ℕ) (snr : Float) → i < 62 → isMember (s .used) i ≡ true → seated s i .direct ≡ Decibels snr → Change A s (withSeated s i (promotedAt (seated s i) snr))
-  moved : (c r : ℕ) → c < 62 → isMember (s .used) c ≡ true → isMember (s .used) r ≡ true → couldRelay (seated s r) ≡ true → (r ≡ c → ⊥)
-      → Change A s (withSeated s c (reroutedTo (seated s c) r))
+  promoted : (i : ℕ) (snr : Float) → i < 62 → isMember (s .used) i ≡ true → memberIn s i .direct ≡ Decibels snr → Change A s (withMemberIn s i (promotedAt (memberIn s i) snr))
+  moved : (c r : ℕ) → c < 62 → isMember (s .used) c ≡ true → isMember (s .used) r ≡ true → couldRelay (memberIn s r) ≡ true → (r ≡ c → ⊥)
+      → Change A s (withMemberIn s c (reroutedTo (memberIn s c) r))
   -- a boat's last reception levels
   readings : (i : ℕ) (r : Recent) → i < 62 → isMember (s .used) i ≡ true → Change A s (withRecent s (set (s .recent) i r))
   -- a newcomer takes a free slot

@@ -34,7 +34,7 @@ use Rattle.net.specs.declared.Wait.{Wait}
 use Rattle.net.specs.State.{indexOf, memberAt, withMember, withMembers, withCounted, withWait, withRound, withTotals, alsoAck, alsoNews, withRecent, queueAt, withQueue}
 use Rattle.net.specs.Net.{isMember, Said, said, membersIn}
 use Rattle.net.proofs.Laws.{index-lt, index-is, member-lt, member-is}
-use Rattle.bursts.specs.Rows.{seated}
+use Rattle.bursts.specs.Rows.{memberIn}
 use Rattle.bursts.specs.Bursts.{acked, withoutFound, beyond, tellAt, tellAll}
 use Rattle.bursts.specs.Reroute.{ableAt, ableOf, floorOf, promoteWith, promoteAt, promoteAll, leafAt, leavesOf, newRelay, mustMove, moveAt, moveAll, rerouteOf}
 use Rattle.bursts.proofs.Masks.{mask-where}
@@ -85,22 +85,22 @@ promotes (Decibels d) leaf floor snr e =
     (and-true leaf (le floor d) (b .0) .0, b .1)
 
 leaf-here : (t : Station) (c : ℕ) → c < 62 → hasBit (leavesOf t) c ≡ true → hasBit (t .used) c ≡ true
-leaf-here t c h e = and-true (hasBit (t .used) c) (isLeaf (seated t c) (t .settings .misslimit)) (sym (mask-where (leafAt t) c h) ∙ e) .0
+leaf-here t c h e = and-true (hasBit (t .used) c) (isLeaf (memberIn t c) (t .settings .misslimit)) (sym (mask-where (leafAt t) c h) ∙ e) .0
 
 -- a leaf moves to a boat that could relay
 module _ (s : Station) (c r : ℕ) (e : newRelay s c ≡ r) (l : r < 62) where
   able-in : (hasBit (ableOf s) r ≡ true) × (r ≡ c → ⊥)
   able-in =
-      let h = best-high-able (s .hears) (withoutBit (withoutBit (ableOf s) c) (seated s c .via)) c (s .settings .relaysnr) r e l in
-      without-in (ableOf s) c r (without-in (withoutBit (ableOf s) c) (seated s c .via) r h .0)
+      let h = best-high-able (s .hears) (withoutBit (withoutBit (ableOf s) c) (memberIn s c .via)) c (s .settings .relaysnr) r e l in
+      without-in (ableOf s) c r (without-in (withoutBit (ableOf s) c) (memberIn s c .via) r h .0)
 
-  able-at : (hasBit (s .used) r ≡ true) × (couldRelay (seated s r) ≡ true)
-  able-at = and-true (hasBit (s .used) r) (couldRelay (seated s r)) (sym (mask-where (ableAt s) r l) ∙ able-in .0)
+  able-at : (hasBit (s .used) r ≡ true) × (couldRelay (memberIn s r) ≡ true)
+  able-at = and-true (hasBit (s .used) r) (couldRelay (memberIn s r)) (sym (mask-where (ableAt s) r l) ∙ able-in .0)
 
 relay-lt : (s : Station) (c : ℕ) → eqb (newRelay s c) 63 ≡ false → newRelay s c < 62
 relay-lt s c f =
     ⊎-elim (λ l. l) (λ e. absurd (eqb-false (newRelay s c) 63 f e))
-    (best-high-slot (s .hears) (withoutBit (withoutBit (ableOf s) c) (seated s c .via)) c (s .settings .relaysnr))
+    (best-high-slot (s .hears) (withoutBit (withoutBit (ableOf s) c) (memberIn s c .via)) c (s .settings .relaysnr))
 
 module _ (A : Allowed) where
   -- ---- the changes at a slot, from s₀ on
@@ -153,8 +153,8 @@ module _ (A : Allowed) where
 
     tell-walk : (i : ℕ) (s : Station) → i < 62 → Chain A s₀ s → Chain A s₀ (tellAt i s)
     tell-walk i s h k =
-        cond-keeps (λ (m : Member). Chain A s₀ (withMembers s (set (s .members) i m))) (hasBit (s .used) i && isNews (seated s i)) (toldNow (seated s i)) (seated s i)
-        (λ e. more k (written i (toldNow (seated s i)) h (member-is (s .used) i h ∙ and-true (hasBit (s .used) i) _ e .0) (also none told)))
+        cond-keeps (λ (m : Member). Chain A s₀ (withMembers s (set (s .members) i m))) (hasBit (s .used) i && isNews (memberIn s i)) (toldNow (memberIn s i)) (memberIn s i)
+        (λ e. more k (written i (toldNow (memberIn s i)) h (member-is (s .used) i h ∙ and-true (hasBit (s .used) i) _ e .0) (also none told)))
         (λ _. subst (Chain A s₀) (sym (ap (withMembers s) (set-getD (s .members) i _))) k)
 
     pub told-walk : (s : Station) → Chain A s₀ s → Chain A s₀ (tellAll s)
@@ -164,7 +164,7 @@ module _ (A : Allowed) where
     -- ---- reroute
 
     promote-with : (l : Level) (i : ℕ) (x : Said) → i < 62
-        → ((snr : Float) → l ≡ Decibels snr → (isMember (x .station .used) i ≡ true) × (seated (x .station) i .direct ≡ Decibels snr)) → WalkSaid x
+        → ((snr : Float) → l ≡ Decibels snr → (isMember (x .station .used) i ≡ true) × (memberIn (x .station) i .direct ≡ Decibels snr)) → WalkSaid x
         → WalkSaid (promoteWith l i x)
     promote-with Unheard i x h f k = k
     promote-with (Decibels snr) i x h f k =
@@ -174,7 +174,7 @@ module _ (A : Allowed) where
     unfolding promoteAt
     promote-walk floor i x h k =
         let u = x .station .used in
-        let m = seated (x .station) i in
+        let m = memberIn (x .station) i in
         promote-with (promotableAt (hasBit u i) m floor) i x h
         (λ snr e.
         let p = promotes (m .direct) (hasBit u i && not (eqb (m .via) 63)) floor snr e in

@@ -10,7 +10,7 @@ use lib.ListN.{getD, set, replicate}
 use Rattle.bits.specs.Mask.{hasBit, withBit, withoutBit}
 use Rattle.bits.proofs.Lists.{cond-keeps}
 use Rattle.bits.proofs.Loops.{fold-keeps}
-use Rattle.level.specs.Consts.{nought}
+use Rattle.level.specs.Consts.{zeroTime}
 use Rattle.level.specs.declared.Level.the-variants.{Decibels}
 use Rattle.recent.specs.declared.Recent.{Recent}
 use Rattle.queue.specs.declared.Queue.{Queue}
@@ -23,8 +23,8 @@ use Rattle.net.specs.declared.Settings.{Settings}
 use Rattle.net.specs.State.{indexOf, withRecent, recentAt}
 use Rattle.net.specs.Net.{isMember, blankCall}
 use Rattle.net.proofs.Laws.{index-lt}
-use Rattle.bursts.specs.Rows.{seated}
-use Rattle.bursts.specs.Reroute.{withSeated}
+use Rattle.bursts.specs.Rows.{memberIn}
+use Rattle.bursts.specs.Reroute.{withMemberIn}
 use Rattle.signoff.specs.SignOff.{vacant, leave, untried, cutOff, bereft, bereftOf, bereaveAt, bereaveAll, struckOff, signOff}
 use Rattle.promise.proofs.Walk.{Allowed, Field, fields-keep, Stays, stays, over-keeps, over-stays, RelayOk, Change, Chain, chain-keeps}
 use Rattle.promise.proofs.Walk as walk
@@ -36,15 +36,15 @@ use Rattle.promise.proofs.Signs.{sign-beside}
 -- what a change makes of the settings, the slots in use, the members and the total of silent boats
 pub data Roster (s : Station) : Settings → ℕ → List Member → ℕ → Type 0 where
   same : Roster s (s .settings) (s .used) (s .members) (s .totals .silent)
-  written : (i : ℕ) (m : Member) → i < 62 → isMember (s .used) i ≡ true → Stays (seated s i) m → Roster s (s .settings) (s .used) (set (s .members) i m) (s .totals .silent)
-  counted : (i : ℕ) (m : Member) → i < 62 → isMember (s .used) i ≡ true → m .call ≡ seated s i .call → m .via ≡ seated s i .via
-      → Roster s (s .settings) (s .used) (set (s .members) i m) (tally (s .totals .silent) (silentAt (s .settings .misslimit) (seated s i)) (silentAt (s .settings .misslimit) m))
+  written : (i : ℕ) (m : Member) → i < 62 → isMember (s .used) i ≡ true → Stays (memberIn s i) m → Roster s (s .settings) (s .used) (set (s .members) i m) (s .totals .silent)
+  counted : (i : ℕ) (m : Member) → i < 62 → isMember (s .used) i ≡ true → m .call ≡ memberIn s i .call → m .via ≡ memberIn s i .via
+      → Roster s (s .settings) (s .used) (set (s .members) i m) (tally (s .totals .silent) (silentAt (s .settings .misslimit) (memberIn s i)) (silentAt (s .settings .misslimit) m))
   promoted : (i : ℕ) (snr : Float) → i < 62 → isMember (s .used) i ≡ true
-      → Roster s (s .settings) (s .used) (set (s .members) i (promotedAt (seated s i) snr))
-      (tally (s .totals .silent) (silentAt (s .settings .misslimit) (seated s i)) (silentAt (s .settings .misslimit) (promotedAt (seated s i) snr)))
-  moved : (c r : ℕ) → c < 62 → isMember (s .used) c ≡ true → isMember (s .used) r ≡ true → couldRelay (seated s r) ≡ true → (r ≡ c → ⊥)
-      → Roster s (s .settings) (s .used) (set (s .members) c (reroutedTo (seated s c) r))
-      (tally (s .totals .silent) (silentAt (s .settings .misslimit) (seated s c)) (silentAt (s .settings .misslimit) (reroutedTo (seated s c) r)))
+      → Roster s (s .settings) (s .used) (set (s .members) i (promotedAt (memberIn s i) snr))
+      (tally (s .totals .silent) (silentAt (s .settings .misslimit) (memberIn s i)) (silentAt (s .settings .misslimit) (promotedAt (memberIn s i) snr)))
+  moved : (c r : ℕ) → c < 62 → isMember (s .used) c ≡ true → isMember (s .used) r ≡ true → couldRelay (memberIn s r) ≡ true → (r ≡ c → ⊥)
+      → Roster s (s .settings) (s .used) (set (s .members) c (reroutedTo (memberIn s c) r))
+      (tally (s .totals .silent) (silentAt (s .settings .misslimit) (memberIn s c)) (silentAt (s .settings .misslimit) (reroutedTo (memberIn s c) r)))
   entered : (i : ℕ) (call : List ℕ) (v : ℕ) (now : Float) → i < 62 → hasBit (s .used) i ≡ false → RelayOk (s .used) v
       → Roster s (s .settings) (withBit (s .used) i) (set (s .members) i (newMember call v now)) (s .totals .silent)
   signsOff : (slot : ℕ) → isMember (s .used) slot ≡ true
@@ -147,27 +147,27 @@ module _ (A : Allowed) (Q : Member → Type 0) (e : Each A Q) where
   bereave-every : (slot j : ℕ) (s : Station) → Every Q s → Every Q (bereaveAt slot j s)
   unfolding bereaveAt
   bereave-every slot j s l =
-      let m = seated s j in
+      let m = memberIn s j in
       let q = e .marked m (m .marknext) (m .markbits) (withoutBit (m .tried) slot) (l j) in
-      cond-keeps (Every Q) (hasBit (s .used) j) (withRecent (withSeated s j (bereft slot (s .settings .misslimit) m)) (set (s .recent) j (bereftOf slot m (recentAt s j)))) s
+      cond-keeps (Every Q) (hasBit (s .used) j) (withRecent (withMemberIn s j (bereft slot (s .settings .misslimit) m)) (set (s .recent) j (bereftOf slot m (recentAt s j)))) s
       (λ _. set-every Q (s .members) j _ (cond-keeps Q (eqb (m .via) slot) _ _ (λ _. e .cut (untried slot m) (s .settings .misslimit) q) (λ _. q)) l) (λ _. l)
 
   sign-every : (s : Station) (slot : ℕ) → Every Q s → Every Q (signOff s slot)
   unfolding signOff bereaveAll
   sign-every s slot l =
-      fold-keeps (Every Q) (bereaveAt slot) (bereave-every slot) 62 0 (leave slot (struckOff slot s)) (set-every Q (s .members) slot vacant (e .entered blankCall 63 nought) l)
+      fold-keeps (Every Q) (bereaveAt slot) (bereave-every slot) 62 0 (leave slot (struckOff slot s)) (set-every Q (s .members) slot vacant (e .entered blankCall 63 zeroTime) l)
 
   pub every : (s t : Station) → Change A s t → Every Q s → Every Q t
   every s t (walk.others r n q m z) l = l
   every s t (walk.turned a w r n y m q) l = l
   every s t (walk.over a r q here) l =
       let i = indexOf (r .relayfor) in
-      set-every Q (s .members) i _ (over-keeps Q (s .hears) (s .used) (seated s i) (r .relayfor) (r .slot) (λ next marks tried. e .marked (seated s i) next marks tried (l i))) l
+      set-every Q (s .members) i _ (over-keeps Q (s .hears) (s .used) (memberIn s i) (r .relayfor) (r .slot) (λ next marks tried. e .marked (memberIn s i) next marks tried (l i))) l
   every s t (walk.hears r c q h z) l = l
   every s t (walk.written i m h here f) l = set-every Q (s .members) i m (fields-keep Q (e .field) f (l i)) l
   every s t (walk.counted i m n h here f) l = set-every Q (s .members) i _ (e .missed m n (fields-keep Q (e .field) f (l i))) l
-  every s t (walk.promoted i snr h here d) l = set-every Q (s .members) i _ (e .promoted (seated s i) snr d (l i)) l
-  every s t (walk.moved c r h here there able n) l = set-every Q (s .members) c _ (e .moved (seated s c) r (l c)) l
+  every s t (walk.promoted i snr h here d) l = set-every Q (s .members) i _ (e .promoted (memberIn s i) snr d (l i)) l
+  every s t (walk.moved c r h here there able n) l = set-every Q (s .members) c _ (e .moved (memberIn s c) r (l c)) l
   every s t (walk.readings i r h here) l = l
   every s t (walk.entered i call v now h free r) l = set-every Q (s .members) i _ (e .entered call v now) l
   every s t (walk.queued i q h here f) l = l

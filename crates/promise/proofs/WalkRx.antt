@@ -37,7 +37,7 @@ use Rattle.frames.specs.Reading.{Reading}
 use Rattle.frames.specs.Pieces.{isAsideLeaf, heardMember, isRelayed, trafficIf, relayIf, unkeptAt, barredPiece, keptPiece, pieceFrame}
 use Rattle.frames.specs.Control.{eachEntry, checkinMember, checkedIn, withActive, callAt, checkinFrame, isForwarded, reportMember, hearPair, reportStation, reportFrame, relayOf, newcomer, hearing, overheardBy, overheardEntry, overheardFrame, isKid, kidEntry, kidsFrame, kidMember, hearPairs, u24}
 use Rattle.frames.specs.Frames.{controlBy, readFrame, frameStep, readFrames}
-use Rattle.rx.specs.Ending.{isBusy, putOff, idleMember, idleHeard, replyHeard, busyWait}
+use Rattle.rx.specs.Ending.{isBusy, postponed, idleMember, idleHeard, replyHeard, busyWait}
 use Rattle.promise.proofs.FrameCases.{control-cases, frame-cases}
 use Rattle.promise.proofs.Walk.{Allowed, Fields, none, also, burst, caps, version, down, received, direct, reached, RelayOk, hears, entered, offered, piece, landed, barred, Chain, start, more, chain-then}
 use Rattle.promise.proofs.Walk as walk
@@ -81,14 +81,14 @@ new-here : (used i : ℕ) → i < 62 → isMember (withBit used (indexOf i)) i �
 new-here used i h = rw (index-is i h) (member-is (withBit used i) i h ∙ with-same used i (omega arith))
 
 -- the deadline moves, and nothing else
-put-off : (y : Turn) (v : Wait) (at : Float) → v .turn ≡ y → putOff y v at .turn ≡ v .turn
+put-off : (y : Turn) (v : Wait) (at : Float) → v .turn ≡ y → postponed y v at .turn ≡ v .turn
 put-off Idle v at e = refl
 put-off Sending v at e = refl
 put-off (Waiting p) v at e = sym e
 
 pub busy-turn : (v : Wait) (h : Head) (g : Settings) (now : Float) → busyWait v h g now .turn ≡ v .turn
 busy-turn v h g now =
-    cond-keeps (λ y. y .turn ≡ v .turn) (isBusy h) (putOff (v .turn) v (plus now (leafWait g))) v (λ e. put-off (v .turn) v (plus now (leafWait g)) refl) (λ e. refl)
+    cond-keeps (λ y. y .turn ≡ v .turn) (isBusy h) (postponed (v .turn) v (plus now (leafWait g))) v (λ e. put-off (v .turn) v (plus now (leafWait g)) refl) (λ e. refl)
 
 pub idle-wait : (a : Air) (extra : ℕ) (s : Station) → idleHeard a extra s .wait ≡ s .wait
 idle-wait a extra s = cond-keeps (λ (t : Station). t .wait ≡ s .wait) (isMember (s .used) (extra % 64)) _ s (λ _. refl) (λ _. refl)

@@ -19,7 +19,7 @@ use Rattle.stream.specs.Table.{hasLanded}
 use Rattle.roster.specs.Relays.{promotableAt}
 use Rattle.net.specs.declared.Station.{Station}
 use Rattle.net.specs.Net.{isMember, Said, said}
-use Rattle.bursts.specs.Rows.{seated}
+use Rattle.bursts.specs.Rows.{memberIn}
 use Rattle.bursts.specs.Reroute.{floorOf, promoteWith, promoteAt, promoteAll, leavesOf, newRelay, mustMove, moveAt, moveAll, rerouteOf}
 use Rattle.admit.specs.declared.Seat.{Seat}
 use Rattle.admit.specs.declared.Seat.the-variants.{Known, Free, Full}
@@ -85,7 +85,7 @@ module _ (M : Type 0) where
 
   promote-events : (floor : Float) (i n : ℕ) (x : Said) → Says n x → Says (n + 1) (promoteAt floor i x)
   unfolding promoteAt
-  promote-events floor i n x e = promote-with (promotableAt (hasBit (x .station .used) i) (seated (x .station) i) floor) i n x e
+  promote-events floor i n x e = promote-with (promotableAt (hasBit (x .station .used) i) (memberIn (x .station) i) floor) i n x e
 
   move-events : (leaves c n : ℕ) (x : Said) → Says n x → Says (n + 1) (moveAt leaves c x)
   unfolding moveAt

@@ -32,8 +32,8 @@ admit-count (Known i) s call via now = refl
 admit-count (Free i) s call via now = refl
 admit-count Full s call via now = refl
 
-seated-count : (seat : Seat) (a : Air) (len : ℕ) (p : List ℕ) (d : Said) → seatedIn seat a len p d .station .count ≡ d .station .count
-seated-count seat a len p d = at (eqb (slotOf seat) 255)
+memberIn-count : (seat : Seat) (a : Air) (len : ℕ) (p : List ℕ) (d : Said) → seatedIn seat a len p d .station .count ≡ d .station .count
+memberIn-count seat a len p d = at (eqb (slotOf seat) 255)
   where
     at : (t : Bool)
         → cond t (withActive (d .station)) (alsoNoted (withMember (withActive (d .station)) (slotOf seat) (checkinMember a len p (memberAt (withActive (d .station)) (slotOf seat)))) (indexOf (slotOf seat)) (a .level)) .count ≡ d .station .count
@@ -69,7 +69,7 @@ control-count Nothing a slot len p s = refl
 control-count Piece a slot len p s = refl
 control-count Checkin a slot len p s =
     let seat = seatOf s (callAt p 1) in
-    seated-count seat a len p (admitBy seat s (callAt p 1) 63 (a .time)) ∙ admit-count seat s (callAt p 1) 63 (a .time)
+    memberIn-count seat a len p (admitBy seat s (callAt p 1) 63 (a .time)) ∙ admit-count seat s (callAt p 1) 63 (a .time)
 control-count Report a slot len p s = refl
 control-count Overheard a slot len p s =
     each-keeps (λ x. x .station .count ≡ s .count) (overheardEntry a p slot (relayOf s slot)) 8 len

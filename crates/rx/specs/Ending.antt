@@ -34,13 +34,13 @@ abbrev pub isBusy : Head → Bool
 isBusy h = isAside h || (eqb (h .code) tiny && (eqb (h .hi) kSubpoll || eqb (h .hi) kSuback))
 
 -- it is given time; a station that waits for no reply has no deadline to move
-abbrev pub putOff : Turn → Wait → Float → Wait
-putOff Idle w at = w
-putOff Sending w at = w
-putOff (Waiting r) w at = waitOf (Waiting r) (At at)
+abbrev pub postponed : Turn → Wait → Float → Wait
+postponed Idle w at = w
+postponed Sending w at = w
+postponed (Waiting r) w at = waitOf (Waiting r) (At at)
 
 abbrev pub busyWait : Wait → Head → Settings → Float → Wait
-busyWait w h g now = cond (isBusy h) (putOff (w .turn) w (plus now (leafWait g))) w
+busyWait w h g now = cond (isBusy h) (postponed (w .turn) w (plus now (leafWait g))) w
 
 -- what a reception comes to at its end: the station, the burst, and the slot the waiting for whose reply ended
 pub record Ended : Type 0 where

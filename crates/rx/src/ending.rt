@@ -2,7 +2,7 @@
 ghost use mathlib.Core.Path.{_≡_};
 ghost use Prim.Native.Nat.{_+_, _%_};
 ghost use Rattle.out.specs.Encode.{Wrote};
-ghost use Rattle.rx.specs.Ending.{isAside, isBusy, putOff, busyWait, goesOn, isReply, idleMember, replyMember, ackExtra};
+ghost use Rattle.rx.specs.Ending.{isAside, isBusy, postponed, busyWait, goesOn, isReply, idleMember, replyMember, ackExtra};
 ghost use Rattle.rx.specs.Code.Ending.{noReply, awaits, awaitedOf, noEnding, idleEnding, replyEnding, endingBy, endMember, endRecent, endSource, endWait, endTotals, endLevel, endWords};
 use frames::Air;
 use frames::Rx;
@@ -28,7 +28,7 @@ pub fn busy_wait(w: Wait, h: Head, g: Settings, time: f64) -> Wait
     ensures { λ r. ⌜ r ≡ busyWait w h g time ⌝ }
 {
     if is_busy(h) {
-        return put_off(w, time + net::leaf_wait(g));
+        return postponed(w, time + net::leaf_wait(g));
     }
     w
 }
@@ -40,8 +40,8 @@ fn is_busy(h: Head) -> bool
     is_aside(h) | ((h.code == wire::TINY) & ((h.hi == wire::K_SUBPOLL) | (h.hi == wire::K_SUBACK)))
 }
 
-fn put_off(w: Wait, at: f64) -> Wait
-    ensures { λ r. ⌜ r ≡ putOff (w .turn) w at ⌝ }
+fn postponed(w: Wait, at: f64) -> Wait
+    ensures { λ r. ⌜ r ≡ postponed (w .turn) w at ⌝ }
 {
     let turn = w.turn;
     match turn {

@@ -4,7 +4,7 @@ use Prim.Native.Nat.{ℕ, _/_, _%_}
 use lib.IntN.{pos}
 use lib.Dec.{eqb, ltb, leb}
 use lib.Ieee.{Float, binary32, binary64, ofBits, ofInt, sub, div}
-use Rattle.level.specs.Consts.{nought}
+use Rattle.level.specs.Consts.{zeroTime}
 use Rattle.script.specs.declared.action.Control.{Control}
 use Rattle.script.specs.declared.action.Action.{Action}
 use Rattle.script.specs.declared.action.Action.the-variants.{Push, Bad, Time, Level, Open, Next, Sent, Close, Read, Free, Roster, SignOff, Ask, Fill}
@@ -108,7 +108,7 @@ abbrev pub silence : Float
 silence = ofBits binary32 0x0000_0000
 
 abbrev pub firstControl : Bool → Bool → Control
-firstControl drive panel = record { drive = drive; panel = panel; command = 0; words = 0; cells = 10; now = nought; level = silence; end = 0 }
+firstControl drive panel = record { drive = drive; panel = panel; command = 0; words = 0; cells = 10; now = zeroTime; level = silence; end = 0 }
 
 -- kind 14: eighths of a second in bits 27-0
 abbrev pub timeOf : ℕ → Float

@@ -19,7 +19,7 @@ use Rattle.net.specs.declared.Wait.{Wait}
 use Rattle.net.specs.declared.Round.{Round}
 use Rattle.net.specs.Net.{isMember, newStation}
 use Rattle.net.proofs.Laws.{member-lt, member-has, member-is}
-use Rattle.bursts.specs.Rows.{seated}
+use Rattle.bursts.specs.Rows.{memberIn}
 use Rattle.bursts.proofs.Masks.{mask-where, mask-past}
 use Rattle.next.specs.Next.{listFor}
 use Rattle.config.specs.declared.Given.{Given}
@@ -57,9 +57,9 @@ drawn-in : (s : Station) (n : ℕ) → ListIn (s .used) (listFor s n)
 unfolding listFor
 drawn-in s n i t =
     ⊎-elim (λ l.
-    let q = sym (mask-where (λ j. hasBit (s .used) j && eqb (seated s j .via) 63 && (eqb (n % 4) 0 || ltb (seated s j .missed) (s .settings .misslimit))) i l) ∙ t in
-    member-is (s .used) i l ∙ and-true (hasBit (s .used) i) (eqb (seated s i .via) 63) (and-true (hasBit (s .used) i && eqb (seated s i .via) 63) _ q .0) .0)
-    (λ l. absurd (never-both _ t (mask-past (λ j. hasBit (s .used) j && eqb (seated s j .via) 63 && (eqb (n % 4) 0 || ltb (seated s j .missed) (s .settings .misslimit))) i l)))
+    let q = sym (mask-where (λ j. hasBit (s .used) j && eqb (memberIn s j .via) 63 && (eqb (n % 4) 0 || ltb (memberIn s j .missed) (s .settings .misslimit))) i l) ∙ t in
+    member-is (s .used) i l ∙ and-true (hasBit (s .used) i) (eqb (memberIn s i .via) 63) (and-true (hasBit (s .used) i && eqb (memberIn s i .via) 63) _ q .0) .0)
+    (λ l. absurd (never-both _ t (mask-past (λ j. hasBit (s .used) j && eqb (memberIn s j .via) 63 && (eqb (n % 4) 0 || ltb (memberIn s j .missed) (s .settings .misslimit))) i l)))
     (lt-or-le i 62)
 
 turned-list : {s : Station} {y : Turn} {m : ℕ} → Turned s y m → ListIn (s .used) (s .round .list) → ListIn (s .used) m

@@ -8,7 +8,7 @@ use lib.ListN.{getD, set}
 use Rattle.bits.specs.Loop.{fold}
 use Rattle.bits.specs.Mask.{hasBit, withoutBit}
 use Rattle.level.specs.declared.Level.the-variants.{Unheard}
-use Rattle.level.specs.Consts.{nought}
+use Rattle.level.specs.Consts.{zeroTime}
 use Rattle.stream.specs.Table.{Table, freedTable}
 use Rattle.recent.specs.declared.Recent.{Recent}
 use Rattle.recent.specs.Readings.{empty}
@@ -23,17 +23,17 @@ use Rattle.net.specs.declared.Turn.the-variants.{Idle, Sending, Waiting}
 use Rattle.net.specs.declared.Wait.{Wait}
 use Rattle.net.specs.State.{withWait, withRound, withUsed, withHears, withTable, tableOf, withList, withToack, withTreenews, withRecent, recentAt, emptied, withQueues}
 use Rattle.net.specs.Net.{blankCall, idleWait, waitOf}
-use Rattle.bursts.specs.Rows.{seated}
-use Rattle.bursts.specs.Reroute.{withSeated}
+use Rattle.bursts.specs.Rows.{memberIn}
+use Rattle.bursts.specs.Reroute.{withMemberIn}
 
 -- ---- 'frees the slot': its place is as at a start, and it is no silent boat any more
 
 abbrev pub vacant : Member
-vacant = newMember blankCall 63 nought
+vacant = newMember blankCall 63 zeroTime
 
 -- its readings go with it (U13), and its barred numbers (U4), which are in the record; 'its directed queue': nothing is posted to the slot's next holder (U1)
 abbrev pub leave : ℕ → Station → Station
-leave slot s = withQueues (withUsed (emptied (withSeated s slot vacant) slot) (withoutBit (s .used) slot)) (set (s .queues) slot emptyQueue)
+leave slot s = withQueues (withUsed (emptied (withMemberIn s slot vacant) slot) (withoutBit (s .used) slot)) (set (s .queues) slot emptyQueue)
 
 -- ---- the other boats
 
@@ -56,7 +56,7 @@ bereftOf slot m r = cond (eqb (m .via) slot) empty r
 unfoldable pub bereaveAt : ℕ → ℕ → Station → Station
 bereaveAt slot i s =
     cond (hasBit (s .used) i)
-    (withRecent (withSeated s i (bereft slot (s .settings .misslimit) (seated s i))) (set (s .recent) i (bereftOf slot (seated s i) (recentAt s i)))) s
+    (withRecent (withMemberIn s i (bereft slot (s .settings .misslimit) (memberIn s i))) (set (s .recent) i (bereftOf slot (memberIn s i) (recentAt s i)))) s
 
 unfoldable pub bereaveAll : ℕ → Station → Station
 bereaveAll slot s = fold (bereaveAt slot) 62 0 s

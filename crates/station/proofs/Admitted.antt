@@ -29,14 +29,14 @@ module _ (s : Station) (call : List ℕ) (via : ℕ) (now : Float) where
   none-by true found = refl
   none-by false found = refl
 
-  seated : (seat : Seat) (fresh full : Bool) (slot i : ℕ) (k : Member) (z : Recent) (y : Queue) (used acks : ℕ) {l m : List ℕ} {j : ℕ}
+  memberIn : (seat : Seat) (fresh full : Bool) (slot i : ℕ) (k : Member) (z : Recent) (y : Queue) (used acks : ℕ) {l m : List ℕ} {j : ℕ}
       → fresh ≡ isFree seat → full ≡ isFull seat → slot ≡ slotOf seat → i ≡ indexOf slot
       → k ≡ cond fresh (newMember call via now) (getD (s .members) i noMember) → z ≡ cond fresh empty (getD (s .recent) i noRecent)
       → y ≡ cond fresh emptyQueue (getD (s .queues) i emptyQueue) → used ≡ cond fresh (withBit (s .used) i) (s .used)
       → acks ≡ cond (not full) (withBit (s .round .toack) i) (s .round .toack)
       → Wrote l 0 (cond fresh (admitEvents slot via) []) m j
       → Did (admitBy seat s call via now) (storedAt s i k z y used acks) l 0 m j
-  seated seat fresh full slot i k z y used acks ef el es ei ek ez ey eu ea w =
+  memberIn seat fresh full slot i k z y used acks ef el es ei ek ez ey eu ea w =
       record {
         station = rw (ea, eu, ey, ez, ek, ei, es, el, ef) (seat-station seat s call via now);
         wrote = wrote-as w (rw (es, ef) (seat-words seat s call via now));
@@ -51,4 +51,4 @@ module _ (s : Station) (call : List ℕ) (via : ℕ) (now : Float) where
       → Did (cond (eqb n 0) (admitBy found s call via now) (said s [])) (storedAt s i k z y used acks) l 0 m j
   admit-stored n found seat fresh full slot i k z y used acks {l} {m} {j} e ef el es ei ek ez ey eu ea w =
       subst (λ (d : Said). Did d (storedAt s i k z y used acks) l 0 m j) (ap (λ (t : Seat). admitBy t s call via now) e ∙ none-by (eqb n 0) found)
-      (seated seat fresh full slot i k z y used acks ef el es ei ek ez ey eu ea w)
+      (memberIn seat fresh full slot i k z y used acks ef el es ei ek ez ey eu ea w)

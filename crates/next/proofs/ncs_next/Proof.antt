@@ -10,7 +10,7 @@ use Rattle.net.proofs.Laws.{index-lt}
 use Rattle.bursts.proofs.Saying.{did-as}
 use Rattle.next.specs.Code.Decision.{pollSource, directIf}
 use Rattle.next.proofs.Looks.{Looking, looking-start, looking-turn, looked, to-is, slot-is, source-is}
-use Rattle.next.proofs.Calls.{did-none, not-said, spoken-did, not-draw, is-draw, seldom-did, laid, direct-some, direct-none, direct-lt, poll-did, next-said}
+use Rattle.next.proofs.Calls.{did-none, not-said, spoken-did, not-draw, is-draw, stage-by-did, laid, direct-some, direct-none, direct-lt, poll-did, next-said}
 use borrow.Author.Needs.{needs}
 use Rattle.next.proofs.ncs_next.Statement.{statement}
 use Rattle.next.proofs.ncs_next.Tie as tie
@@ -250,7 +250,7 @@ returns c =
     (poll-did act (e .if3 .s) at source (px .index3 .ensures) (ph .is-member2 .ensures) (pp .put-poll .ensures) (pw .poll-wait .ensures) (pt .poll-totals .ensures) (pl .poll-list .ensures))
     (rw (f .front .ensures) at to)
     word
-    (seldom-did act st (a .time) (n .if1 .s) (n .if1 .o) (n .if1 .at)
+    (stage-by-did act st (a .time) (n .if1 .s) (n .if1 .o) (n .if1 .at)
     (⊎-elim
     (λ w. rw (w .9, w .7, w .8) (spoken-did act st (a .time) (sym (n .before .is-said .ensures) ∙ w .0 .taken) (w .3 .ensures .0) (w .6 .ensures) (w .3 .ensures .1)))
     (λ w. rw (w .3, w .1, w .2) (did-as (did-none _ _ _) (not-said act st (a .time) (sym (n .before .is-said .ensures) ∙ w .0 .left))))

@@ -3,7 +3,7 @@ use mathlib.Core.Path.{sym, _∙_}
 use borrow.Author.Tests.{eqb-true, not-true, not-false}
 use borrow.Author.Needs.{needs}
 use Rattle.bits.proofs.Lists.{and-true, or-false}
-use Rattle.next.proofs.Calm.{rests-did, drawn-did}
+use Rattle.next.proofs.Calm.{no-list-yet-did, drawn-did}
 use Rattle.next.proofs.round_end.Statement.{statement}
 use Rattle.next.proofs.round_end.Tie as tie
 
@@ -16,8 +16,8 @@ told-in-requires c κs = search needs
 is-idle-requires : tie.Need-is-idle-requires
 is-idle-requires c κs = search needs
 
-stirs-requires : tie.Need-stirs-requires
-stirs-requires c κs = search needs
+eventful-requires : tie.Need-eventful-requires
+eventful-requires c κs = search needs
 
 list-end-requires : tie.Need-list-end-requires
 list-end-requires c κs = search needs
@@ -25,8 +25,8 @@ list-end-requires c κs = search needs
 list-round-requires : tie.Need-list-round-requires
 list-round-requires c κs = search needs
 
-rests-requires : tie.Need-rests-requires
-rests-requires c κs = search needs
+no-list-yet-requires : tie.Need-no-list-yet-requires
+no-list-yet-requires c κs = search needs
 
 next-round-requires : tie.Need-next-round-requires
 next-round-requires c κs = search needs
@@ -61,8 +61,8 @@ returns-2 c =
     let f = and-true _ _ (b .0) in
     let told = t .told-in .ensures in
     drawn-did (a .s) (a .time) (sym (w .is-idle .ensures) ∙ f .0) (not-true _ (f .1)) (eqb-true _ 0 (b .1))
-    (rw (l .list-due .ensures) at (rw (t .told-in .ensures) at (sym (n .stirs .ensures) ∙ o .1)))
-    (rw (l .list-due .ensures) at told) (k .list-round .ensures) (sym (r .rests .ensures) ∙ not-true _ (q .before .before .if2 .taken)) (q .next-round .ensures) (d .draw .ensures) (m .one-more .ensures)
+    (rw (l .list-due .ensures) at (rw (t .told-in .ensures) at (sym (n .eventful .ensures) ∙ o .1)))
+    (rw (l .list-due .ensures) at told) (k .list-round .ensures) (sym (r .no-list-yet .ensures) ∙ not-true _ (q .before .before .if2 .taken)) (q .next-round .ensures) (d .draw .ensures) (m .one-more .ensures)
 
 returns-3 : tie.Need-returns-3
 returns-3 c =
@@ -78,9 +78,9 @@ returns-3 c =
     let b = and-true _ _ (not-false _ (o .0)) in
     let f = and-true _ _ (b .0) in
     let told = t .told-in .ensures in
-    rests-did (a .s) (a .time) (sym (w .is-idle .ensures) ∙ f .0) (not-true _ (f .1)) (eqb-true _ 0 (b .1))
-    (rw (l .list-due .ensures) at (rw (t .told-in .ensures) at (sym (n .stirs .ensures) ∙ o .1)))
-    (rw (l .list-due .ensures) at told) (k .list-round .ensures) (sym (r .rests .ensures) ∙ not-false _ (c .if2 .left))
+    no-list-yet-did (a .s) (a .time) (sym (w .is-idle .ensures) ∙ f .0) (not-true _ (f .1)) (eqb-true _ 0 (b .1))
+    (rw (l .list-due .ensures) at (rw (t .told-in .ensures) at (sym (n .eventful .ensures) ∙ o .1)))
+    (rw (l .list-due .ensures) at told) (k .list-round .ensures) (sym (r .no-list-yet .ensures) ∙ not-false _ (c .if2 .left))
 
 pub round-end-spec : {M : Type 1} → statement M
 round-end-spec =
@@ -89,10 +89,10 @@ round-end-spec =
     list-due-requires
     told-in-requires
     is-idle-requires
-    stirs-requires
+    eventful-requires
     list-end-requires
     list-round-requires
-    rests-requires
+    no-list-yet-requires
     next-round-requires
     draw-requires
     one-more-requires

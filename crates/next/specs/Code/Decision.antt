@@ -31,7 +31,7 @@ use Rattle.net.specs.declared.Turn.the-variants.{Waiting}
 use Rattle.net.specs.declared.Wait.{Wait}
 use Rattle.net.specs.State.{indexOf, memberAt, withMember, withWait, withRound, withTotals, withList, withTxat, withClosing, withActivity, withNextbeacon, withRxsent, withRxdirty, withPolls, withSilent}
 use Rattle.net.specs.Net.{plus, isMember, waitOf, idleWait, isIdle, Said, said}
-use Rattle.bursts.specs.Rows.{seated, maskWhere}
+use Rattle.bursts.specs.Rows.{memberIn, maskWhere}
 use Rattle.bursts.specs.Bursts.{tinyWords, pollBurst, acksBurst, beaconOf, rxListBurst, tellOf}
 use Rattle.bursts.specs.Direct.{directedTo, directBurst, slotOr255}
 use Rattle.bursts.specs.Reroute.{sourceFor, isDown, rerouteOf}
@@ -196,17 +196,17 @@ abbrev pub listRound : Round → Round
 listRound r = cond (listDue r) (withRxdirty (withRxsent r (r .number)) false) r
 
 -- a boat is to be promoted, has a hole in its messages, or is a leaf to be moved
-abbrev pub stirsAt : ℕ → Bool → Member → Member → Float → ℕ → Bool
-stirsAt used here m p floor limit =
+abbrev pub eventfulAt : ℕ → Bool → Member → Member → Float → ℕ → Bool
+eventfulAt used here m p floor limit =
     isHeard (promotableAt here m floor) || (here && (holesOf (m .up) || (isLeaf m limit && isDown used m p limit)))
 
-abbrev pub stirsIn : List Member → ℕ → Settings → ℕ → Bool
-stirsIn ms used g i =
-    stirsAt used (hasBit used i) (getD ms i noMember) (getD ms (indexOf (getD ms i noMember .via)) noMember) (add binary32 (getD (g .thresholds) 0 nan) (g .margin)) (g .misslimit)
+abbrev pub eventfulIn : List Member → ℕ → Settings → ℕ → Bool
+eventfulIn ms used g i =
+    eventfulAt used (hasBit used i) (getD ms i noMember) (getD ms (indexOf (getD ms i noMember .via)) noMember) (add binary32 (getD (g .thresholds) 0 nan) (g .margin)) (g .misslimit)
 
 -- no new list yet
-abbrev pub restsIn : Round → Float → Bool
-restsIn r now = not (r .traffic) && ltb 0 (r .number) && lt now (r .nextround)
+abbrev pub noListYet : Round → Float → Bool
+noListYet r now = not (r .traffic) && ltb 0 (r .number) && lt now (r .nextround)
 
 abbrev pub endedOf : Act → Station → Float → Said
 endedOf act.Wait s now = said s []
@@ -216,12 +216,12 @@ endedOf act.Draw s now = roundThen s now
 endedOf act.Poll s now = said s []
 
 -- both
-abbrev pub seldomOf : Act → Station → Float → Said
-seldomOf act.Wait s now = said s []
-seldomOf act.Beacon s now = beaconOf s now
-seldomOf act.Acks s now = acksBurst s
-seldomOf act.Draw s now = roundThen s now
-seldomOf act.Poll s now = said s []
+abbrev pub stageBy : Act → Station → Float → Said
+stageBy act.Wait s now = said s []
+stageBy act.Beacon s now = beaconOf s now
+stageBy act.Acks s now = acksBurst s
+stageBy act.Draw s now = roundThen s now
+stageBy act.Poll s now = said s []
 
 -- ---- poll
 
@@ -288,7 +288,7 @@ lookAt x used j m q number slot =
     record { needs = cond (hasBit used j && needsRelay m) (withBit (x .needs) j) (x .needs); word = cond (hasBit used j && isDue q number && isFor slot j (m .via)) (withBit (x .word) j) (x .word) }
 
 abbrev pub wordAt : Station → ℕ → ℕ → Bool
-wordAt s slot j = hasBit (s .used) j && isDue (getD (s .queues) j emptyQueue) (s .round .number) && isFor slot j (seated s j .via)
+wordAt s slot j = hasBit (s .used) j && isDue (getD (s .queues) j emptyQueue) (s .round .number) && isFor slot j (memberIn s j .via)
 
 -- the slot itself before the boats relayed by it
 abbrev pub toOf : ℕ → ℕ → ℕ
@@ -323,7 +323,7 @@ pollThen a x queue = saidAfter (x .words) (wordThen a (x .station) queue)
 -- after the timeout: what is to be done, and then word back or the poll
 abbrev pub restOf : Bool → Station → Float → List ℕ → Said
 restOf quiet s now queue =
-    pollThen (actIn quiet (s .round) (s .used) now) (seldomOf (actIn quiet (s .round) (s .used) now) s now) queue
+    pollThen (actIn quiet (s .round) (s .used) now) (stageBy (actIn quiet (s .round) (s .used) now) s now) queue
 
 -- by what is late
 abbrev pub lateThen : Station → Late → Float → List ℕ → Said

@@ -14,21 +14,21 @@ use Rattle.roster.specs.declared.Member.{Member}
 use Rattle.roster.specs.Members.{noMember, tally}
 use Rattle.net.specs.declared.Station.{Station}
 use Rattle.net.specs.State.{withMembers, withTotals, withSilent, withRecent, recentAt}
-use Rattle.bursts.specs.Rows.{seated}
-use Rattle.bursts.specs.Reroute.{withSeated}
+use Rattle.bursts.specs.Rows.{memberIn}
+use Rattle.bursts.specs.Reroute.{withMemberIn}
 use Rattle.signoff.specs.SignOff.{bereft, bereftOf, bereaveAt, bereaveAll}
 use Rattle.signoff.proofs.bereave_all.Statement.{statement}
 use Rattle.signoff.proofs.bereave_all.Tie as tie
 
 -- a boat written where there is one, and the total with it
 abbrev left : Station → ℕ → ℕ → Bool → Member
-left s slot i b = cond b (bereft slot (s .settings .misslimit) (seated s i)) (seated s i)
+left s slot i b = cond b (bereft slot (s .settings .misslimit) (memberIn s i)) (memberIn s i)
 
 seat-step : (s : Station) (slot i : ℕ) (b : Bool)
     → withTotals
-    (withRecent (withMembers s (set (s .members) i (left s slot i b))) (set (s .recent) i (cond (b && eqb (seated s i .via) slot) empty (recentAt s i))))
-    (withSilent (s .totals) (cond b (tally (s .totals .silent) (leb (s .settings .misslimit) (seated s i .missed)) (leb (s .settings .misslimit) (left s slot i b .missed))) (s .totals .silent)))
-    ≡ cond b (withRecent (withSeated s i (bereft slot (s .settings .misslimit) (seated s i))) (set (s .recent) i (bereftOf slot (seated s i) (recentAt s i)))) s
+    (withRecent (withMembers s (set (s .members) i (left s slot i b))) (set (s .recent) i (cond (b && eqb (memberIn s i .via) slot) empty (recentAt s i))))
+    (withSilent (s .totals) (cond b (tally (s .totals .silent) (leb (s .settings .misslimit) (memberIn s i .missed)) (leb (s .settings .misslimit) (left s slot i b .missed))) (s .totals .silent)))
+    ≡ cond b (withRecent (withMemberIn s i (bereft slot (s .settings .misslimit) (memberIn s i))) (set (s .recent) i (bereftOf slot (memberIn s i) (recentAt s i)))) s
 seat-step s slot i true = refl
 seat-step s slot i false = rw (set-getD (s .recent) i noRecent) (ap (withMembers s) (set-getD (s .members) i noMember))
 

@@ -1,5 +1,5 @@
 -- Assumes nothing.
-use Rattle.bursts.specs.Rows.{seated}
+use Rattle.bursts.specs.Rows.{memberIn}
 use mathlib.Core.Path.{_≡_}
 use native.Mathlib.Omega.{arith}
 use Rattle.out.proofs.Laws.{wrote-as}
@@ -32,7 +32,7 @@ reach-level-requires c κs = search needs
 down-burst-requires : tie.Need-down-burst-requires
 down-burst-requires c κs =
     let a = c .before .before .before .before .before .before .before .before .before .args in
-    rw (c .before .before .reach-level .ensures) (reach-lt (a .t1 .settings) (a .t1 .used) (seated (a .t1) (a .slot)) (c .before .before .before .member-at .result))
+    rw (c .before .before .reach-level .ensures) (reach-lt (a .t1 .settings) (a .t1 .used) (memberIn (a .t1) (a .slot)) (c .before .before .before .member-at .result))
 
 sending-requires : tie.Need-sending-requires
 sending-requires c κs = search needs

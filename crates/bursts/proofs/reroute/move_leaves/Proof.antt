@@ -8,7 +8,7 @@ use Rattle.bits.specs.Loop.{fold}
 use Rattle.out.proofs.Laws.{wrote-length}
 use Rattle.net.specs.Net.{said}
 use Rattle.bursts.specs.Reroute.{ableOf, moveAt, moveAll}
-use Rattle.bursts.specs.Rows.{seated}
+use Rattle.bursts.specs.Rows.{memberIn}
 use Rattle.bursts.proofs.Saying.{Going, going-start, going-turn, going-end}
 use Rattle.bursts.proofs.Moves.{move-turn, able-moved}
 use Rattle.bursts.proofs.reroute.move_leaves.Statement.{statement}
@@ -38,13 +38,13 @@ index-requires c κs = tt
 mul-p : tie.Need-mul-p Inv-loop μ-loop
 mul-p c =
     let e = c .index .ensures in
-    let h = index-lt (seated (c .before .before .before .loop .s) (c .before .before .before .loop .c) .via) in
+    let h = index-lt (memberIn (c .before .before .before .loop .s) (c .before .before .before .loop .c) .via) in
     omega (arith, rw (← e) at h)
 
 element-copy-out-p : tie.Need-element-copy-out-p Inv-loop μ-loop
 element-copy-out-p c =
     let e = c .index .ensures in
-    let h = index-lt (seated (c .before .before .before .loop .s) (c .before .before .before .loop .c) .via) in
+    let h = index-lt (memberIn (c .before .before .before .loop .s) (c .before .before .before .loop .c) .via) in
     omega (arith, rw (← e) at h)
 
 has-requires : tie.Need-has-requires Inv-loop μ-loop

@@ -5,7 +5,7 @@ use native.Mathlib.Omega.{arith}
 use Rattle.bits.specs.Loop.{fold}
 use Rattle.bits.proofs.Loops.{fold-turn, fold-end}
 use Rattle.net.proofs.Laws.{index-lt}
-use Rattle.bursts.specs.Rows.{orFloor, reachAt, leastReach, seated}
+use Rattle.bursts.specs.Rows.{orFloor, reachAt, leastReach, memberIn}
 use Rattle.bursts.proofs.rows.least_reach.Statement.{statement}
 use Rattle.bursts.proofs.rows.least_reach.Tie as tie
 
@@ -31,13 +31,13 @@ index-requires c κs = tt
 mul-p : tie.Need-mul-p Inv-loop μ-loop
 mul-p c =
     let e = c .index .ensures in
-    let h = index-lt (seated (c .before .before .before .before .before .before .args .s) (c .before .before .before .loop .i) .via) in
+    let h = index-lt (memberIn (c .before .before .before .before .before .before .args .s) (c .before .before .before .loop .i) .via) in
     omega (arith, rw (← e) at h)
 
 array-copy-out-p : tie.Need-array-copy-out-p Inv-loop μ-loop
 array-copy-out-p c =
     let e = c .index .ensures in
-    let h = index-lt (seated (c .before .before .before .before .before .before .args .s) (c .before .before .before .loop .i) .via) in
+    let h = index-lt (memberIn (c .before .before .before .before .before .before .args .s) (c .before .before .before .loop .i) .via) in
     omega (arith, rw (← e) at h)
 
 has-requires : tie.Need-has-requires Inv-loop μ-loop

@@ -10,15 +10,15 @@ is-busy-requires c κs = search needs
 leaf-wait-requires : tie.Need-leaf-wait-requires
 leaf-wait-requires c κs = search needs
 
-put-off-requires : tie.Need-put-off-requires
-put-off-requires c κs = search needs
+postponed-requires : tie.Need-postponed-requires
+postponed-requires c κs = search needs
 
 returns : tie.Need-returns
-returns c = rw (← c .before .before .before .is-busy .ensures, c .before .before .if1 .taken) (c .put-off .ensures ∙ rw (c .before .leaf-wait .ensures))
+returns c = rw (← c .before .before .before .is-busy .ensures, c .before .before .if1 .taken) (c .postponed .ensures ∙ rw (c .before .leaf-wait .ensures))
 
 returns-2 : tie.Need-returns-2
 returns-2 c = rw (← c .before .is-busy .ensures, c .if1 .left)
 
 pub busy-wait-spec : {M : Type 1} → statement M
 busy-wait-spec =
-    tie.close (tie.spec is-busy-requires leaf-wait-requires put-off-requires returns returns-2)
+    tie.close (tie.spec is-busy-requires leaf-wait-requires postponed-requires returns returns-2)

@@ -1,7 +1,7 @@
 -- Assumes nothing.
 use borrow.Author.Needs.{needs}
-use Rattle.next.proofs.stirs_at.Statement.{statement}
-use Rattle.next.proofs.stirs_at.Tie as tie
+use Rattle.next.proofs.eventful_at.Statement.{statement}
+use Rattle.next.proofs.eventful_at.Tie as tie
 
 promotable-requires : tie.Need-promotable-requires
 promotable-requires c κs = search needs
@@ -21,8 +21,8 @@ holes-requires c κs = search needs
 returns : tie.Need-returns
 returns c = rw (c .holes .ensures, c .before .is-heard .ensures, c .before .before .is-down .ensures, c .before .before .before .is-leaf .ensures, c .before .before .before .before .promotable .ensures)
 
-pub stirs-at-spec : {M : Type 1} → statement M
-stirs-at-spec =
+pub eventful-at-spec : {M : Type 1} → statement M
+eventful-at-spec =
     tie.close
     (tie.spec
     promotable-requires

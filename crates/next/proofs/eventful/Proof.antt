@@ -8,12 +8,12 @@ use Rattle.roster.specs.Members.{noMember}
 use Rattle.bits.specs.Loop.{any}
 use Rattle.bits.proofs.Loops.{any-pass, any-stop, any-end}
 use Rattle.net.proofs.Laws.{index-lt}
-use Rattle.next.specs.Code.Decision.{stirsIn}
-use Rattle.next.proofs.stirs.Statement.{statement}
-use Rattle.next.proofs.stirs.Tie as tie
+use Rattle.next.specs.Code.Decision.{eventfulIn}
+use Rattle.next.proofs.eventful.Statement.{statement}
+use Rattle.next.proofs.eventful.Tie as tie
 
 abbrev Inv-loop : tie.InvT-loop
-Inv-loop used g ms floor i₀ i = (i ≤ 62) × (any (stirsIn ms used g) (62 - i) i ≡ any (stirsIn ms used g) 62 0)
+Inv-loop used g ms floor i₀ i = (i ≤ 62) × (any (eventfulIn ms used g) (62 - i) i ≡ any (eventfulIn ms used g) 62 0)
 
 abbrev μ-loop : tie.MeasureT-loop
 μ-loop used g ms floor i₀ i = 62 - i
@@ -42,8 +42,8 @@ array-copy-out-p c = let l = c .before .before .before in omega (arith, rw (← 
 has-requires : tie.Need-has-requires Inv-loop μ-loop
 has-requires c κs = search needs
 
-stirs-at-requires : tie.Need-stirs-at-requires Inv-loop μ-loop
-stirs-at-requires c κs = search needs
+eventful-at-requires : tie.Need-eventful-at-requires Inv-loop μ-loop
+eventful-at-requires c κs = search needs
 
 returns : tie.Need-returns Inv-loop μ-loop
 returns c =
@@ -52,7 +52,7 @@ returns c =
     let x = h .before .before in
     let l = x .before .before .before in
     let a = l .before .before .before .args in
-    sym (any-stop (stirsIn (a .t1) (a .used) (a .g)) 62 (l .loop .i) (x .before .before .loop-test .taken) (rw (t .stirs-at .ensures, h .has .ensures, x .index .ensures) at (c .if1 .taken))) ∙ l .loop .inv .1
+    sym (any-stop (eventfulIn (a .t1) (a .used) (a .g)) 62 (l .loop .i) (x .before .before .loop-test .taken) (rw (t .eventful-at .ensures, h .has .ensures, x .index .ensures) at (c .if1 .taken))) ∙ l .loop .inv .1
 
 add-i : tie.Need-add-i Inv-loop μ-loop
 add-i c = omega arith
@@ -67,15 +67,15 @@ loop-again c =
     let x = h .before .before in
     let l = x .before .before .before in
     let a = l .before .before .before .args in
-    (omega arith, sym (any-pass (stirsIn (a .t1) (a .used) (a .g)) 62 (l .loop .i) (x .before .before .loop-test .taken) (rw (t .stirs-at .ensures, h .has .ensures, x .index .ensures) at (c .if1 .left))) ∙ l .loop .inv .1)
+    (omega arith, sym (any-pass (eventfulIn (a .t1) (a .used) (a .g)) 62 (l .loop .i) (x .before .before .loop-test .taken) (rw (t .eventful-at .ensures, h .has .ensures, x .index .ensures) at (c .if1 .left))) ∙ l .loop .inv .1)
 
 returns-2 : tie.Need-returns-2 Inv-loop μ-loop
 returns-2 c =
     let a = c .before .before .before .before .args in
-    sym (any-end (stirsIn (a .t1) (a .used) (a .g)) _ _ (c .loop-test .left)) ∙ c .before .loop .inv .1
+    sym (any-end (eventfulIn (a .t1) (a .used) (a .g)) _ _ (c .loop-test .left)) ∙ c .before .loop .inv .1
 
-pub stirs-spec : {M : Type 1} → statement M
-stirs-spec =
+pub eventful-spec : {M : Type 1} → statement M
+eventful-spec =
     tie.close
     (tie.spec
     Inv-loop
@@ -88,7 +88,7 @@ stirs-spec =
     mul-p
     array-copy-out-p
     has-requires
-    stirs-at-requires
+    eventful-at-requires
     returns
     add-i
     loop-less

@@ -1,7 +1,7 @@
 -- Assumes nothing.
 use borrow.Author.Needs.{needs}
-use Rattle.rx.proofs.ending.put_off.Statement.{statement}
-use Rattle.rx.proofs.ending.put_off.Tie as tie
+use Rattle.rx.proofs.ending.postponed.Statement.{statement}
+use Rattle.rx.proofs.ending.postponed.Tie as tie
 
 enum-known-turn : tie.Need-enum-known-turn
 enum-known-turn c = search needs
@@ -24,7 +24,7 @@ returns-2 c = search needs
 returns-3 : tie.Need-returns-3
 returns-3 c = search needs
 
-pub put-off-spec : {M : Type 1} → statement M
-put-off-spec =
+pub postponed-spec : {M : Type 1} → statement M
+postponed-spec =
     tie.close
     (tie.spec enum-known-turn waiting-requires enum-told enum-told-2 returns returns-2 returns-3)
