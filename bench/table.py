@@ -15,7 +15,7 @@ SCRIPTS = {
     "posts": "10 2000 6 40 78 10 posts",
     "sign-offs": "10 2000 6 40 78 10 leaves",
 }
-GROWTH = [(boats, 20000 // boats, 10) for boats in (1, 10, 30, 62)] + [(10, 2000, cells) for cells in (1, 64)]
+GROWTH = [(boats, 4000 // boats, 10) for boats in (1, 10, 30, 62)] + [(10, 400, cells) for cells in (1, 64)]
 
 
 def write(name, arguments):
