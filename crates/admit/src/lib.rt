@@ -1,4 +1,6 @@
 // Admission (admit of ncs.rs): a known boat keeps its slot, an unknown one takes the lowest free slot.
+#![tactic(auto)]
+
 ghost use Rattle.std.specs.Prelude.{◌≡◌, cond, [], ◌%◌};
 ghost use Rattle.out.specs.Encode.{Wrote};
 ghost use Rattle.bits.specs.Mask.{with_bit};
@@ -15,7 +17,7 @@ use recent::Recent;
 use roster::Member;
 
 // Where a boat with some call sits, or would sit.
-#[derive(Drop)]
+#[derive(Clone, Copy)]
 pub enum Seat {
     Known(u8),
     Free(u8),

@@ -1,10 +1,12 @@
 // Sets of slots as 64-bit masks, counters that stop, and the laws of counting loops and lists.
+#![tactic(auto)]
+
 ghost use Rattle.std.specs.Prelude.{◌≡◌, ◌+◌, ◌^◌, ◌<◌};
 ghost use Rattle.bits.specs.Mask.{has_bit, with_bit, without_bit, both_of, either_of, minus_of, lowest_bit, lowest_free};
 ghost use Rattle.bits.specs.Stop.{stop};
 
 // What a search over slots finds.
-#[derive(Drop)]
+#[derive(Clone, Copy)]
 pub enum Found {
     At(usize),
     Nothing,

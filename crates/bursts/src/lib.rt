@@ -1,4 +1,6 @@
 // The bursts of the next decision (poll_burst, acks_burst, beacon, rx_list_burst of ncs.rs).
+#![tactic(auto)]
+
 ghost use Rattle.std.specs.Prelude.{◌≡◌, [], ◌∷◌, ◌++◌, ◌-◌, ◌/◌, ◌%◌, replicate, take, set};
 ghost use Rattle.bits.specs.Mask.{lowest_bit};
 ghost use Rattle.out.specs.Encode.{Wrote};

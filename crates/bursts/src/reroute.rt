@@ -19,7 +19,7 @@ fn with_if(mask: u64, yes: bool, i: usize) -> u64
 }
 
 // Who could relay, who needs a relayer, and the relayers tried for each.
-#[derive(Drop)]
+#[derive(Clone, Copy)]
 pub struct Surveyed {
     pub able: u64,
     pub needs: u64,

@@ -1,7 +1,7 @@
 // Numbers by chance, the same at each run: Park and Miller's generator, x to 48,271 x mod 2^31 - 1.
 
 // what: which call, 0 to 15; a and b: whatever else it needs.
-#[derive(Drop)]
+#[derive(Clone, Copy)]
 pub struct Drawn {
     pub seed: u64,
     pub what: u32,

@@ -1,5 +1,7 @@
 // A day of 20,000 calls with boats that come and go: admissions direct and overheard, pieces, polls, sign-offs. After each call it is checked what must hold of
 // the slots that are free, of the count of silent boats and of the relays (request U3; the Rust has no signing off).
+#![tactic(auto)]
+
 mod act;
 mod burst;
 mod chance;

@@ -4,7 +4,7 @@ use station::Answer;
 
 // signed, admitted, heard, told, freed: calls not refused, by kind; refused: the others. newcomers: events 1; messages: events 2; most: the most boats at once.
 // fault: what first did not hold, after call `place`.
-#[derive(Drop)]
+#[derive(Clone, Copy)]
 pub struct Tally {
     pub signed: u32,
     pub admitted: u32,

@@ -1,4 +1,6 @@
 // The settings of a net as they are given (NetConfig of net.rs), and their spans (document 01, Settings).
+#![tactic(auto)]
+
 ghost use Rattle.std.specs.Prelude.{◌≡◌, ◌<◌};
 ghost use Rattle.config.specs.Checks.{seconds_ok, durations_ok, data_ok, payloads_ok, room, rooms_from, thresholds_ok, decibels_ok, numbers_ok, settings_ok, settings_of};
 
@@ -6,7 +8,7 @@ use net::Settings;
 
 // Settings before they are checked: the call as five packed bytes, the durations of bursts of data (of n frames, 1 to 64, at a level: at 64 * level + n - 1), and
 // the largest payload of each level. `call`, `rooms` and `payloads` of `settings` are not looked at.
-#[derive(Drop)]
+#[derive(Clone, Copy)]
 pub struct Given {
     pub settings: Settings,
     pub call: [u8; 5],

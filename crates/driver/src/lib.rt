@@ -1,4 +1,6 @@
 // What the programs `tape` (document 01, Words), `drive` and `panel` share: words in, the station's entry points, lines out.
+#![tactic(auto)]
+
 ghost use Rattle.std.specs.Prelude.{◌<◌};
 
 use net::Station;
@@ -58,7 +60,7 @@ fn aside(c: Control, a: Action, w: u32, words: &mut [u32; 8192], t: &mut [u8; 65
 }
 
 // The station and the program's own values.
-#[derive(Drop)]
+#[derive(Clone, Copy)]
 pub struct Ran {
     pub station: Station,
     pub control: Control,

@@ -1,12 +1,14 @@
 // Airtime dues: ports share the radio cost by the bytes that landed. Each boat's month is charged in cents, a part of it is credited to its relay, and the
 // rest is the port's. The station is only read.
+#![tactic(auto)]
+
 ghost use Rattle.std.specs.Prelude.{◌≡◌};
 ghost use Rattle.dues.specs.Dues.{started256, charge_of, charge_by, tenth_of, tenth_to, taking_by, figures_ok, no_bill, dues_of};
 
 use net::Station;
 
 // The answer: each slot's charge and credit, an empty one's 0, and the port's takings.
-#[derive(Drop)]
+#[derive(Clone, Copy)]
 pub struct Bill {
     pub refusal: u8,
     pub charges: [u32; 62],

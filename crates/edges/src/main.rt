@@ -1,4 +1,6 @@
 // Document 01's edges and RFC 1982's examples, run and printed.
+#![tactic(auto)]
+
 mod call;
 mod number;
 mod print;

@@ -6,7 +6,7 @@ use super::{burst, event, frame, input, message, roster, who};
 // end: where the text ends so far. word: the digits of the line so far, count how many, plain: the line is no word.
 // part: how far a line with a message is, 5 in a line of the roster, of which `posted` and `kept` are the last fields so far. command: the last one of a script, 2 before any and in a burst.
 // open: a frame is being read, of `flags`, `field` and `len` payload bytes, of which `got` are in.
-#[derive(Drop)]
+#[derive(Clone, Copy)]
 pub struct State {
     pub end: usize,
     pub word: u32,

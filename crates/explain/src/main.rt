@@ -1,4 +1,6 @@
 // What `tape` and `drive` print, and what they read, in words that a person can read: a line for each word, a frame's words as one line. Other lines pass.
+#![tactic(auto)]
+
 mod burst;
 mod event;
 mod frame;

@@ -1,4 +1,6 @@
 // Reception, the frames (ncs_rx of ncs.rs): what stands at the cursor, and what a frame of each kind does.
+#![tactic(auto)]
+
 ghost use Rattle.std.specs.Prelude.{◌≡◌, ◌+◌, ◌%◌, ◌^◌, ◌<◌, drop};
 ghost use Rattle.words.specs.Words.{peek_at, byte_at};
 ghost use Rattle.frames.specs.Code.Reading.{first_rx, next_rx};
@@ -11,7 +13,7 @@ pub mod pieces;
 
 // What all frames of a reception have in common. polled: the slot whose reply this may be, 255 for none; start: the boats on the
 // roster before it.
-#[derive(Drop)]
+#[derive(Clone, Copy)]
 pub struct Air {
     pub level: f32,
     pub time: f64,
@@ -22,7 +24,7 @@ pub struct Air {
 
 // The running values of a reception. word: where the next frame stands; sender: the slot that the last report names, not a forwarded
 // one, 256 for none; more: a report told of more to come; heard: the frames that were heard and kept; unkept: the pieces not kept.
-#[derive(Drop)]
+#[derive(Clone, Copy)]
 pub struct Rx {
     pub word: usize,
     pub frame: usize,
@@ -48,7 +50,7 @@ pub fn first_rx() -> Rx
 }
 
 // A frame: `ty` is the top two bits of its flags, `slot` the low six, `len` the length of its payload, `size` how many words it takes.
-#[derive(Drop)]
+#[derive(Clone, Copy)]
 pub struct Frame {
     pub lost: bool,
     pub ty: u32,

@@ -25,7 +25,7 @@ use wire::number::Number;
 
 // A boat's piece as it is read. wanted: its slot has a member, and its message a number that is not handed over; else nothing is done
 // with its bytes. barred: that number is barred.
-#[derive(Drop)]
+#[derive(Clone, Copy)]
 pub struct Piece {
     pub slot: u8,
     pub here: bool,

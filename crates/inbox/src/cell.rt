@@ -14,7 +14,7 @@ pub const BODY_ROOM: usize = 2046;
 
 // A cell's numbers. No value of it is wrong: every function here is safe, and does what its contract says, for each.
 #[repr(C)]
-#[derive(Drop)]
+#[derive(Clone, Copy)]
 pub struct Cell {
     // The joined end.
     pub joined: u16,

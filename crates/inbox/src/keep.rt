@@ -9,7 +9,7 @@ use crate::cell::Cell;
 pub const NUMBER_LIMIT: u32 = 4294967040;
 
 // What becomes of a piece.
-#[derive(Drop)]
+#[derive(Clone, Copy)]
 pub enum Kept {
     // It changes nothing.
     Needless,

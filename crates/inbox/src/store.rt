@@ -12,7 +12,7 @@ use crate::cell::Cell;
 pub const CELL_SIZE: usize = 6400;
 
 // Whether a message has landed, and how many bytes it has.
-#[derive(Drop)]
+#[derive(Clone, Copy)]
 pub enum Landed {
     Bytes(usize),
     NotYet,

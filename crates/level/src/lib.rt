@@ -1,18 +1,20 @@
 // Signal levels and clocks, and the checks of numbers handed in.
+#![tactic(auto)]
+
 ghost use Rattle.std.specs.Prelude.{◌≡◌};
 ghost use Rattle.level.specs.Levels.{smoothed, level_of, level_for, or_else, is_heard, is_at};
 ghost use Rattle.level.specs.Order.{negative, total_lt, is_nan, least};
 ghost use Rattle.level.specs.Spans.{up_to, within};
 
 // How well a station is heard, in dB.
-#[derive(Drop)]
+#[derive(Clone, Copy)]
 pub enum Level {
     Unheard,
     Decibels(f32),
 }
 
 // A time in seconds, or none.
-#[derive(Drop)]
+#[derive(Clone, Copy)]
 pub enum Clock {
     Never,
     At(f64),

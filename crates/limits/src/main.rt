@@ -1,4 +1,6 @@
 // What no script of words reaches: small memories, NaN, the last numbers; and the two tie rules. Run and printed.
+#![tactic(auto)]
+
 mod burst;
 mod count;
 mod refused;

@@ -1,4 +1,6 @@
 // Other stations' logs: whether the turns in their sendings keep to the lists of their rounds.
+#![tactic(auto)]
+
 ghost use Rattle.std.specs.Prelude.{◌≡◌, ◌<◌, drop};
 ghost use Rattle.words.specs.Words.{head_ok};
 ghost use Rattle.logs.specs.Reading.{is_mark, mark_ok, wave_ok, head_part, frame_part, part_of, sendings_ok, marks_ok, entries_of};
@@ -8,7 +10,7 @@ ghost use Rattle.logs.specs.Steps.{count_step, slot_fits, slot_step, mark_step, 
 use words::{Head, Item};
 
 // Refused with document 01's number, or what the check says of the log.
-#[derive(Drop)]
+#[derive(Clone, Copy)]
 pub enum Verdict {
     Refused(u8),
     Accepted,
@@ -16,14 +18,14 @@ pub enum Verdict {
 }
 
 // What stands at a place: it takes `size` words, 0 for words that are no part of a log, and `room` frames may follow.
-#[derive(Drop)]
+#[derive(Clone, Copy)]
 pub struct Part {
     pub size: usize,
     pub room: usize,
 }
 
 // While the words of marks are read: words of a list to come, and the slots of those before.
-#[derive(Drop)]
+#[derive(Clone, Copy)]
 pub struct Marks {
     pub left: u32,
     pub before: u64,
@@ -32,7 +34,7 @@ pub struct Marks {
 
 // While the turns are read: words of a list to come, the listed slots that have had no turn, the slot whose turn runs, 64 for none, and
 // the polls and acknowledgements that it has had.
-#[derive(Drop)]
+#[derive(Clone, Copy)]
 pub struct Watch {
     pub left: u32,
     pub due: u64,

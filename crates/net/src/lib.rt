@@ -1,4 +1,6 @@
 // The net control station's state (NetStation of net.rs), its start, and the end of a sending.
+#![tactic(auto)]
+
 ghost use Rattle.std.specs.Prelude.{◌≡◌, cond};
 ghost use Rattle.net.specs.State.{index_of, member_at};
 ghost use Rattle.net.specs.Code.Done.{is_sure, deadline_for, done_for};
@@ -12,7 +14,7 @@ use roster::Member;
 
 // What a reply is waited for: from which slot, whose traffic it also forwards (63: nobody's), how often it was asked again, and how many
 // bursts of this turn are in (Wait::Reply of ncs.rs).
-#[derive(Drop)]
+#[derive(Clone, Copy)]
 pub struct Reply {
     pub slot: u8,
     pub relayfor: u8,
@@ -21,7 +23,7 @@ pub struct Reply {
 }
 
 // Document 01's turn: neither, waiting for the end of a sending, or waiting for a reply.
-#[derive(Drop)]
+#[derive(Clone, Copy)]
 pub enum Turn {
     Idle,
     Sending,
@@ -29,13 +31,13 @@ pub enum Turn {
 }
 
 // A field that is an enum takes no store; a struct that holds it does.
-#[derive(Drop)]
+#[derive(Clone, Copy)]
 pub struct Wait {
     pub turn: Turn,
     pub deadline: Clock,
 }
 
-#[derive(Drop)]
+#[derive(Clone, Copy)]
 pub struct Settings {
     pub turnaround: f64,
     pub maxburst: f64,
@@ -63,7 +65,7 @@ pub struct Settings {
 
 // Sets are masks of slots, the round's list too: its lowest slot is the front. rxsent: the round whose received list was looked at, 0 for
 // none.
-#[derive(Drop)]
+#[derive(Clone, Copy)]
 pub struct Round {
     pub list: u64,
     pub toack: u64,
@@ -82,7 +84,7 @@ pub struct Round {
 }
 
 #[repr(C)]
-#[derive(Drop)]
+#[derive(Clone, Copy)]
 pub struct Totals {
     pub polls: u32,
     pub relays: u32,
@@ -95,7 +97,7 @@ pub struct Totals {
 
 // `used` is the mask of slots with a member; recent[i] has the last reception levels of the boat in slot i. Cell c below `count` is free, or in `busy` and filling, or in both `busy` and `landed`;
 // owners[c] is slot * 2^32 + number of its message. The arrays stand in the station itself, so that an element is stored in place.
-#[derive(Drop)]
+#[derive(Clone, Copy)]
 pub struct Station {
     pub settings: Settings,
     pub wait: Wait,

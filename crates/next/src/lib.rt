@@ -1,4 +1,6 @@
 // The next decision (ncs_next of ncs.rs), stage by stage in the source's order.
+#![tactic(auto)]
+
 ghost use Rattle.std.specs.Prelude.{◌≡◌, ◌+◌, ◌%◌, ◌^◌, false, [], if◌then◌else◌, nat_eq};
 ghost use Rattle.bits.specs.Loop.{any};
 ghost use Rattle.bits.specs.Mask.{with_bit};
@@ -100,7 +102,7 @@ pub fn ncs_next(
 // ---- close and timeout
 
 // What the turn asks for at this time.
-#[derive(Drop)]
+#[derive(Clone, Copy)]
 pub enum Due {
     // Nothing is waited for.
     Free,
@@ -154,7 +156,7 @@ fn due_of(w: Wait, closed: bool, time: f64) -> Due
 
 // What is due as numbers: the reply that did not come (from slot 255 for none), its first poll or its second, or closing; `quiet`: the
 // decision ends here.
-#[derive(Drop)]
+#[derive(Clone, Copy)]
 struct Late {
     slot: u8,
     relayfor: u8,
@@ -319,7 +321,7 @@ fn late_round(r: Round, l: Late, g: Settings, time: f64) -> Round
 }
 
 // What is to be done, in the source's order.
-#[derive(Drop)]
+#[derive(Clone, Copy)]
 pub enum Act {
     Wait,
     Beacon,
@@ -599,7 +601,7 @@ fn front(w: Wait, list: u64, a: Act) -> u8
 }
 
 // What one look over the members finds for the poll of a slot: who needs a relayer, and whom word goes to before it.
-#[derive(Drop)]
+#[derive(Clone, Copy)]
 struct Seen {
     needs: u64,
     word: u64,

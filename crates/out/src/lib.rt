@@ -1,5 +1,7 @@
 // Document 01's words, written to an output that the caller lends.
 // Each function answers the place after its words. Past the output's end nothing is written, and the place stays.
+#![tactic(auto)]
+
 ghost use Rattle.std.specs.Prelude.{◌≡◌, [], ◌∷◌, ◌++◌, ◌+◌, ◌-◌, ◌≤◌, ◌<◌, ◌%◌, length, take, drop, get_or, replicate};
 ghost use Rattle.words.specs.Words.{least};
 ghost use Rattle.out.specs.Encode.{Wrote, word12, pack, frameWords, ctrlWords, headWord, waveWord, eventWord, missedWord, messageWord, chunkSize, chunkWords};

@@ -18,7 +18,7 @@ pub const MESSAGES: usize = 8;
 pub const MEMORY: usize = 16384;
 
 // No value of it is wrong.
-#[derive(Drop)]
+#[derive(Clone, Copy)]
 pub struct Sender {
     // The number of the next message.
     pub next: u32,
@@ -31,14 +31,14 @@ pub struct Sender {
 }
 
 // A sender beside a refusal's number, 0 for none.
-#[derive(Drop)]
+#[derive(Clone, Copy)]
 pub struct Answered {
     pub sender: Sender,
     pub refusal: u8,
 }
 
 // How many bytes are to be sent or in flight.
-#[derive(Drop)]
+#[derive(Clone, Copy)]
 pub enum Waiting {
     Bytes(usize),
     Refused(u8),

@@ -1,4 +1,6 @@
 // The settings of `tape` (document 01, Words), and a station for a first start.
+#![tactic(auto)]
+
 ghost use Rattle.std.specs.Prelude.{◌≡◌};
 ghost use Rattle.preset.specs.Tape.{ladder, payloads, tape_settings, blank};
 

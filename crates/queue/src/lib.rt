@@ -1,12 +1,14 @@
 // The directed queue (request U1): the numbers of one boat (dir, dir_delivered, dir_sent_round of ncs.rs), and the bytes in the lent queue.
 // The queue has 2,048 bytes for each of the 62 slots, and byte o of a boat's stream stands at o mod 2,048 of them: nothing moves.
+#![tactic(auto)]
+
 ghost use Rattle.std.specs.Prelude.{◌≡◌, ◌++◌, ◌+◌, ◌-◌, ◌≤◌, ◌<◌, length, get_or, replicate};
 ghost use Rattle.inbox.specs.Messages.{framed};
 ghost use Rattle.queue.specs.Queues.{empty_queue, least_of, most_of, first_of, is_due, sent_in, reported_to, posted_to, space_refusal, place_of, byte_at, bytes_from, put_bytes};
 
 // posted: the bytes posted in all, kept: the first of them that the queue keeps, reported: the highest number that the boat reported. round: the
 // round in which it was last sent to, where `sent`.
-#[derive(Drop)]
+#[derive(Clone, Copy)]
 pub struct Queue {
     pub posted: u32,
     pub kept: u32,

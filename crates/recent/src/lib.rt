@@ -1,4 +1,6 @@
 // The last 32 reception levels of a boat, and the lowest of them (request U13).
+#![tactic(auto)]
+
 ghost use Rattle.std.specs.Prelude.{◌≡◌, cond, ◌+◌, ltb};
 ghost use Rattle.recent.specs.Readings.{kept, empty, noted, lower, worst};
 
@@ -6,7 +8,7 @@ use level::Level;
 
 // A ring: the next reading goes to place `at`, and the `count` places before it hold the last ones.
 #[repr(C)]
-#[derive(Drop)]
+#[derive(Clone, Copy)]
 pub struct Recent {
     pub levels: [f32; 32],
     pub count: u8,

@@ -1,5 +1,7 @@
 // The members of a net (Member of ncs.rs): what the control station knows of a boat, and the choices of relays.
 // A field's name has no underscore, since the definitions name the fields too.
+#![tactic(auto)]
+
 ghost use Rattle.std.specs.Prelude.{◌≡◌};
 ghost use Rattle.roster.specs.Members.{with_links, with_heard, with_down, with_direct, heard_by, new_member, received_at, reached_at, with_caps, with_version, promoted_at, rerouted_to, missed_one, landed_one, barred_one, told_now, is_news, is_willing, down_or_up, is_direct, tally};
 
@@ -11,7 +13,7 @@ pub mod relay;
 
 // `via` is the relay's slot, 63 for none; a flag says whether caps and version are known. `up` says which of its messages are whole;
 // told and mark are (next, bitmap) as last sent in a received list and as when its relayers were last tried.
-#[derive(Drop)]
+#[derive(Clone, Copy)]
 pub struct Member {
     pub call: [u8; 7],
     pub via: u8,

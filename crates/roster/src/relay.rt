@@ -8,7 +8,7 @@ use level::Level;
 use stream::window;
 
 // The best candidate so far, with the level field at which it hears; slot 63 for nobody.
-#[derive(Drop)]
+#[derive(Clone, Copy)]
 pub struct Pick {
     pub slot: u8,
     pub level: u8,

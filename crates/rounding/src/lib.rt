@@ -1,4 +1,6 @@
 // Times in milliseconds as the beacon announces them: rounded to the nearest whole number, a tie away from zero. Its laws are of IEEE 754 arithmetic, smoothing among them.
+#![tactic(auto)]
+
 ghost use Rattle.std.specs.Prelude.{◌≡◌};
 ghost use Rattle.rounding.specs.Round.{announced};
 

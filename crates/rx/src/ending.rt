@@ -47,7 +47,7 @@ fn postponed(w: Wait, at: f64) -> Wait
 
 // What a burst is at its end. kind 1: K_IDLE, 2: the reply to a poll, 0: neither; slot: the boat it is from; over: the turn that `reply`
 // waited in ends; more: it goes on.
-#[derive(Drop)]
+#[derive(Clone, Copy)]
 pub struct Ending {
     pub kind: u8,
     pub slot: u8,
@@ -57,7 +57,7 @@ pub struct Ending {
 }
 
 // Whether a reply is waited for, and which.
-#[derive(Drop)]
+#[derive(Clone, Copy)]
 struct Awaited {
     waits: bool,
     reply: Reply,

@@ -1,4 +1,6 @@
 // Reception (ncs_rx of ncs.rs): a tiny burst, or the frames one after the other, and then the reply.
+#![tactic(auto)]
+
 ghost use Rattle.std.specs.Prelude.{◌≡◌, true, ◌*◌, ◌<◌, ◌≤◌, length};
 ghost use Rattle.inbox.specs.Sizes.{cell_size};
 ghost use Rattle.words.specs.declared.Shape.TheVariants.{Frames};

@@ -5,7 +5,7 @@ ghost use Rattle.script.specs.Actions.{is_end, ends_open, ends_burst, ends_setti
 // What the program holds beside the station. command: the command whose words are being read, 0 for none; words: how many there are so far;
 // cells: how many are lent; now and level: the clock and the level from here on; end: where the gathered text ends. drive: every command
 // is there, not only the tape's; panel: the panel's questions too.
-#[derive(Drop)]
+#[derive(Clone, Copy)]
 pub struct Control {
     pub drive: bool,
     pub panel: bool,
@@ -17,7 +17,7 @@ pub struct Control {
     pub end: usize,
 }
 
-#[derive(Drop)]
+#[derive(Clone, Copy)]
 pub enum Action {
     // A word of the open command.
     Push,

@@ -8,7 +8,7 @@ use outbox::{leave, sender, taking};
 // open: the command whose words are being read, 7 for none; words: how many there are so far; end: where the gathered text ends.
 pub const NONE: u32 = 7;
 
-#[derive(Drop)]
+#[derive(Clone, Copy)]
 pub struct Ran {
     pub sender: Sender,
     pub open: u32,

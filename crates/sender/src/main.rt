@@ -2,6 +2,8 @@
 //
 // A command is a word of kind 7: bits 3-0 are 0 post, 1 take (bits 11-4 the largest piece, 19-12 how many), 2 stale, 3 ack, 4 held, 5 pending, 6 has_new.
 // The words of 0, 3 and 4 follow it as frames, up to the next word of kind 7, 14 or 15. A malformed or misplaced word prints 00000003.
+#![tactic(auto)]
+
 ghost use Rattle.std.specs.Prelude.{◌<◌};
 
 mod argument;

@@ -1,1 +1,2 @@
 // Request U11 of document 02: what the sending end and the station promise together. Definitions and proofs only.
+#![tactic(auto)]

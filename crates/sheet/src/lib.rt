@@ -1,4 +1,6 @@
 // The sheet of short calls that a port hands out to workboats: every call of up to two characters, in rising order of its number.
+#![tactic(auto)]
+
 ghost use Rattle.std.specs.Prelude.{◌≡◌, [], ◌*◌, ◌≤◌, ◌<◌, length, get_or};
 ghost use Rattle.std.proofs.Math.Seq.{paste};
 ghost use Rattle.wire.specs.Call.{packed};

@@ -18,7 +18,7 @@ use stream::window;
 // config::Given: the call of the net as five packed bytes, how long a burst of n frames of data takes at a level (at 64 * level + n - 1), the
 // largest payload of each level. `call`, `rooms` and `payloads` of `settings` are not looked at.
 #[repr(C)]
-#[derive(Drop)]
+#[derive(Clone, Copy)]
 pub struct Plan {
     pub settings: Setup,
     pub times: [f64; 1088],
@@ -28,7 +28,7 @@ pub struct Plan {
 
 // The block to go on with, a refusal's number (0 for none), how many words were written, and of a reception the pieces not kept.
 #[repr(C)]
-#[derive(Drop)]
+#[derive(Clone, Copy)]
 pub struct Done {
     pub block: Block,
     pub words: usize,
@@ -38,7 +38,7 @@ pub struct Done {
 
 // Where a landed message stands in the store.
 #[repr(C)]
-#[derive(Drop)]
+#[derive(Clone, Copy)]
 pub struct Part {
     pub offset: usize,
     pub length: usize,
@@ -47,7 +47,7 @@ pub struct Part {
 
 // station::Lowest.
 #[repr(C)]
-#[derive(Drop)]
+#[derive(Clone, Copy)]
 pub struct Poorest {
     pub level: Reading,
     pub refusal: u8,
@@ -55,7 +55,7 @@ pub struct Poorest {
 
 // station::show::Entry.
 #[repr(C)]
-#[derive(Drop)]
+#[derive(Clone, Copy)]
 pub struct Shown {
     pub lastheard: Time,
     pub snrup: Reading,
@@ -75,7 +75,7 @@ pub struct Shown {
 // The numbers of the boat in a slot. next: its first message that has not landed; bitmap: which of the eight after it have; burst: the number of the burst
 // that it is polled with; posted, kept, reported: of the bytes posted to it how many there were, the first that is still kept, how many it reported.
 #[repr(C)]
-#[derive(Drop)]
+#[derive(Clone, Copy)]
 pub struct Counts {
     pub next: u32,
     pub posted: u32,
@@ -87,7 +87,7 @@ pub struct Counts {
 
 // dues::Bill.
 #[repr(C)]
-#[derive(Drop)]
+#[derive(Clone, Copy)]
 pub struct Month {
     pub takings: u64,
     pub charges: [u32; 62],
@@ -97,7 +97,7 @@ pub struct Month {
 
 // logs::Verdict.
 #[repr(C)]
-#[derive(Drop)]
+#[derive(Clone, Copy)]
 pub struct Checked {
     pub refusal: u8,
     pub accepted: u8,

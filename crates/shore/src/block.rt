@@ -7,7 +7,7 @@ use stream::window::Window;
 
 // level::Level: the decibels, where heard.
 #[repr(C)]
-#[derive(Drop)]
+#[derive(Clone, Copy)]
 pub struct Reading {
     pub heard: u8,
     pub decibels: f32,
@@ -15,7 +15,7 @@ pub struct Reading {
 
 // level::Clock: the seconds, where known.
 #[repr(C)]
-#[derive(Drop)]
+#[derive(Clone, Copy)]
 pub struct Time {
     pub known: u8,
     pub seconds: f64,
@@ -23,7 +23,7 @@ pub struct Time {
 
 // net::Wait: turn is 0 for idle, 1 for sending, any other for waiting for the reply that the next four say.
 #[repr(C)]
-#[derive(Drop)]
+#[derive(Clone, Copy)]
 pub struct Await {
     pub turn: u8,
     pub slot: u8,
@@ -35,7 +35,7 @@ pub struct Await {
 
 // net::Settings.
 #[repr(C)]
-#[derive(Drop)]
+#[derive(Clone, Copy)]
 pub struct Setup {
     pub turnaround: f64,
     pub maxburst: f64,
@@ -62,7 +62,7 @@ pub struct Setup {
 
 // net::Round.
 #[repr(C)]
-#[derive(Drop)]
+#[derive(Clone, Copy)]
 pub struct Course {
     pub list: u64,
     pub toack: u64,
@@ -82,7 +82,7 @@ pub struct Course {
 
 // roster::Member.
 #[repr(C)]
-#[derive(Drop)]
+#[derive(Clone, Copy)]
 pub struct Boat {
     pub call: [u8; 7],
     pub via: u8,
@@ -107,7 +107,7 @@ pub struct Boat {
 
 // queue::Queue.
 #[repr(C)]
-#[derive(Drop)]
+#[derive(Clone, Copy)]
 pub struct Line {
     pub posted: u32,
     pub kept: u32,
@@ -118,7 +118,7 @@ pub struct Line {
 
 // net::Station.
 #[repr(C)]
-#[derive(Drop)]
+#[derive(Clone, Copy)]
 pub struct Block {
     pub settings: Setup,
     pub wait: Await,

@@ -1,5 +1,7 @@
 // The station for a host in C or Rust: it holds a block of numbers and arrays, and there is one function for each entry point. Each takes the block by value
 // and gives back the one to go on with; a refused call gives back what it was given, and every lent memory keeps every value.
+#![tactic(auto)]
+
 ghost use Rattle.std.specs.Prelude.{◌≡◌, length, take, drop};
 ghost use Rattle.std.proofs.lemmas.List.Edits.{sets};
 ghost use Rattle.station.specs.Entries.{answered, heard_of, start_of, admit_of, receive_of, next_of, post_of, sent_of, close_of, read_refusal, reading_of, free_of};

@@ -12,7 +12,7 @@ use outbox::taking::Taken;
 
 // outbox::sender::Sender.
 #[repr(C)]
-#[derive(Drop)]
+#[derive(Clone, Copy)]
 pub struct Outgoing {
     pub count: usize,
     pub next: u32,
@@ -23,7 +23,7 @@ pub struct Outgoing {
 
 // The sending end to go on with, how many words were written, a refusal's number (0 for none).
 #[repr(C)]
-#[derive(Drop)]
+#[derive(Clone, Copy)]
 pub struct Left {
     pub sender: Outgoing,
     pub words: usize,
@@ -32,7 +32,7 @@ pub struct Left {
 
 // outbox::sender::Waiting.
 #[repr(C)]
-#[derive(Drop)]
+#[derive(Clone, Copy)]
 pub struct Unsent {
     pub bytes: usize,
     pub refusal: u8,

@@ -1,4 +1,6 @@
 // Request U3: a boat signs off. Its record, turn, lists, cells and `hears` go; the boats that it relayed for lose their relay.
+#![tactic(auto)]
+
 ghost use Rattle.std.specs.Prelude.{◌≡◌, cond, ◌<◌, leb};
 ghost use Rattle.bits.specs.Mask.{without_bit};
 ghost use Rattle.recent.specs.Readings.{empty};

@@ -1,4 +1,6 @@
 // The entry points: the checks in document 01's order, then what the station does. A refusal leaves all as it was.
+#![tactic(auto)]
+
 ghost use Rattle.std.specs.Prelude.{cond, true, ◌+◌, ◌/◌, ◌≤◌, eqb, ◌≡◌, length};
 ghost use Rattle.bits.specs.Mask.{without_bit};
 ghost use Rattle.stream.specs.Table.{cell_count};
@@ -21,21 +23,21 @@ use words::Shape;
 pub mod show;
 
 // A refusal's number, or how many words were written.
-#[derive(Drop)]
+#[derive(Clone, Copy)]
 pub enum Answer {
     Refused(u8),
     Words(usize),
 }
 
 // The station beside the answer: an enum cannot hold it.
-#[derive(Drop)]
+#[derive(Clone, Copy)]
 pub struct Answered {
     pub station: Station,
     pub answer: Answer,
 }
 
 // The same with the pieces of a reception that were not kept.
-#[derive(Drop)]
+#[derive(Clone, Copy)]
 pub struct Heard {
     pub station: Station,
     pub answer: Answer,
@@ -430,7 +432,7 @@ pub fn sign_off(s: Station, slot: u8) -> Answered
 // ---- the worst of the last thirty-two
 
 // A refusal's number, or the lowest of a boat's last 32 reception levels, Unheard where there are none.
-#[derive(Drop)]
+#[derive(Clone, Copy)]
 pub enum Lowest {
     Refused(u8),
     Is(Level),

@@ -6,7 +6,7 @@ use level::{Clock, Level};
 use net::Station;
 
 // RosterEntry of net.rs: the boat in a slot. `cap` is its level cap.
-#[derive(Drop)]
+#[derive(Clone, Copy)]
 pub struct Entry {
     pub here: bool,
     pub call: [u8; 7],

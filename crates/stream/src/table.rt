@@ -11,7 +11,7 @@ use inbox::keep::Kept;
 use inbox::store::Landed;
 
 // Where a piece goes: the cell of its message, a free one, or no cell is left.
-#[derive(Drop)]
+#[derive(Clone, Copy)]
 pub enum Room {
     Own(usize),
     Free(usize),
@@ -19,7 +19,7 @@ pub enum Room {
 }
 
 // What became of a piece: the cell's numbers after it, the kept rule's answer, and whether its message landed with it.
-#[derive(Drop)]
+#[derive(Clone, Copy)]
 pub struct Taken {
     pub cell: Cell,
     pub kept: Kept,

@@ -6,7 +6,7 @@ ghost use Rattle.bits.specs.Mask.{has_bit};
 ghost use Rattle.stream.specs.Window.{fresh_of, marks_of, bitmap_of, holes_of, handed_of, bars_of, barred_of, bar_of, slid_of, slide_of, mark_of, land_of};
 
 #[repr(C)]
-#[derive(Drop)]
+#[derive(Clone, Copy)]
 pub struct Window {
     pub next: u32,
     pub low: u64,

@@ -4,7 +4,7 @@ use outbox::sender::Sender;
 use outbox::{leave, sender, taking};
 
 // A sending end, and how many words its burst has.
-#[derive(Drop)]
+#[derive(Clone, Copy)]
 pub struct Sends {
     pub sender: Sender,
     pub words: usize,

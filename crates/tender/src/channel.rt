@@ -15,7 +15,7 @@ pub fn one_in(seed: u64, n: u64) -> bool {
 }
 
 // A burst as it arrives: how many words it has, how many of its frames are lost ones, and the dice after it.
-#[derive(Drop)]
+#[derive(Clone, Copy)]
 pub struct Arrived {
     pub words: usize,
     pub lost: usize,

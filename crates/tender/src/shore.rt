@@ -9,7 +9,7 @@ use station::Answer;
 
 // What the run holds beside the station: the sending end, the dice, the number of its burst, how many words it has, as it was sent and as it arrived, and how
 // many the one before had, the head of the station's last answer, what was counted, and where the gathered text ends. polled: the boat heard that it is to send.
-#[derive(Drop)]
+#[derive(Clone, Copy)]
 pub struct State {
     pub sender: Sender,
     pub seed: u64,
@@ -30,7 +30,7 @@ pub struct State {
 }
 
 // The station, and what the run holds.
-#[derive(Drop)]
+#[derive(Clone, Copy)]
 pub struct Both {
     pub station: Station,
     pub run: State,

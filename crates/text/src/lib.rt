@@ -2,6 +2,7 @@
 //
 // Each function takes the place where the text ends so far and answers the place where it ends now. A byte past the buffer's end is dropped:
 // a line that begins at `room` and has 8,192 bytes at most is never cut.
+#![tactic(auto)]
 
 ghost use Rattle.std.specs.Prelude.{◌≡◌, cond, true, false, [], ◌∷◌, ltb};
 ghost use Rattle.out.specs.Encode.{Wrote};

@@ -5,7 +5,7 @@ use super::say;
 
 // end: where the gathered text ends. count: the words of the log so far, over: it has more than there is room for. word: the digits of the line so far,
 // digits how many, plain: the line is no word. told: logs so far.
-#[derive(Drop)]
+#[derive(Clone, Copy)]
 pub struct State {
     pub end: usize,
     pub count: usize,

@@ -1,5 +1,7 @@
 // Request U9: other stations' logs. A log is lines of eight hexadecimal digits on standard input, as `tape` and `drive` print words, with a line for each
 // word of a mark; an empty line ends it. For each log one line is printed: accepted, or which sending or mark breaks which rule and where.
+#![tactic(auto)]
+
 mod lines;
 mod place;
 mod say;

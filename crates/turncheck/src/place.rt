@@ -33,7 +33,7 @@ pub const NO_WAVE: u32 = 13;
 pub const NO_FRAME: u32 = 14;
 
 // The rule that is broken, at the word `place`; slot: whose turn or mark it is.
-#[derive(Drop)]
+#[derive(Clone, Copy)]
 pub struct Found {
     pub rule: u32,
     pub place: usize,
@@ -42,7 +42,7 @@ pub struct Found {
 
 // While the words are read: words of a list to come, the slots listed and those of them that have had no turn, the slot whose turn runs (64 for none), its polls
 // and acknowledgements.
-#[derive(Drop)]
+#[derive(Clone, Copy)]
 pub struct Look {
     pub left: u32,
     pub marked: bool,

@@ -1,4 +1,6 @@
 // What goes on the air (wire.rs): calls, message numbers, level fields, the capability byte.
+#![tactic(auto)]
+
 ghost use Rattle.std.specs.Prelude.{◌≡◌};
 ghost use Rattle.wire.specs.Fields.{field_db, snr_from_q, caps_of, relays};
 

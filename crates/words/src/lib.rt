@@ -1,9 +1,11 @@
 // Document 01's words, read: whether they are a burst, and what stands in it.
+#![tactic(auto)]
+
 ghost use Rattle.std.specs.Prelude.{◌≡◌, ◌-◌, ◌≤◌, ◌%◌, length, drop, get_or};
 ghost use Rattle.words.specs.Words.{head_ok, head_of, word_ok, payload_ok, item_at, peek_at, size_of, words_for, shape_of, last_shape, parse, least, byte_of, byte_at, five_at, payload_at};
 
 // What stands at a place of a burst's words.
-#[derive(Drop)]
+#[derive(Clone, Copy)]
 pub enum Item {
     // Nothing: the words end here.
     End,
@@ -16,14 +18,14 @@ pub enum Item {
 }
 
 // What words are: no burst, or one of so many frames.
-#[derive(Drop)]
+#[derive(Clone, Copy)]
 pub enum Shape {
     Malformed,
     Frames(usize),
 }
 
 // What word 8 says.
-#[derive(Drop)]
+#[derive(Clone, Copy)]
 pub struct Head {
     pub code: u32,
     pub hi: u32,
