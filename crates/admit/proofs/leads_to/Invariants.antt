@@ -1,0 +1,16 @@
+-- Assumes nothing.
+
+use mathlib.Core.Path.{◌≡◌, refl, sym, ◌∙◌}
+use Prim.Native.Nat.{◌≤◌, ◌-◌}
+use native.Mathlib.Omega.{arith}
+use borrow.Author.Tests.{not-true, not-false}
+use Rattle.net.proofs.Laws.{index_lt}
+use Rattle.admit.specs.Admission.{leads_to}
+use Rattle.admit.proofs.Laws.{leads_there, leads_off, leads_on, leads_end}
+use Rattle.admit.proofs.leads_to.Given as goal
+
+abbrev pub invariant-loop-n : goal.invariant-loop-n
+invariant-loop-n l = (l.n ≤ 62) × (leads_to (62 - l.n) l.s l.at l.to ≡ leads_to 62 l.s l.from l.to)
+
+abbrev pub decreases-loop-n : goal.decreases-loop-n
+decreases-loop-n l = 62 - l.n

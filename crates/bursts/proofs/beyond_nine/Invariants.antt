@@ -1,0 +1,14 @@
+-- Assumes nothing.
+
+use mathlib.Core.Path.{◌≡◌, refl, sym, ◌∙◌}
+use Prim.Native.Nat.{◌≤◌, ◌-◌}
+use native.Mathlib.Omega.{arith}
+use Rattle.bursts.specs.Bursts.{beyond}
+use Rattle.bursts.proofs.Waiting.{beyond_turn, beyond_end}
+use Rattle.bursts.proofs.beyond_nine.Given as goal
+
+abbrev pub invariant-loop-i : goal.invariant-loop-i
+invariant-loop-i l = (l.i ≤ 9) × (beyond (9 - l.i) l.m ≡ beyond 9 l.mask)
+
+abbrev pub decreases-loop-i : goal.decreases-loop-i
+decreases-loop-i l = 9 - l.i

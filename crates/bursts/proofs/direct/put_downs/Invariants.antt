@@ -1,0 +1,15 @@
+-- The invariant: the frames from byte k on are still to be written. Assumes nothing.
+
+use mathlib.Core.Path.{◌≡◌, refl, sym, ap, ◌∙◌}
+use Prim.Native.Nat.{◌-◌, ◌<◌}
+use native.Mathlib.Omega.{arith}
+use Rattle.out.proofs.Laws.{Still, still-start, still-on, still-end, wrote-length}
+use Rattle.bursts.specs.Direct.{down_frames}
+use Rattle.bursts.proofs.Directing.{least_fst, down_more, down_last, down_full}
+use Rattle.bursts.proofs.direct.put_downs.Given as goal
+
+abbrev pub invariant-loop-n : goal.invariant-loop-n
+invariant-loop-n l = (l.k < 8589934592) × Still l.initial.o l.at (down_frames l.room l.queue l.slot l.max l.last l.from) l.o l.put (down_frames (l.room - l.n) l.queue l.slot l.max l.last l.k)
+
+abbrev pub decreases-loop-n : goal.decreases-loop-n
+decreases-loop-n l = l.room - l.n

@@ -1,0 +1,16 @@
+-- Assumes nothing.
+
+use mathlib.Core.Path.{◌≡◌, refl, sym, ◌∙◌}
+use Prim.Native.Nat.{◌≤◌, ◌-◌}
+use native.Mathlib.Omega.{arith}
+use Rattle.bits.specs.Loop.{fold}
+use Rattle.bits.proofs.Loops.{fold_turn, fold_end}
+use Rattle.bursts.specs.Rows.{mark_if, mask_where}
+use Rattle.bursts.specs.Reroute.{leaf_at, leaves_of}
+use Rattle.bursts.proofs.reroute.leaves_of.Given as goal
+
+abbrev pub invariant-loop-i : goal.invariant-loop-i
+invariant-loop-i l = (l.i ≤ 62) × (fold (mark_if (leaf_at l.s)) (62 - l.i) l.i l.leaves ≡ leaves_of l.s)
+
+abbrev pub decreases-loop-i : goal.decreases-loop-i
+decreases-loop-i l = 62 - l.i

@@ -1,0 +1,12 @@
+-- Assumes nothing.
+
+use Rattle.bursts.proofs.reroute.promote_member.Goals as goal
+
+pub promoted-requires : goal.promoted-requires
+promoted-requires c = tt
+
+pub returns-in-Unheard : goal.returns-in-Unheard
+returns-in-Unheard c = rw c.enum_told-1.given.1
+
+pub returns-in-Decibels : goal.returns-in-Decibels
+returns-in-Decibels c = rw c.x-1.given.1 c.promoted.ensures

@@ -1,0 +1,15 @@
+-- Assumes nothing.
+
+use mathlib.Core.Path.{◌≡◌, refl, sym, ap, ◌∙◌}
+use Prim.Native.Nat.{◌≤◌, ◌-◌}
+use native.Mathlib.Omega.{arith}
+use Rattle.bits.specs.Loop.{fold}
+use Rattle.bits.proofs.Loops.{fold_turn, fold_end}
+use Rattle.bursts.specs.Rows.{or_floor, direct_at, least_direct}
+use Rattle.bursts.proofs.rows.least_direct.Given as goal
+
+abbrev pub invariant-loop-i : goal.invariant-loop-i
+invariant-loop-i l = (l.i ≤ 62) × (or_floor (fold (direct_at l.s) (62 - l.i) l.i l.lev) ≡ least_direct l.s)
+
+abbrev pub decreases-loop-i : goal.decreases-loop-i
+decreases-loop-i l = 62 - l.i

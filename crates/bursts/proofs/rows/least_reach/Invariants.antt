@@ -1,0 +1,16 @@
+-- Assumes nothing.
+
+use mathlib.Core.Path.{◌≡◌, refl, sym, ap, ◌∙◌}
+use Prim.Native.Nat.{◌≤◌, ◌-◌}
+use native.Mathlib.Omega.{arith}
+use Rattle.bits.specs.Loop.{fold}
+use Rattle.bits.proofs.Loops.{fold_turn, fold_end}
+use Rattle.net.proofs.Laws.{index_lt}
+use Rattle.bursts.specs.Rows.{or_floor, reach_at, least_reach, member_in}
+use Rattle.bursts.proofs.rows.least_reach.Given as goal
+
+abbrev pub invariant-loop-i : goal.invariant-loop-i
+invariant-loop-i l = (l.i ≤ 62) × (or_floor (fold (reach_at l.s l.mask) (62 - l.i) l.i l.lev) ≡ least_reach l.s l.mask)
+
+abbrev pub decreases-loop-i : goal.decreases-loop-i
+decreases-loop-i l = 62 - l.i

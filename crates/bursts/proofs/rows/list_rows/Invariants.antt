@@ -1,0 +1,15 @@
+-- Assumes nothing.
+
+use mathlib.Core.Path.{refl}
+use mathlib.Core.List.{[]}
+use Prim.Native.Nat.{◌≤◌, ◌-◌}
+use native.Mathlib.Omega.{arith}
+use Rattle.bursts.specs.Rows.{list_at, list_row}
+use Rattle.bursts.proofs.Filling.{Rows, rows_start, rows_turn, rows_end}
+use Rattle.bursts.proofs.rows.list_rows.Given as goal
+
+abbrev pub invariant-loop-i : goal.invariant-loop-i
+invariant-loop-i l = (l.i ≤ 62) × Rows (list_at l.s) (list_row l.s) 3 [] l.i l.n l.rows
+
+abbrev pub decreases-loop-i : goal.decreases-loop-i
+decreases-loop-i l = 62 - l.i

@@ -1,0 +1,15 @@
+-- Assumes nothing.
+
+use mathlib.Core.Path.{◌≡◌, refl, sym, ◌∙◌}
+use Prim.Native.Nat.{◌≤◌, ◌-◌}
+use native.Mathlib.Omega.{arith}
+use Rattle.bits.specs.Loop.{fold}
+use Rattle.bits.proofs.Loops.{fold_turn, fold_end}
+use Rattle.bursts.specs.Bursts.{tell_at, tell_all}
+use Rattle.bursts.proofs.tell_all.Given as goal
+
+abbrev pub invariant-loop-i : goal.invariant-loop-i
+invariant-loop-i l = (l.i ≤ 62) × (fold tell_at (62 - l.i) l.i l.s ≡ tell_all l.initial.s)
+
+abbrev pub decreases-loop-i : goal.decreases-loop-i
+decreases-loop-i l = 62 - l.i

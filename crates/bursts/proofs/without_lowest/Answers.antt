@@ -1,0 +1,9 @@
+-- Assumes nothing.
+
+use Rattle.bursts.proofs.without_lowest.Goals as goal
+
+pub returns-in-At : goal.returns-in-At
+returns-in-At c = rw (← c.lowest.ensures, c.i-1.given.1) c.without.ensures
+
+pub returns-in-Nothing : goal.returns-in-Nothing
+returns-in-Nothing c = rw (← c.lowest.ensures, c.enum_told-1.given.1)

@@ -1,0 +1,19 @@
+-- Assumes nothing.
+
+use mathlib.Core.Path.{◌≡◌, refl, sym, ap, ◌∙◌}
+use mathlib.Core.Bool.{not}
+use Prim.Native.Nat.{◌≤◌, ◌-◌}
+use native.Mathlib.Omega.{arith}
+use lib.Dec.{eqb}
+use lib.ListN.{get_or}
+use borrow.Author.Tests.{eq-eqb, ne_eqb}
+use Rattle.bits.specs.Loop.{every}
+use Rattle.bits.proofs.Loops.{every_pass, every_stop, every_end}
+use Rattle.config.specs.Checks.{payloads_ok}
+use Rattle.config.proofs.payloads_ok.Given as goal
+
+abbrev pub invariant-loop-i : goal.invariant-loop-i
+invariant-loop-i l = (l.i ≤ 17) × (every (λ l. not (eqb (get_or l.p l 0) 0)) (17 - l.i) l.i ≡ payloads_ok l.p)
+
+abbrev pub decreases-loop-i : goal.decreases-loop-i
+decreases-loop-i l = 17 - l.i

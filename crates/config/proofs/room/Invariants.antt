@@ -1,0 +1,15 @@
+-- Assumes nothing.
+
+use mathlib.Core.Path.{◌≡◌, refl, sym, ◌∙◌}
+use Prim.Native.Nat.{◌-◌, ◌≤◌}
+use native.Mathlib.Omega.{arith}
+use borrow.Author.Tests.{not-true, not-false}
+use Rattle.config.specs.Checks.{room_on, room}
+use Rattle.config.proofs.Laws.{room_more, room_stop, room_end}
+use Rattle.config.proofs.room.Given as goal
+
+abbrev pub invariant-loop-n : goal.invariant-loop-n
+invariant-loop-n l = (1 ≤ l.n) × (l.n ≤ 64) × (room_on l.d l.max l.level (64 - l.n) l.n ≡ room l.d l.max l.level)
+
+abbrev pub decreases-loop-n : goal.decreases-loop-n
+decreases-loop-n l = 64 - l.n

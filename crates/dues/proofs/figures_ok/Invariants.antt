@@ -1,0 +1,19 @@
+-- Assumes nothing.
+
+use mathlib.Core.Path.{◌≡◌, sym, ◌∙◌}
+use Prim.Native.Nat.{◌≤◌, ◌-◌}
+use native.Mathlib.Omega.{arith}
+use lib.Dec.{leb}
+use lib.ListN.{length, get_or}
+use borrow.Author.Tests.{eq-eqb, ne_eqb, le-leb, lt-leb}
+use Rattle.bits.specs.Loop.{every}
+use Rattle.bits.proofs.Loops.{every_pass, every_stop, every_end}
+use Rattle.dues.specs.Dues.{figures_ok}
+use Rattle.dues.proofs.figures_ok.Given as goal
+
+abbrev pub invariant-loop-i : goal.invariant-loop-i
+invariant-loop-i l =
+    (l.i ≤ 62) × (length l.figures ≡ 62) × (every (λ j. leb (get_or l.figures j 0) 1000000000) (62 - l.i) l.i ≡ figures_ok l.figures)
+
+abbrev pub decreases-loop-i : goal.decreases-loop-i
+decreases-loop-i l = 62 - l.i

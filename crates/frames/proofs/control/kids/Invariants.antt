@@ -1,0 +1,20 @@
+-- Assumes nothing.
+-- The invariant: the entries from e on are left of what is done. Assumes nothing.
+
+use mathlib.Core.Path.{refl}
+use mathlib.Core.List.{[]}
+use Prim.Native.Nat.{◌≤◌, ◌-◌}
+use native.Mathlib.Omega.{arith}
+use Rattle.net.specs.Net.{said}
+use Rattle.net.proofs.Laws.{index_lt}
+use Rattle.out.proofs.Laws.{wrote-length}
+use Rattle.frames.specs.Control.{payload_in, each_entry, kid_entry, kids_frame}
+use Rattle.frames.proofs.Entries.{Going, rest_on, going_end, kid_stored, did_none}
+use Rattle.frames.proofs.control.kids.Given as goal
+
+abbrev pub invariant-loop-e : goal.invariant-loop-e
+invariant-loop-e l =
+    (l.e ≤ 258) × Going (kid_entry l.a (payload_in l.words l.at l.len) l.slot) 2 l.len (each_entry (kid_entry l.a (payload_in l.words l.at l.len) l.slot) 2 l.len 128 1 (said l.initial.s [])) l.initial.o l.initial.put l.e l.s l.o l.put
+
+abbrev pub decreases-loop-e : goal.decreases-loop-e
+decreases-loop-e l = 258 - l.e

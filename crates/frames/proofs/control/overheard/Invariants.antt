@@ -1,0 +1,19 @@
+-- The invariant: the entries from e on are left of what is done. Assumes nothing.
+
+use mathlib.Core.Path.{refl}
+use mathlib.Core.List.{[]}
+use Prim.Native.Nat.{◌≤◌, ◌-◌}
+use native.Mathlib.Omega.{arith}
+use Rattle.net.specs.Net.{said}
+use Rattle.net.proofs.Laws.{index_lt}
+use Rattle.out.proofs.Laws.{wrote-length}
+use Rattle.frames.specs.Control.{payload_in, each_entry, overheard_entry, overheard_frame}
+use Rattle.frames.proofs.Entries.{Going, rest_on, going_end, over_turn, over_stored, relay_is, did_none}
+use Rattle.frames.proofs.control.overheard.Given as goal
+
+abbrev pub invariant-loop-e : goal.invariant-loop-e
+invariant-loop-e l =
+    (l.e ≤ 264) × Going (overheard_entry l.a (payload_in l.words l.at l.len) l.slot l.via) 8 l.len (each_entry (overheard_entry l.a (payload_in l.words l.at l.len) l.slot l.via) 8 l.len 32 1 (said l.initial.s [])) l.initial.o l.initial.put l.e l.s l.o l.put
+
+abbrev pub decreases-loop-e : goal.decreases-loop-e
+decreases-loop-e l = 264 - l.e

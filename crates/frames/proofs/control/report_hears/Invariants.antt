@@ -1,0 +1,16 @@
+-- The invariant: the pairs from e on are left. Assumes nothing.
+
+use mathlib.Core.Path.{refl, sym}
+use Prim.Native.Nat.{◌≤◌, ◌-◌}
+use native.Mathlib.Omega.{arith}
+use borrow.Author.Tests.{not-true, not-false}
+use Rattle.frames.specs.Control.{payload_in, hear_pair, hear_pairs}
+use Rattle.frames.proofs.Entries.{Rest, hears_turn, rest_end}
+use Rattle.frames.proofs.control.report_hears.Given as goal
+
+abbrev pub invariant-loop-e : goal.invariant-loop-e
+invariant-loop-e l =
+    (l.e ≤ 258) × Rest (hear_pair (payload_in l.words l.at l.len) l.slot) 2 l.len (hear_pairs l.len (payload_in l.words l.at l.len) l.slot l.initial.hears) l.e l.hears
+
+abbrev pub decreases-loop-e : goal.decreases-loop-e
+decreases-loop-e l = 258 - l.e

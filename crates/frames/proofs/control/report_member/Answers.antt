@@ -1,0 +1,26 @@
+-- Assumes nothing.
+
+use borrow.Author.Tests.{not-true, not-false}
+use Rattle.frames.proofs.control.report_member.Goals as goal
+
+pub returns-then-not-here : goal.returns-then-not-here
+returns-then-not-here c = rw (not-true c.args.here c.if-not-here.true)
+
+pub returns-then-forwarded : goal.returns-then-forwarded
+returns-then-forwarded c =
+    rw (
+      not-false c.args.here c.if-not-here.false,
+      c.if-forwarded.true,
+      c.with_heard.ensures,
+      c.with_down-k.ensures,
+      c.snr_from_q.ensures,
+    )
+
+pub returns : goal.returns
+returns c =
+    rw (
+      not-false c.args.here c.if-not-here.false,
+      c.if-forwarded.false,
+      c.with_down-k.ensures,
+      c.snr_from_q.ensures,
+    )

@@ -1,0 +1,17 @@
+-- Assumes nothing.
+
+use borrow.Author.Tests.{not-true, not-false}
+use Rattle.frames.proofs.control.report_queue.Goals as goal
+
+pub returns-then-not-here : goal.returns-then-not-here
+returns-then-not-here c = rw (not-true c.args.here c.if-not-here.true)
+
+pub returns : goal.returns
+returns c =
+    rw (
+      not-false c.args.here c.if-not-here.false,
+      c.reported_to.ensures,
+      c.byte_in-c.ensures,
+      c.byte_in-b.ensures,
+      c.byte_in-a.ensures,
+    )

@@ -1,0 +1,25 @@
+-- Assumes nothing.
+
+use mathlib.Core.Path.{sym, ◌∙◌}
+use lib.ListN.{drop}
+use Rattle.frames.specs.Code.Frames.{frame_of}
+use Rattle.frames.proofs.Laws.{frame_read}
+use Rattle.frames.proofs.frame_at.Goals as goal
+
+pub returns-in-End : goal.returns-in-End
+unfolding frame_of
+returns-in-End c = rw (c.lost_frame.ensures, ← c.peek.ensures, c.enum_told-1.given.1)
+
+pub returns-in-Bad : goal.returns-in-Bad
+unfolding frame_of
+returns-in-Bad c = rw (c.lost_frame-in-Bad.ensures, ← c.peek.ensures, c.enum_told-in-Bad-1.given.1)
+
+pub returns-in-Lost : goal.returns-in-Lost
+unfolding frame_of
+returns-in-Lost c = rw (c.lost_frame-in-Lost.ensures, ← c.peek.ensures, c.enum_told-in-Lost-1.given.1)
+
+pub returns-in-Frame : goal.returns-in-Frame
+returns-in-Frame c =
+    frame_read (drop c.args.at c.args.words.now) _ _ _ _ _ _
+    (sym c.peek.ensures ∙ c.flags-1.given.1)
+    c.low.ensures c.low_len.ensures c.words_for-size.ensures

@@ -1,0 +1,6 @@
+-- Assumes nothing.
+
+use Rattle.frames.proofs.pieces.is_relayed.Goals as goal
+
+pub returns : goal.returns
+returns c = rw (c.is_member.ensures, c.has_landed.ensures)

@@ -1,0 +1,6 @@
+-- Assumes nothing.
+
+use Rattle.frames.proofs.pieces.round_after.Goals as goal
+
+pub returns : goal.returns
+returns c = rw c.has_landed.ensures

@@ -1,0 +1,21 @@
+-- The loop's invariant: what is left to search is the whole search. Assumes nothing.
+
+use mathlib.Core.Bool.{Bool}
+use mathlib.Core.Path.{◌≡◌, refl, sym, ◌∙◌}
+use Prim.Native.Nat.{ℕ, ◌-◌, ◌≤◌}
+use native.Mathlib.Omega.{arith}
+use lib.Dec.{eqb}
+use borrow.Author.Tests.{eq-eqb, ne_eqb}
+use Rattle.inbox.specs.declared.cell.Cell.{Cell}
+use Rattle.inbox.specs.Cells.{offset, seek, place_at}
+use Rattle.inbox.proofs.Search.{seek_turn_here, seek_turn_on, seek_end}
+use Rattle.inbox.proofs.cell.at_offset.Given as goal
+
+abbrev pub starts : Cell → ℕ → ℕ → Bool
+starts cell o k = eqb (offset cell k) o
+
+abbrev pub invariant-loop-k : goal.invariant-loop-k
+invariant-loop-k l = (l.k ≤ 16) × (seek (starts l.cell l.offset) (16 - l.k) l.k ≡ place_at l.cell l.offset)
+
+abbrev pub decreases-loop-k : goal.decreases-loop-k
+decreases-loop-k l = 16 - l.k

@@ -1,0 +1,16 @@
+-- The loop's invariant: the first j bytes are copied. Assumes nothing.
+
+use mathlib.Core.List.{List}
+use mathlib.Core.Path.{◌≡◌, refl, ap, ◌∙◌}
+use Prim.Native.Nat.{ℕ, ◌+◌, ◌-◌, ◌≤◌, zero-le}
+use native.Mathlib.Omega.{arith}
+use lib.ListN.{length, get_or, set, length-set}
+use lib.Seq.{paste, paste-zero}
+use Rattle.bits.proofs.Lists.{copy_turn}
+use Rattle.inbox.proofs.cell.copy_in.Given as goal
+
+abbrev pub invariant-loop-j : goal.invariant-loop-j
+invariant-loop-j l = (l.dst ≡ paste l.initial.dst l.at l.src l.j) × (l.j ≤ length l.src) × (length l.dst ≡ length l.initial.dst)
+
+abbrev pub decreases-loop-j : goal.decreases-loop-j
+decreases-loop-j l = length l.src - l.j

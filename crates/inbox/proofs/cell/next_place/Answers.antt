@@ -1,0 +1,42 @@
+use mathlib.Core.Logic.{⊎_elim}
+use mathlib.Core.Path.{◌≡◌, refl, sym, ap, ◌∙◌}
+use Prim.Native.Nat.{ℕ, ◌+◌, ◌-◌, ◌≤◌}
+use native.Mathlib.Omega.{arith}
+use Rattle.inbox.specs.Cells.{next, next_place}
+use Rattle.inbox.proofs.Search.{next_turn_this, next_turn_on, next_end}
+use borrow.Author.Rules.{rules}
+use Rattle.inbox.proofs.cell.next_place.Goals as goal
+
+pub loop-k-init : goal.loop-k-init
+loop-k-init c = (search rules, refl)
+
+pub overflow_add-k : goal.overflow_add-k
+overflow_add-k c = omega arith
+
+pub loop-k-smaller : goal.loop-k-smaller
+loop-k-smaller c = omega arith
+
+pub loop-k-preserved : goal.loop-k-preserved
+loop-k-preserved c =
+    let a = c.args in
+    let l = c.loop-k in
+    let b = c.better_place in (
+      omega arith,
+      ⊎_elim (λ w.
+          ap (λ (x : ℕ). next (16 - (l.k + 1)) a.cell (l.k + 1) x c.if-better_place.from) w.2
+          ∙ ap (λ (x : ℕ). next (16 - (l.k + 1)) a.cell (l.k + 1) l.k x) w.3
+          ∙ sym (next_turn_this 16 a.cell l.k l.best l.from (search rules) (sym b.ensures ∙ w.0.taken))
+          ∙ l.invariant.1)
+          (λ w.
+          ap (λ (x : ℕ). next (16 - (l.k + 1)) a.cell (l.k + 1) x c.if-better_place.from) w.1
+          ∙ ap (λ (x : ℕ). next (16 - (l.k + 1)) a.cell (l.k + 1) l.best x) w.2
+          ∙ sym (next_turn_on 16 a.cell l.k l.best l.from (search rules) (sym b.ensures ∙ w.0.left))
+          ∙ l.invariant.1)
+          c.if-better_place.branch,
+    )
+
+pub returns : goal.returns
+returns c =
+    let a = c.args in
+    let l = c.loop-k in
+    sym (next_end 16 a.cell l.k l.best l.from (omega arith)) ∙ l.invariant.1

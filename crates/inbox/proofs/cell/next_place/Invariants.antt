@@ -1,0 +1,15 @@
+-- The loop's invariant: what is left to search, with the best so far, is the whole search. Assumes nothing.
+
+use mathlib.Core.Logic.{⊎_elim}
+use mathlib.Core.Path.{◌≡◌, refl, sym, ap, ◌∙◌}
+use Prim.Native.Nat.{ℕ, ◌+◌, ◌-◌, ◌≤◌}
+use native.Mathlib.Omega.{arith}
+use Rattle.inbox.specs.Cells.{next, next_place}
+use Rattle.inbox.proofs.Search.{next_turn_this, next_turn_on, next_end}
+use Rattle.inbox.proofs.cell.next_place.Given as goal
+
+abbrev pub invariant-loop-k : goal.invariant-loop-k
+invariant-loop-k l = (l.k ≤ 16) × (next (16 - l.k) l.cell l.k l.best l.from ≡ next_place l.cell)
+
+abbrev pub decreases-loop-k : goal.decreases-loop-k
+decreases-loop-k l = 16 - l.k

@@ -1,0 +1,19 @@
+-- The loop's invariant: what is left to join, within n turns, is the whole; each turn joins a byte, so n never runs out. Assumes nothing.
+
+use mathlib.Core.List.{List}
+use mathlib.Core.Path.{◌≡◌, refl, sym, ap, ◌∙◌}
+use Prim.Native.Nat.{ℕ, ◌+◌, ◌-◌, ◌≤◌}
+use native.Mathlib.Omega.{arith}
+use lib.ListN.{length}
+use borrow.Author.Tests.{le-ltb}
+use Rattle.inbox.specs.Cells.{held, settle, next_place}
+use Rattle.inbox.proofs.Steps.{grown_to, goes_at, settle_turn, settle_stop}
+use Rattle.inbox.proofs.cell.settle_all.Given as goal
+
+abbrev pub invariant-loop-c : goal.invariant-loop-c
+invariant-loop-c l =
+    (l.c.joined ≤ 2048) × (length l.bytes ≡ length l.initial.bytes) × (6144 ≤ length l.initial.bytes)
+    × ((n : ℕ) × (2048 ≤ n + l.c.joined) × (settle n (held l.c l.bytes) ≡ settle 2048 (held l.initial.c l.initial.bytes)))
+
+abbrev pub decreases-loop-c : goal.decreases-loop-c
+decreases-loop-c l = 2048 - l.c.joined

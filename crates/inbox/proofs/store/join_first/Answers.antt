@@ -1,0 +1,27 @@
+-- What is said of the lent part is said of the whole. Assumes nothing.
+
+use mathlib.Core.List.{◌++◌}
+use mathlib.Core.Path.{◌≡◌, sym, ap}
+use native.Mathlib.Omega.{arith}
+use lib.ListN.{length, take, drop}
+use lib.Seq.{length-take-le}
+use Rattle.inbox.specs.Cells.{Held}
+use borrow.Author.Rules.{rules}
+use Rattle.inbox.proofs.store.join_first.Goals as goal
+
+pub slice_bounds-join-end-2 : goal.slice_bounds-join-end-2
+slice_bounds-join-end-2 c = sym (length-take-le 6400 c.args.part.now (search rules))
+
+pub join-requires : goal.join-requires
+join-requires c =
+    let a = c.args in
+    let l : length (take 6400 a.part.now) ≡ 6400 = length-take-le 6400 a.part.now (search rules) in
+    (omega arith, c.requires.1)
+
+pub returns : goal.returns
+returns c =
+    let a = c.args in
+    let j = c.join in (
+      ap (λ (h : Held). h.cell) j.ensures,
+      ap (λ (h : Held). h.bytes ++ drop 6400 a.part.now) j.ensures,
+    )

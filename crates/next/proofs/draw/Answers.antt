@@ -1,0 +1,24 @@
+use Rattle.std.proofs.Common.{◌≡◌, ◌-◌, ◌≤◌, ◌&&◌, ◌||◌, eqb, ltb, get_or, sym, refl, ◌∙◌, arith, rules}
+use Rattle.bits.specs.Loop.{fold}
+use Rattle.bits.specs.Mask.{has_bit}
+use Rattle.bits.proofs.Loops.{fold_turn, fold_end}
+use Rattle.roster.specs.Members.{no_member}
+use Rattle.bursts.specs.Rows.{mark_if, mask_where}
+use Rattle.next.specs.Code.Decision.{list_in}
+use Rattle.next.proofs.draw.Goals as goal
+
+pub loop-i-init : goal.loop-i-init
+unfolding mask_where
+loop-i-init c = (omega arith, refl)
+
+pub overflow_add-i : goal.overflow_add-i
+overflow_add-i c = omega arith
+
+pub loop-i-smaller : goal.loop-i-smaller
+loop-i-smaller c = omega arith
+
+pub loop-i-preserved : goal.loop-i-preserved
+loop-i-preserved c = let l = c.loop-i in (omega arith, rw (c.with_if-list.ensures, c.has.ensures) (sym (fold_turn _ 62 l.i l.list (omega arith)) ∙ l.invariant.1))
+
+pub returns : goal.returns
+returns c = sym (fold_end _ _ _ _ c.loop-i-test.false) ∙ c.loop-i.invariant.1

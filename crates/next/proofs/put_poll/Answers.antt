@@ -1,0 +1,11 @@
+-- Assumes nothing.
+
+use Rattle.std.proofs.Common.{rules, eq-eqb, ne_eqb}
+use Rattle.out.proofs.Laws.{wrote_none}
+use Rattle.next.proofs.put_poll.Goals as goal
+
+pub returns-then-slot-eq255 : goal.returns-then-slot-eq255
+returns-then-slot-eq255 c = rw (eq-eqb _ _ c.if-slot-eq255.true) (wrote_none _ _)
+
+pub returns : goal.returns
+returns c = rw (ne_eqb _ _ c.if-slot-eq255.false) c.poll_burst.ensures

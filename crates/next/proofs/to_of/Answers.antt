@@ -1,0 +1,13 @@
+-- Assumes nothing.
+
+use Rattle.std.proofs.Common.{rules}
+use Rattle.next.proofs.to_of.Goals as goal
+
+pub returns-then-has : goal.returns-then-has
+returns-then-has c = rw (← c.has.ensures, c.if-has.true)
+
+pub returns-in-At : goal.returns-in-At
+returns-in-At c = rw (← c.has.ensures, c.if-has.false, ← c.lowest.ensures, c.i-1.given.1) c.low.ensures
+
+pub returns-in-Nothing : goal.returns-in-Nothing
+returns-in-Nothing c = rw (← c.has.ensures, c.if-has.false, ← c.lowest.ensures, c.enum_told-1.given.1)

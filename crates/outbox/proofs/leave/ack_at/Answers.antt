@@ -1,0 +1,18 @@
+-- Assumes nothing.
+
+use Prim.Native.Nat.{◌-◌}
+use native.Mathlib.Omega.{arith}
+use Rattle.outbox.specs.Marks as M
+use Rattle.outbox.specs.Senders as S
+use Rattle.outbox.proofs.Places as L
+use Rattle.outbox.proofs.Acts as A
+use borrow.Author.Rules.{rules}
+use Rattle.outbox.proofs.leave.ack_at.Goals as goal
+
+pub returns : goal.returns
+returns c =
+    let a = c.args in
+    let k = c.cut_of-cut in
+    let f = c.ack in
+    let e = k.ensures in
+    L.back (λ l. M.ack_marks l a.off) a.marks.now a.i (S.cut_of a.s a.i) k.result f.new.0 (A.ack-length a.off) (search rules) (omega arith) (search rules) e.0 f.ensures

@@ -1,0 +1,21 @@
+-- The loop's invariant: what was passed, with what is to be done, is the whole. Assumes nothing.
+
+use mathlib.Core.Path.{◌≡◌, refl, sym, ap, ◌∙◌, subst}
+use mathlib.Core.List.{List, [], ◌++◌}
+use Prim.Native.Nat.{ℕ, ◌+◌, ◌-◌, ◌≤◌}
+use native.Mathlib.Omega.{arith}
+use lib.ListN.{length}
+use Rattle.outbox.specs.Outbox as O
+use Rattle.outbox.specs.Marks as M
+use Rattle.outbox.specs.Senders as S
+use Rattle.outbox.proofs.Places as L
+use Rattle.outbox.proofs.Acts as A
+use Rattle.outbox.proofs.Turns as T
+use Rattle.outbox.proofs.Leaving as leaving
+use Rattle.outbox.proofs.leave.mark_acked.Given as goal
+
+abbrev pub invariant-loop-i : goal.invariant-loop-i
+invariant-loop-i l = (l.i ≤ l.n) × (l.n ≡ S.count_of l.s) × (l.n ≤ 8) × (16384 ≤ length l.initial.marks) × (l.marks ≡ l.initial.marks) × ((bytes : List ℕ) → S.msgs l.s bytes l.marks l.i 0 ++ O.acked l.seq l.off (S.msgs l.s bytes l.marks (l.n - l.i) l.i) ≡ O.acked l.seq l.off (S.msgs l.s bytes l.initial.marks l.n 0))
+
+abbrev pub decreases-loop-i : goal.decreases-loop-i
+decreases-loop-i l = l.n - l.i

@@ -1,0 +1,13 @@
+-- By cases. Assumes nothing.
+
+use mathlib.Core.Path.{sym, ap, ◌∙◌}
+use Prim.Native.Nat.{◌-◌}
+use Rattle.outbox.proofs.Leaving as leaving
+use mathlib.Core.Bool.{not}
+use Rattle.outbox.proofs.leave.not_held_at.Goals as goal
+
+pub returns-then-q-next : goal.returns-then-q-next
+returns-then-q-next c = let a = c.args in λ bytes marks. sym (leaving.held_below a.s bytes marks a.also.now a.next a.i c.if-q-next.true)
+
+pub returns : goal.returns
+returns c = let a = c.args in λ bytes marks. ap not c.contains.ensures ∙ sym (leaving.held-above a.s bytes marks a.also.now a.next a.i c.if-q-next.false)

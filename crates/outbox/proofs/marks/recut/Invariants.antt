@@ -1,0 +1,17 @@
+-- The loop's invariant: what is done, with what is to be done, is the whole. Assumes nothing.
+
+use mathlib.Core.Path.{◌≡◌, refl, ◌∙◌}
+use mathlib.Core.List.{◌++◌}
+use Prim.Native.Nat.{◌+◌, ◌-◌, ◌≤◌}
+use native.Mathlib.Omega.{arith}
+use lib.ListN.{length, get_or, take, drop, length-set}
+use Rattle.outbox.specs.Marks as M
+use Rattle.outbox.proofs.Walk.{walk_turn, walk_end}
+use Rattle.outbox.proofs.Said as P
+use Rattle.outbox.proofs.marks.recut.Given as goal
+
+abbrev pub invariant-loop-i : goal.invariant-loop-i
+invariant-loop-i l = (l.i ≤ length l.initial.marks) × (length l.marks ≡ length l.initial.marks) × (l.k ≤ l.max) × (take l.i l.marks ++ M.recut_marks l.max l.s l.k (drop l.i l.marks) ≡ M.recut_marks l.max 0 0 l.initial.marks)
+
+abbrev pub decreases-loop-i : goal.decreases-loop-i
+decreases-loop-i l = length l.initial.marks - l.i

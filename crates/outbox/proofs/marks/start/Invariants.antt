@@ -1,0 +1,17 @@
+-- The loop's invariant: the first k marks are written. Assumes nothing.
+
+use mathlib.Core.Path.{◌≡◌, refl, ap, ◌∙◌}
+use mathlib.Core.List.{List}
+use Prim.Native.Nat.{ℕ, ◌+◌, ◌-◌, ◌≤◌}
+use native.Mathlib.Omega.{arith}
+use lib.ListN.{length, set, length-set}
+use Rattle.outbox.specs.Marks as M
+use Rattle.outbox.proofs.Said as P
+use lib.Seq.{paste, paste-zero}
+use Rattle.outbox.proofs.marks.start.Given as goal
+
+abbrev pub invariant-loop-k : goal.invariant-loop-k
+invariant-loop-k l = (l.k ≤ l.n) × (length l.marks ≡ length l.initial.marks) × (l.marks ≡ paste l.initial.marks l.off (M.start_marks l.n) l.k)
+
+abbrev pub decreases-loop-k : goal.decreases-loop-k
+decreases-loop-k l = l.n - l.k

@@ -1,0 +1,16 @@
+-- The loop's invariant: what was cut and what is to be cut is the whole. Assumes nothing.
+
+use mathlib.Core.Path.{sym, ap, ◌∙◌}
+use Prim.Native.Nat.{ℕ, ◌-◌}
+use native.Mathlib.Omega.{arith}
+use lib.ListN.{length}
+use mathlib.Core.Bool.{false}
+use Rattle.outbox.specs.Outbox.{cut_up}
+use Rattle.outbox.proofs.Passes as P
+use Rattle.outbox.proofs.pieces.fresh.Given as goal
+
+abbrev pub invariant-loop-c : goal.invariant-loop-c
+invariant-loop-c l = P.Cutting l.max l.seq l.whole l.initial.out l.initial.at l.initial.left l.cut l.initial.marks l.out l.marks l.at l.left l.c
+
+abbrev pub decreases-loop-c : goal.decreases-loop-c
+decreases-loop-c l = length l.whole - l.c

@@ -1,0 +1,27 @@
+use Prim.Native.Nat.{◌-◌, ◌≤◌}
+use native.Mathlib.Omega.{arith}
+use lib.ListN.{length}
+use Rattle.outbox.proofs.Passes as P
+use Rattle.outbox.proofs.pieces.sweep.Goals as goal
+
+pub loop-i-init : goal.loop-i-init
+loop-i-init c = let a = c.args in P.sweeping-start a.mark a.seq a.whole.now a.out.now a.w.at a.w.left a.marks.now
+
+pub loop-i-preserved : goal.loop-i-preserved
+loop-i-preserved c =
+    let a = c.args in
+    let l = c.loop-i in
+    let s = c.sweep_at-v in
+    P.sweeping-turn a.mark a.seq a.whole.now a.out.now a.w.at a.w.left a.marks.now c.requires.1 (omega (arith, l.invariant.same-marks)) l.invariant s.ensures.0 s.ensures.1.0 s.ensures.1.1
+
+pub returns : goal.returns
+returns c =
+    let a = c.args in
+    let l = c.loop-i in
+    let h : length a.marks.now ≤ l.i = omega (arith, l.invariant.same-marks) in (
+      P.swept-words a.mark a.seq a.whole.now a.out.now a.w.at a.w.left a.marks.now h l.invariant,
+      (
+        P.swept-left a.mark a.seq a.whole.now a.out.now a.w.at a.w.left a.marks.now h l.invariant,
+        P.swept-marks a.mark a.seq a.whole.now a.out.now a.w.at a.w.left a.marks.now h l.invariant,
+      ),
+    )

@@ -1,0 +1,21 @@
+-- The loop's invariant: what was counted, with what is left to count, is the whole. Assumes nothing.
+
+use mathlib.Core.Path.{◌≡◌, sym, ap, ◌∙◌}
+use mathlib.Core.List.{List}
+use Prim.Native.Nat.{ℕ, ◌+◌, ◌-◌, ◌*◌, ◌≤◌}
+use native.Mathlib.Omega.{arith}
+use lib.ListN.{length}
+use lib.Dec.{ltb}
+use borrow.Author.Tests.{lt-ltb, le-ltb}
+use Rattle.bits.proofs.Lists.{cond_true, cond_false}
+use Rattle.outbox.specs.Outbox as O
+use Rattle.outbox.specs.Senders as S
+use Rattle.outbox.proofs.Sending as W
+use Rattle.outbox.specs.declared.sender.Waiting.TheVariants.{Bytes}
+use Rattle.outbox.proofs.sender.pending.Given as goal
+
+abbrev pub invariant-loop-i : goal.invariant-loop-i
+invariant-loop-i l = (l.i ≤ l.n) × (l.n ≡ S.count_of l.s) × (l.n ≤ 8) × (l.sum ≤ 4096 * l.i) × (16384 ≤ length l.marks) × ((bytes : List ℕ) → 16384 ≤ length bytes → l.sum + O.pending-in (S.msgs l.s bytes l.marks (l.n - l.i) l.i) ≡ O.pending-in (S.msgs l.s bytes l.marks l.n 0))
+
+abbrev pub decreases-loop-i : goal.decreases-loop-i
+decreases-loop-i l = l.n - l.i

@@ -1,0 +1,60 @@
+use mathlib.Core.Path.{◌≡◌, refl, sym, ap, ◌∙◌}
+use mathlib.Core.List.{List, [], ◌++◌, map}
+use Prim.Native.Nat.{ℕ, ◌+◌, ◌-◌, ◌≤◌}
+use native.Mathlib.Omega.{arith}
+use lib.ListN.{length}
+use lib.Dec.{ltb}
+use borrow.Author.Tests.{lt-ltb, le-ltb}
+use Rattle.bits.proofs.Lists.{cond_true, cond_false}
+use Rattle.outbox.specs.Outbox as O
+use Rattle.outbox.specs.Marks as M
+use Rattle.outbox.specs.Senders as S
+use Rattle.outbox.proofs.Places as L
+use Rattle.outbox.proofs.Acts as A
+use Rattle.outbox.proofs.Turns as T
+use borrow.Author.Rules.{rules}
+use Rattle.outbox.proofs.sender.stale.Goals as goal
+
+pub returns-then-marks-lt-MEMORY : goal.returns-then-marks-lt-MEMORY
+returns-then-marks-lt-MEMORY c = (sym (cond_true (ltb (length c.args.marks.now) 16384) 7 0 (lt-ltb _ _ c.if-marks-lt-MEMORY.true)), (λ bytes. refl, λ z. refl))
+
+pub loop-i-init : goal.loop-i-init
+loop-i-init c =
+    let n = c.count_of-n in
+    let a = c.args in
+    (search rules, n.ensures.0, n.ensures.1, search rules, refl, λ bytes. L.msgs-begin a.s bytes a.marks.now (map O.stale-in) n.result)
+
+pub stale_at-requires : goal.stale_at-requires
+stale_at-requires c = let l = c.loop-i.invariant in (omega arith, omega arith)
+
+pub loop-i-preserved : goal.loop-i-preserved
+loop-i-preserved c =
+    let a = c.args in
+    let l = c.loop-i in
+    let i = l.invariant in
+    let t = c.stale_at in (
+      omega arith,
+      i.1,
+      i.2,
+      i.3,
+      T.act-length M.stale_marks A.stale-length a.s [] l.marks t.new.1.0 c.count_of-n.result l.i (omega arith) i.2 (omega arith) t.ensures ∙ i.4,
+      λ bytes. T.stale-turn a.s bytes l.marks t.new.1.0 c.count_of-n.result l.i (omega arith) i.2 (omega arith) t.ensures ∙ i.5 bytes,
+    )
+
+pub shape_of-marks : goal.shape_of-marks
+shape_of-marks c = c.loop-i.invariant.4
+
+pub returns : goal.returns
+returns c =
+    let a = c.args in
+    let l = c.loop-i in
+    let i = l.invariant in
+    let n = c.count_of-n in (
+      sym (cond_false (ltb (length a.marks.now) 16384) 7 0 (le-ltb _ _ i.3)),
+      (
+        λ bytes. ap (λ (x : List O.OutMsg). record { msgs = x; next_seq = a.s.next })
+            (ap (λ (k : ℕ). S.msgs a.s bytes l.marks k 0) (sym i.1) ∙ L.msgs-end a.s bytes l.marks (map O.stale-in) n.result l.i (omega arith) refl ∙ i.5 bytes
+            ∙ ap (λ (k : ℕ). map O.stale-in (S.msgs a.s bytes a.marks.now k 0)) i.1),
+        λ z. absurd (z refl),
+      ),
+    )

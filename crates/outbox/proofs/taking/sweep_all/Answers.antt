@@ -1,0 +1,77 @@
+use mathlib.Core.Path.{◌≡◌, refl, sym, ap, ◌∙◌}
+use mathlib.Core.List.{[], ◌++◌, map}
+use Prim.Native.Nat.{ℕ, ◌+◌, ◌-◌, ◌≤◌, ◌<◌}
+use native.Mathlib.Omega.{arith}
+use lib.ListN.{length, get_or}
+use lib.Dec.{eqb}
+use Rattle.outbox.specs.Outbox as O
+use Rattle.outbox.specs.Senders as S
+use Rattle.outbox.proofs.Places as L
+use lib.ListN.{length-map}
+use Rattle.out.proofs.Laws.{wrote_as}
+use Rattle.outbox.specs.Bursts.{burst_words, pass_pieces}
+use Rattle.outbox.proofs.Bursting as B
+use borrow.Author.Rules.{rules}
+use Rattle.outbox.proofs.taking.sweep_all.Goals as goal
+
+pub loop-i-init : goal.loop-i-init
+loop-i-init c =
+    let n = c.count_of-n in
+    let a = c.args in
+    let p = c.requires in
+    let z : n.result - 0 ≡ n.result = omega arith in (
+      search rules,
+      n.ensures.0,
+      n.ensures.1,
+      p.1.0,
+      refl,
+      L.msgs-begin a.s a.bytes.now a.marks.now (O.sweep (eqb a.mark 2) a.w.left) n.result,
+      B.passing-as (B.passing-start (O.sweep-out (eqb a.mark 2) a.w.left (S.msgs a.s a.bytes.now a.marks.now n.result 0)) a.out.now a.w.at a.w.left) (ap (λ (k : ℕ). O.sweep-out (eqb a.mark 2) a.w.left (S.msgs a.s a.bytes.now a.marks.now k 0)) (sym z)),
+    )
+
+pub sweep_at-v-requires : goal.sweep_at-v-requires
+sweep_at-v-requires c = let l = c.loop-i.invariant in let p = c.requires in (omega arith, (p.0, (omega arith, p.1.1)))
+
+pub loop-i-preserved : goal.loop-i-preserved
+loop-i-preserved c =
+    let a = c.args in
+    let p = c.requires in
+    let l = c.loop-i in
+    let i = l.invariant in
+    let t = c.sweep_at-v in
+    let n = c.count_of-n.result in
+    let m = t.new.1.1.0 in
+    let h : l.i < n = omega arith in
+    let r : 16384 ≤ length l.marks = omega arith in
+    let ps = map (O.sent-of (get_or a.s.seqs l.i 0) (S.part a.bytes.now l.i (S.total_of a.s l.i))) (pass_pieces a.mark l.v.left (S.part l.marks l.i (S.cut_of a.s l.i))) in (
+      omega arith,
+      i.1,
+      i.2,
+      i.3,
+      B.sweep-same a.mark p.1.1 a.s [] l.marks m n l.i l.v.left t.result.left h i.2 r t.ensures.1.0 t.ensures.1.1 ∙ i.4,
+      B.sweep-turn a.mark p.1.1 a.s a.bytes.now l.marks m n l.i l.v.left t.result.left h i.2 r t.ensures.1.0 t.ensures.1.1 ∙ i.5,
+      B.passing-turn ps i.6 (B.sweep-rest a.mark p.1.1 a.s a.bytes.now l.marks m n l.i l.v.left t.result.left h i.2 r t.ensures.1.0 t.ensures.1.1) t.ensures.0
+          (t.ensures.1.0 ∙ ap (λ (x : ℕ). l.v.left - x) (sym (length-map (pass_pieces a.mark l.v.left (S.part l.marks l.i (S.cut_of a.s l.i))) (O.sent-of (get_or a.s.seqs l.i 0) (S.part a.bytes.now l.i (S.total_of a.s l.i)))))),
+    )
+
+pub shape_of-marks : goal.shape_of-marks
+shape_of-marks c = c.loop-i.invariant.4
+
+pub shape_of-out : goal.shape_of-out
+shape_of-out c = c.loop-i.invariant.6.same_out
+
+pub returns : goal.returns
+returns c =
+    let a = c.args in
+    let l = c.loop-i in
+    let i = l.invariant in
+    let n = c.count_of-n.result in
+    let z : n - l.i ≡ 0 = omega arith in
+    let e = ap (λ (k : ℕ). O.sweep-out (eqb a.mark 2) l.v.left (S.msgs a.s a.bytes.now l.marks k l.i)) z ∙ ap (O.sweep-out (eqb a.mark 2) l.v.left) (L.msgs-none a.s a.bytes.now l.marks l.i) ∙ B.out-nil (eqb a.mark 2) l.v.left in (
+      ap (λ (k : ℕ). S.msgs a.s a.bytes.now l.marks k 0) (sym i.1) ∙ L.msgs-end a.s a.bytes.now l.marks (O.sweep (eqb a.mark 2) l.v.left) n l.i (omega arith) (B.sweep-nil (eqb a.mark 2) l.v.left) ∙ i.5
+          ∙ ap (λ (k : ℕ). O.sweep (eqb a.mark 2) a.w.left (S.msgs a.s a.bytes.now a.marks.now k 0)) i.1,
+      (
+        wrote_as (B.passing-words i.6 e) (ap (λ (k : ℕ). burst_words (O.sweep-out (eqb a.mark 2) a.w.left (S.msgs a.s a.bytes.now a.marks.now k 0))) i.1),
+        B.passing-left i.6 e ∙ ap (λ (k : ℕ). a.w.left - length (O.sweep-out (eqb a.mark 2) a.w.left (S.msgs a.s a.bytes.now a.marks.now k 0))) i.1,
+      ),
+    )

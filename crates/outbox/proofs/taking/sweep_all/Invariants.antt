@@ -1,0 +1,22 @@
+-- The loop's invariant: what is done, with what is to be done, is the whole. Assumes nothing.
+
+use mathlib.Core.Path.{◌≡◌, refl, sym, ap, ◌∙◌}
+use mathlib.Core.List.{[], ◌++◌, map}
+use Prim.Native.Nat.{ℕ, ◌+◌, ◌-◌, ◌≤◌, ◌<◌}
+use native.Mathlib.Omega.{arith}
+use lib.ListN.{length, get_or}
+use lib.Dec.{eqb}
+use Rattle.outbox.specs.Outbox as O
+use Rattle.outbox.specs.Senders as S
+use Rattle.outbox.proofs.Places as L
+use lib.ListN.{length-map}
+use Rattle.out.proofs.Laws.{wrote_as}
+use Rattle.outbox.specs.Bursts.{burst_words, pass_pieces}
+use Rattle.outbox.proofs.Bursting as B
+use Rattle.outbox.proofs.taking.sweep_all.Given as goal
+
+abbrev pub invariant-loop-i : goal.invariant-loop-i
+invariant-loop-i l = (l.i ≤ l.n) × (l.n ≡ S.count_of l.s) × (l.n ≤ 8) × (16384 ≤ length l.initial.marks) × (length l.marks ≡ length l.initial.marks) × (S.msgs l.s l.bytes l.marks l.i 0 ++ O.sweep (eqb l.mark 2) l.v.left (S.msgs l.s l.bytes l.marks (l.n - l.i) l.i) ≡ O.sweep (eqb l.mark 2) l.initial.v.left (S.msgs l.s l.bytes l.initial.marks l.n 0)) × B.Passing (O.sweep-out (eqb l.mark 2) l.initial.v.left (S.msgs l.s l.bytes l.initial.marks l.n 0)) l.initial.out l.initial.v.at l.initial.v.left l.out l.v.at l.v.left (O.sweep-out (eqb l.mark 2) l.v.left (S.msgs l.s l.bytes l.marks (l.n - l.i) l.i))
+
+abbrev pub decreases-loop-i : goal.decreases-loop-i
+decreases-loop-i l = l.n - l.i

@@ -1,0 +1,9 @@
+-- Assumes nothing.
+
+use mathlib.Core.Path.{refl}
+use lib.Ieee.{of_bits, neg}
+use Rattle.preset.proofs.ladder.Goals as goal
+
+pub returns : goal.returns
+unfolding of_bits neg
+returns c = refl

@@ -1,0 +1,16 @@
+-- The invariant: the first k bytes stand, and zeros behind them. Assumes nothing.
+
+use mathlib.Core.Path.{◌≡◌, refl, ap, ◌∙◌}
+use mathlib.Core.List.{List, ◌++◌}
+use Prim.Native.Nat.{ℕ, ◌+◌, ◌-◌, ◌≤◌}
+use native.Mathlib.Omega.{arith}
+use lib.ListN.{replicate, set}
+use Rattle.queue.specs.Queues.{bytes_from}
+use Rattle.queue.proofs.Laws.{bytes_next}
+use Rattle.queue.proofs.bytes_from.Given as goal
+
+abbrev pub invariant-loop-k : goal.invariant-loop-k
+invariant-loop-k l = (l.k ≤ l.n) × (l.p ≡ bytes_from l.queue l.slot l.o l.k ++ replicate (255 - l.k) 0)
+
+abbrev pub decreases-loop-k : goal.decreases-loop-k
+decreases-loop-k l = l.n - l.k

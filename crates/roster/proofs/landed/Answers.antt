@@ -1,0 +1,6 @@
+-- Assumes nothing.
+
+use Rattle.roster.proofs.landed.Goals as goal
+
+pub returns : goal.returns
+returns c = rw (c.more_by.ensures, c.land-v.ensures)

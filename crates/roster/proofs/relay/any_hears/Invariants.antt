@@ -1,0 +1,15 @@
+-- Assumes nothing.
+
+use Rattle.bits.proofs.Loops.{any_pass, any_stop, any_end}
+use Rattle.bits.specs.Loop.{any}
+use mathlib.Core.Path.{◌≡◌, refl, sym, ◌∙◌}
+use Prim.Native.Nat.{◌≤◌, ◌-◌}
+use native.Mathlib.Omega.{arith}
+use Rattle.roster.specs.Relays.{hears_it, any_hears}
+use Rattle.roster.proofs.relay.any_hears.Given as goal
+
+abbrev pub invariant-loop-i : goal.invariant-loop-i
+invariant-loop-i l = (l.i ≤ 62) × (any (hears_it l.hears l.left l.a) (62 - l.i) l.i ≡ any_hears l.hears l.left l.a)
+
+abbrev pub decreases-loop-i : goal.decreases-loop-i
+decreases-loop-i l = 62 - l.i

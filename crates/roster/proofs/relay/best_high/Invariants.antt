@@ -1,0 +1,16 @@
+-- Assumes nothing.
+
+use Rattle.bits.proofs.Loops.{fold_turn, fold_end}
+use Rattle.bits.specs.Loop.{fold}
+use mathlib.Core.Path.{◌≡◌, refl, sym, ◌∙◌, ap}
+use Prim.Native.Nat.{◌≤◌, ◌-◌}
+use native.Mathlib.Omega.{arith}
+use Rattle.roster.specs.declared.relay.Pick.{Pick}
+use Rattle.roster.specs.Relays.{high_step, best_high}
+use Rattle.roster.proofs.relay.best_high.Given as goal
+
+abbrev pub invariant-loop-i : goal.invariant-loop-i
+invariant-loop-i l = (l.i ≤ 62) × ((fold (high_step l.hears l.able l.a l.floor) (62 - l.i) l.i l.p).slot ≡ best_high l.hears l.able l.a l.floor)
+
+abbrev pub decreases-loop-i : goal.decreases-loop-i
+decreases-loop-i l = 62 - l.i

@@ -1,0 +1,18 @@
+-- Assumes nothing.
+
+use mathlib.Core.Path.{◌≡◌}
+use mathlib.Core.Bool.{true, false, ◌&&◌, ◌||◌}
+use lib.Dec.{eqb, leb}
+use Rattle.roster.proofs.relay.better_high.Goals as goal
+
+pub returns : goal.returns
+returns c =
+    let a = c.args in
+    let no : (a.ok && (eqb a.p.slot 63 || leb a.p.level a.q)) ≡ false = c.if-ok-p.false in
+    rw no
+
+pub returns-then-ok-p : goal.returns-then-ok-p
+returns-then-ok-p c =
+    let a = c.args in
+    let yes : (a.ok && (eqb a.p.slot 63 || leb a.p.level a.q)) ≡ true = c.if-ok-p.true in
+    rw yes

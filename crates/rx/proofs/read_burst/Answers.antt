@@ -1,0 +1,174 @@
+use mathlib.Core.Path.{refl, sym, ap, ◌∙◌}
+use mathlib.Core.Logic.{⊎_elim}
+use Rattle.out.proofs.Laws.{wrote-length}
+use Rattle.frames.specs.declared.Rx.{Rx}
+use Rattle.frames.specs.Code.Kinds.{Piece, Checkin, Overheard, Kids}
+use Rattle.frames.proofs.ByKind.{kind_up, kind_byte, is_checkin, short_checkin, is_report_lem, short_report, is_overheard, is_kids, is_none}
+use native.Mathlib.Omega.{arith}
+use Prim.Native.Nat.{◌-◌}
+use Rattle.net.proofs.Laws.{index_lt}
+use Rattle.rx.proofs.Endings.{finished}
+use Rattle.rx.proofs.Turns.{Going, going_start, fits, fewer, read_done}
+use Rattle.rx.proofs.Each.{cell_lt, room_now, turn_piece, Went, went_said, went_none, went_report}
+use Rattle.rx.proofs.read_burst.Goals as goal
+
+-- where the arms of the control byte meet
+went : (c : tie.At-match-branch invariant-loop decreases-loop) → Went c.before.before.before.before.before.before.before.loop.invariant c.before.before.before.before.before.if1.true c.before.before.before.before.frame_at.result c.before.before.before.before.frame_at.ensures c.match.s c.match.o c.match.x c.match.end
+went c =
+    let len = c.before.before.before.before.frame_at.result.len in
+    let byte = kind_byte _ _ c.before.before.if2.false c.before.control-byte.ensures in
+    ⊎_elim
+    (λ w. rw (w.8, w.9, w.10, w.11) (went_said c.before.before.before.before.before.before.before.loop.invariant c.before.before.before.before.before.if1.true c.before.before.before.before.frame_at.result c.before.before.before.before.frame_at.ensures Checkin (is_checkin len w.0.keys1 w.2.taken ∙ byte) refl w.5.ensures))
+    (⊎_elim
+    (λ w. rw (w.3, w.4, w.5, w.6) (went_none c.before.before.before.before.before.before.before.loop.invariant c.before.before.before.before.before.if1.true c.before.before.before.before.frame_at.result c.before.before.before.before.frame_at.ensures (short_checkin len w.0.keys1 w.2.left ∙ byte)))
+    (⊎_elim
+    (λ w. rw (w.16, w.17, w.18, w.19) (went_report c.before.before.before.before.before.before.before.loop.invariant c.before.before.before.before.before.if1.true c.before.before.before.before.frame_at.result c.before.before.before.before.frame_at.ensures (is_report_lem len w.0.keys2 w.2.taken ∙ byte)
+    w.3.ensures w.4.ensures w.5.ensures w.7.ensures w.8.ensures w.9.ensures w.11.ensures w.13.ensures w.14.ensures w.15.ensures))
+    (⊎_elim
+    (λ w. rw (w.3, w.4, w.5, w.6) (went_none c.before.before.before.before.before.before.before.loop.invariant c.before.before.before.before.before.if1.true c.before.before.before.before.frame_at.result c.before.before.before.before.frame_at.ensures (short_report len w.0.keys2 w.2.left ∙ byte)))
+    (⊎_elim
+    (λ w. rw (w.6, w.7, w.8, w.9) (went_said c.before.before.before.before.before.before.before.loop.invariant c.before.before.before.before.before.if1.true c.before.before.before.before.frame_at.result c.before.before.before.before.frame_at.ensures Overheard (is_overheard len w.0.keys3 ∙ byte) refl w.3.ensures))
+    (⊎_elim
+    (λ w. rw (w.6, w.7, w.8, w.9) (went_said c.before.before.before.before.before.before.before.loop.invariant c.before.before.before.before.before.if1.true c.before.before.before.before.frame_at.result c.before.before.before.before.frame_at.ensures Kids (is_kids len w.0.keys4 ∙ byte) refl w.3.ensures))
+    (λ w. rw (w.1, w.2, w.3, w.4) (went_none c.before.before.before.before.before.before.before.loop.invariant c.before.before.before.before.before.if1.true c.before.before.before.before.frame_at.result c.before.before.before.before.frame_at.ensures (is_none len w.0.rest.0.0.0.1 w.0.rest.0.0.1 w.0.rest.0.1 w.0.rest.1 ∙ byte))))))))
+    c.match.branch
+
+pub loop-x-init : goal.loop-x-init
+loop-x-init c = going_start _ _ _ _ _ _ _ c.first_rx-x.ensures (λ h. (c.requires h).0)
+
+pub offset_bounds-s-i : goal.offset_bounds-s-i
+offset_bounds-s-i c = omega (arith, rw (← c.index-i.ensures) at (index_lt c.frame_at-f.result.slot))
+
+pub bounds-s-i : goal.bounds-s-i
+bounds-s-i c = omega (arith, rw (← c.index-i.ensures) at (index_lt c.frame_at-f.result.slot))
+
+pub offset_bounds-s-c : goal.offset_bounds-s-c
+offset_bounds-s-c c = omega (arith, cell_lt _ _ _ _ _ _ _ _ c.piece_of-p.ensures c.cell_of-c.ensures)
+
+pub bounds-s-c : goal.bounds-s-c
+bounds-s-c c = omega (arith, cell_lt _ _ _ _ _ _ _ _ c.piece_of-p.ensures c.cell_of-c.ensures)
+
+pub take-d-requires : goal.take-d-requires
+take-d-requires c = room_now c.loop-x.invariant c.loop-x-test.true c.frame_at-f.result c.frame_at-f.ensures Piece (kind_up _ _ c.if-f-eq-T_UP.true) _ _ _ _ _ _ _ c.piece_of-p.ensures (c.requires (omega arith)).1
+
+pub offset_bounds-s-c-then-f-eq-T_UP : goal.offset_bounds-s-c-then-f-eq-T_UP
+offset_bounds-s-c-then-f-eq-T_UP c = omega (arith, cell_lt _ _ _ _ _ _ _ _ c.piece_of-p.ensures c.cell_of-c.ensures)
+
+pub bounds-s-c-then-f-eq-T_UP : goal.bounds-s-c-then-f-eq-T_UP
+bounds-s-c-then-f-eq-T_UP c = omega (arith, cell_lt _ _ _ _ _ _ _ _ c.piece_of-p.ensures c.cell_of-c.ensures)
+
+pub offset_bounds-s-c-then-f-eq-T_UP-2 : goal.offset_bounds-s-c-then-f-eq-T_UP-2
+offset_bounds-s-c-then-f-eq-T_UP-2 c = omega (arith, cell_lt _ _ _ _ _ _ _ _ c.piece_of-p.ensures c.cell_of-c.ensures)
+
+pub bounds-s-c-then-f-eq-T_UP-2 : goal.bounds-s-c-then-f-eq-T_UP-2
+bounds-s-c-then-f-eq-T_UP-2 c = omega (arith, cell_lt _ _ _ _ _ _ _ _ c.piece_of-p.ensures c.cell_of-c.ensures)
+
+pub offset_bounds-s-c-then-f-eq-T_UP-3 : goal.offset_bounds-s-c-then-f-eq-T_UP-3
+offset_bounds-s-c-then-f-eq-T_UP-3 c = omega (arith, cell_lt _ _ _ _ _ _ _ _ c.piece_of-p.ensures c.cell_of-c.ensures)
+
+pub bounds-s-c-then-f-eq-T_UP-3 : goal.bounds-s-c-then-f-eq-T_UP-3
+bounds-s-c-then-f-eq-T_UP-3 c = omega (arith, cell_lt _ _ _ _ _ _ _ _ c.piece_of-p.ensures c.cell_of-c.ensures)
+
+pub offset_bounds-s-i-then-f-eq-T_UP : goal.offset_bounds-s-i-then-f-eq-T_UP
+offset_bounds-s-i-then-f-eq-T_UP c = omega (arith, rw (← c.index-i.ensures) at (index_lt c.frame_at-f.result.slot))
+
+pub bounds-s-i-then-f-eq-T_UP : goal.bounds-s-i-then-f-eq-T_UP
+bounds-s-i-then-f-eq-T_UP c = omega (arith, rw (← c.index-i.ensures) at (index_lt c.frame_at-f.result.slot))
+
+pub next_piece-x-requires : goal.next_piece-x-requires
+next_piece-x-requires c = fits c.loop-x.invariant c.loop-x-test.true c.frame_at-f.result c.frame_at-f.ensures c.well-formed.1.1.1.0.0
+
+pub loop-x-smaller-then-f-eq-T_UP : goal.loop-x-smaller-then-f-eq-T_UP
+loop-x-smaller-then-f-eq-T_UP c = fewer (ap (λ (k : Rx). k.frame) c.next_piece-x.ensures) c.loop-x-test.true
+
+pub loop-x-preserved-then-f-eq-T_UP : goal.loop-x-preserved-then-f-eq-T_UP
+loop-x-preserved-then-f-eq-T_UP c =
+    turn_piece c.loop-x.invariant c.loop-x-test.true c.frame_at-f.result c.frame_at-f.ensures Piece (kind_up _ _ c.if-f-eq-T_UP.true) refl
+    c.index-i.ensures c.is_member-here.ensures c.piece_of-p.ensures c.cell_of-c.ensures c.take-d.ensures c.owner_after.ensures c.busy_after.ensures c.landed_after.ensures
+    c.member_after.ensures c.is_relayed-relayed.ensures c.round_after-s.ensures c.totals_after-s.ensures c.landed_events.ensures refl
+    c.take-d.auto.1.1.1.1.1.0 c.next_piece-x.ensures
+
+pub offset_bounds-s-i-then-f-ge12 : goal.offset_bounds-s-i-then-f-ge12
+offset_bounds-s-i-then-f-ge12 c = omega (arith, rw (← c.index-i-then-f-ge12.ensures) at (index_lt c.byte_in-slot.result))
+
+pub bounds-s-i-then-f-ge12 : goal.bounds-s-i-then-f-ge12
+bounds-s-i-then-f-ge12 c = omega (arith, rw (← c.index-i-then-f-ge12.ensures) at (index_lt c.byte_in-slot.result))
+
+pub offset_bounds-s-i-then-f-ge12-2 : goal.offset_bounds-s-i-then-f-ge12-2
+offset_bounds-s-i-then-f-ge12-2 c = omega (arith, rw (← c.index-i-then-f-ge12.ensures) at (index_lt c.byte_in-slot.result))
+
+pub bounds-s-i-then-f-ge12-2 : goal.bounds-s-i-then-f-ge12-2
+bounds-s-i-then-f-ge12-2 c = omega (arith, rw (← c.index-i-then-f-ge12.ensures) at (index_lt c.byte_in-slot.result))
+
+pub offset_bounds-s-i-then-f-ge12-3 : goal.offset_bounds-s-i-then-f-ge12-3
+offset_bounds-s-i-then-f-ge12-3 c = omega (arith, rw (← c.index-i-then-f-ge12.ensures) at (index_lt c.byte_in-slot.result))
+
+pub bounds-s-i-then-f-ge12-3 : goal.bounds-s-i-then-f-ge12-3
+bounds-s-i-then-f-ge12-3 c = omega (arith, rw (← c.index-i-then-f-ge12.ensures) at (index_lt c.byte_in-slot.result))
+
+pub offset_bounds-s-i-then-f-ge12-4 : goal.offset_bounds-s-i-then-f-ge12-4
+offset_bounds-s-i-then-f-ge12-4 c = omega (arith, rw (← c.index-i-then-f-ge12.ensures) at (index_lt c.byte_in-slot.result))
+
+pub bounds-s-i-then-f-ge12-4 : goal.bounds-s-i-then-f-ge12-4
+bounds-s-i-then-f-ge12-4 c = omega (arith, rw (← c.index-i-then-f-ge12.ensures) at (index_lt c.byte_in-slot.result))
+
+pub next_frame-x-requires : goal.next_frame-x-requires
+next_frame-x-requires c =
+    let r = went c
+    rw (r.word, r.frame) (fits c.loop-x.invariant c.loop-x-test.true c.frame_at-f.result c.frame_at-f.ensures c.well-formed.1.1.1.0.0)
+
+pub loop-x-smaller : goal.loop-x-smaller
+loop-x-smaller c = fewer (ap (λ (k : Rx). k.frame) c.next_frame-x.ensures ∙ (rw (went c).frame)) c.loop-x-test.true
+
+pub loop-x-preserved : goal.loop-x-preserved
+loop-x-preserved c = (went c).on c.next_frame-x.ensures
+
+pub offset_bounds-s-i-2 : goal.offset_bounds-s-i-2
+offset_bounds-s-i-2 c = omega (arith, rw (← c.index-i-2.ensures) at (index_lt c.ending_of-e.result.slot))
+
+pub bounds-s-i-2 : goal.bounds-s-i-2
+bounds-s-i-2 c = omega (arith, rw (← c.index-i-2.ensures) at (index_lt c.ending_of-e.result.slot))
+
+pub offset_bounds-s-i-3 : goal.offset_bounds-s-i-3
+offset_bounds-s-i-3 c = omega (arith, rw (← c.index-i-2.ensures) at (index_lt c.ending_of-e.result.slot))
+
+pub bounds-s-i-3 : goal.bounds-s-i-3
+bounds-s-i-3 c = omega (arith, rw (← c.index-i-2.ensures) at (index_lt c.ending_of-e.result.slot))
+
+pub offset_bounds-s-i-4 : goal.offset_bounds-s-i-4
+offset_bounds-s-i-4 c = omega (arith, rw (← c.index-i-2.ensures) at (index_lt c.ending_of-e.result.slot))
+
+pub bounds-s-i-4 : goal.bounds-s-i-4
+bounds-s-i-4 c = omega (arith, rw (← c.index-i-2.ensures) at (index_lt c.ending_of-e.result.slot))
+
+-- LEFT overflow-mul-t114: omega (arith, rw (← c.before.before.before.before.index3.ensures) at (index_lt c.before.before.before.before.before.before.Ending-of.result.slot))
+
+pub bounds-s-i-5 : goal.bounds-s-i-5
+bounds-s-i-5 c = omega (arith, rw (← c.index-i-2.ensures) at (index_lt c.ending_of-e.result.slot))
+
+pub offset_bounds-s-b : goal.offset_bounds-s-b
+offset_bounds-s-b c = omega (arith, rw (← c.index-b.ensures) at (index_lt c.ending_of-e.result.reply.relayfor))
+
+pub bounds-s-b : goal.bounds-s-b
+bounds-s-b c = omega (arith, rw (← c.index-b.ensures) at (index_lt c.ending_of-e.result.reply.relayfor))
+
+pub offset_bounds-s-b-2 : goal.offset_bounds-s-b-2
+offset_bounds-s-b-2 c = omega (arith, rw (← c.index-b.ensures) at (index_lt c.ending_of-e.result.reply.relayfor))
+
+pub bounds-s-b-2 : goal.bounds-s-b-2
+bounds-s-b-2 c = omega (arith, rw (← c.index-b.ensures) at (index_lt c.ending_of-e.result.reply.relayfor))
+
+pub shape_of-lent : goal.shape_of-lent
+shape_of-lent c = c.loop-x.invariant.size
+
+pub shape_of-o : goal.shape_of-o
+shape_of-o c = wrote-length c.put_end.ensures ∙ wrote-length c.loop-x.invariant.wrote
+
+pub returns : goal.returns
+returns c =
+    let p = c.args in
+    let l = c.loop-x in
+    read_done l.invariant p.h c.loop-x-test.false
+    (finished p.a p.h l.s l.x _ _ _ _ _ _ _ _ _ _ _ _ _ c.ending_of-e.ensures c.is_member-here-2.ensures c.index-i-2.ensures
+    c.end_member-k.ensures c.end_recent.ensures c.ack_level.ensures c.put_end.ensures c.index-b.ensures c.end_source-d.ensures c.end_wait-s.ensures
+    c.end_totals-s.ensures)

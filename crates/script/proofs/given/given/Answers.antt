@@ -1,0 +1,6 @@
+-- Assumes nothing.
+
+use Rattle.script.proofs.given.given.Goals as goal
+
+pub returns : goal.returns
+returns c = rw c.settings-g.ensures

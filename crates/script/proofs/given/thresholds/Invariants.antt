@@ -1,0 +1,15 @@
+-- Assumes nothing.
+
+use mathlib.Core.Path.{◌≡◌, refl, ◌∙◌}
+use Prim.Native.Nat.{◌≤◌, ◌-◌}
+use native.Mathlib.Omega.{arith}
+use lib.ListN.{length, take, length-set}
+use Rattle.script.specs.Settings.{f32s_at}
+use Rattle.script.proofs.Numbers.{read_next, read_all}
+use Rattle.script.proofs.given.thresholds.Given as goal
+
+abbrev pub invariant-loop-i : goal.invariant-loop-i
+invariant-loop-i l = (l.i ≤ 17) × (length l.t ≡ 17) × (take l.i l.t ≡ f32s_at l.p l.i 88)
+
+abbrev pub decreases-loop-i : goal.decreases-loop-i
+decreases-loop-i l = 17 - l.i

@@ -1,0 +1,9 @@
+-- Assumes nothing.
+
+use Rattle.shore.proofs.answer.done_of.Goals as goal
+
+pub returns-in-Refused : goal.returns-in-Refused
+returns-in-Refused c = rw (c.a-1.given.1, c.block_of-block.ensures)
+
+pub returns-in-Words : goal.returns-in-Words
+returns-in-Words c = rw (c.a-in-Words-1.given.1, c.block_of-block.ensures)

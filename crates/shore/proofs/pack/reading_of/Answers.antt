@@ -1,0 +1,9 @@
+-- Assumes nothing.
+
+use Rattle.shore.proofs.pack.reading_of.Goals as goal
+
+pub returns-in-Unheard : goal.returns-in-Unheard
+returns-in-Unheard c = rw c.enum_told-1.given.1
+
+pub returns-in-Decibels : goal.returns-in-Decibels
+returns-in-Decibels c = rw c.x-1.given.1

@@ -1,0 +1,8 @@
+-- Assumes nothing.
+
+use Rattle.shore.proofs.Faithful.{sender_back}
+use Rattle.shore.proofs.sending.shore_sender_held.Goals as goal
+
+pub returns : goal.returns
+returns c =
+    rw (c.left_of.ensures, sender_back c.held.result.sender, ← c.sender_of-s.ensures) c.held.ensures

@@ -1,0 +1,9 @@
+-- Assumes nothing.
+
+use mathlib.Core.Path.{refl}
+use Rattle.shore.specs.Blocks.{station_of}
+use Rattle.shore.proofs.shore_totals.Goals as goal
+
+pub returns : goal.returns
+unfolding station_of
+returns c = refl

@@ -1,0 +1,10 @@
+-- Assumes nothing.
+
+use borrow.Author.Tests.{eq-eqb, ne_eqb, lt-ltb, le-ltb, le-leb, lt-leb, not-true, not-false}
+use Rattle.station.proofs.close_round.Goals as goal
+
+pub returns-then-no-eq0 : goal.returns-then-no-eq0
+returns-then-no-eq0 c = rw (eq-eqb _ _ c.if-no-eq0.true)
+
+pub returns-else-no-eq0 : goal.returns-else-no-eq0
+returns-else-no-eq0 c = rw (ne_eqb _ _ c.if-no-eq0.false)

@@ -1,0 +1,15 @@
+-- Assumes nothing.
+
+use Rattle.net.specs.Net.{said}
+use Rattle.next.specs.Next.{ncs_next}
+use Rattle.station.specs.Entries.{next_of}
+use Rattle.station.proofs.Laws.{next_with}
+use Rattle.station.proofs.next.Goals as goal
+
+pub returns : goal.returns
+unfolding next_of
+returns c =
+    let n = c.next_refusal-no in
+    let a = c.args in
+    rw (c.answer_of.ensures, ← n.ensures)
+    (next_with n.result a.s (said (ncs_next a.s a.time a.lent.now).station (ncs_next a.s a.time a.lent.now).words) c.ncs_next-t.ensures)

@@ -1,0 +1,22 @@
+-- The invariant: searching on from c finds what the search was to find. Assumes nothing.
+
+use mathlib.Core.Path.{◌≡◌, sym, ap, ◌∙◌}
+use mathlib.Core.Bool.{Bool}
+use mathlib.Core.List.{List}
+use Prim.Native.Nat.{ℕ, ◌-◌, ◌≤◌}
+use native.Mathlib.Omega.{arith}
+use lib.ListN.{get_or}
+use Rattle.bits.specs.Loop.{first}
+use Rattle.bits.proofs.Loops.{first_pass, first_stop, first_end}
+use Rattle.stream.specs.Table.{is_own, own_cell}
+use Rattle.stream.proofs.table.own_cell.Given as goal
+
+abbrev pub test : List ℕ → ℕ → ℕ → ℕ → ℕ → Bool
+test owners busy landed owner c = is_own busy landed c (get_or owners c 0) owner
+
+abbrev pub invariant-loop-c : goal.invariant-loop-c
+invariant-loop-c l =
+    (l.c ≤ l.n) × (first (test l.owners l.busy l.landed l.owner) (l.n - l.c) l.c ≡ own_cell l.owners l.busy l.landed l.n l.owner)
+
+abbrev pub decreases-loop-c : goal.decreases-loop-c
+decreases-loop-c l = l.n - l.c

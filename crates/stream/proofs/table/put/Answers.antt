@@ -1,0 +1,10 @@
+-- Assumes nothing.
+
+use Rattle.stream.proofs.Takes.{put_is}
+use Rattle.stream.proofs.table.put.Goals as goal
+
+pub returns : goal.returns
+returns c =
+    let j = c.join_in-after in
+    let p = c.requires in
+    put_is _ _ _ _ _ p.0.1 p.1.0 p.1.1 _ _ _ j.ensures.0 j.ensures.1 c.landed_at-landed.ensures

@@ -1,0 +1,10 @@
+-- Assumes nothing.
+
+use mathlib.Core.Path.{refl}
+use Rattle.stream.proofs.table.room_of.Goals as goal
+
+pub returns-in-At : goal.returns-in-At
+returns-in-At c = rw c.own-1.given.1 refl
+
+pub returns-in-At-free : goal.returns-in-At-free
+returns-in-At-free c = rw (c.enum_told-1.given.1, c.free-1.given.1) refl

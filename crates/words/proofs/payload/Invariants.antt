@@ -1,0 +1,23 @@
+-- `words::payload` meets its contract. The first loop's invariant: the bytes of the first k words are read, and zeros stand behind them; the
+-- second's: the first j bytes are. Assumes nothing.
+
+use mathlib.Core.Path.{◌≡◌, refl, ap, ◌∙◌}
+use native.Mathlib.Omega.{arith}
+use mathlib.Core.List.{List, ◌++◌}
+use Prim.Native.Nat.{ℕ, ◌+◌, ◌-◌, ◌*◌, ◌/◌, ◌%◌, ◌≤◌}
+use lib.ListN.{drop, set, replicate}
+use Rattle.words.specs.Words.{bytes_at, byte_at, least}
+use Rattle.words.proofs.Read.{least_most, payload_more, payload_three, payload_none, word_byte}
+use Rattle.words.proofs.payload.Given as goal
+
+abbrev pub invariant-loop-k : goal.invariant-loop-k
+invariant-loop-k l = (l.k ≤ l.full) × (l.m ≤ 255) × (l.out ≡ bytes_at (drop l.at l.words) (3 * l.k) ++ replicate (255 - 3 * l.k) 0)
+
+abbrev pub decreases-loop-k : goal.decreases-loop-k
+decreases-loop-k l = l.full - l.k
+
+abbrev pub invariant-loop-j : goal.invariant-loop-j
+invariant-loop-j l = (l.j ≤ l.m) × (l.m ≤ 255) × (l.out ≡ bytes_at (drop l.at l.words) l.j ++ replicate (255 - l.j) 0)
+
+abbrev pub decreases-loop-j : goal.decreases-loop-j
+decreases-loop-j l = l.m - l.j

@@ -1,0 +1,49 @@
+use mathlib.Core.Path.{◌≡◌, sym, ap, ◌∙◌}
+use Prim.Native.Nat.{◌-◌, ◌≤◌}
+use native.Mathlib.Omega.{arith}
+use lib.ListN.{length, drop}
+use borrow.Author.Tests.{not-true, not-false}
+use Rattle.words.specs.Words.{shape_of, parse, frames_of}
+use Rattle.words.proofs.Laws.{shape_from, shape_end, shape_more, shape_full, item_within, parse_none, parse_head_bad, parse_head}
+use Rattle.words.proofs.shape_of.Goals as goal
+
+pub returns-then-words-eq0 : goal.returns-then-words-eq0
+returns-then-words-eq0 c = rw (parse_none c.args.words.now c.if-words-eq0.true)
+
+pub returns-then-not-head_ok : goal.returns-then-not-head_ok
+returns-then-not-head_ok c =
+    let a = c.args in
+    ap shape_of (sym (parse_head_bad a.words.now (omega arith) (sym c.head_ok.ensures ∙ not-true c.head_ok.result c.if-not-head_ok.true)))
+
+pub loop-n-init : goal.loop-n-init
+loop-n-init c =
+    let a = c.args in (
+      omega arith,
+      omega arith,
+      parse_head a.words.now (omega arith) (sym c.head_ok.ensures ∙ not-false c.head_ok.result c.if-not-head_ok.false),
+    )
+
+pub returns-then-size-eq0 : goal.returns-then-size-eq0
+returns-then-size-eq0 c =
+    let i = c.item_at-i in
+    let s = c.type_size in
+    c.last.ensures
+    ∙ sym (c.loop-n.invariant.2 ∙ shape_end c.args.words.now c.loop-n.at c.loop-n.n i.result s.result i.ensures s.ensures (omega arith) c.if-size-eq0.true)
+
+pub overflow_add-at : goal.overflow_add-at
+overflow_add-at c =
+    omega (arith, item_within c.args.words.now c.loop-n.at _ _ c.loop-n.invariant.0 c.item_at-i.ensures c.type_size.ensures)
+
+pub loop-n-preserved : goal.loop-n-preserved
+loop-n-preserved c =
+    let i = c.item_at-i in
+    let s = c.type_size in (
+      item_within c.args.words.now c.loop-n.at i.result s.result c.loop-n.invariant.0 i.ensures s.ensures,
+      omega arith,
+      c.loop-n.invariant.2 ∙ shape_more c.args.words.now c.loop-n.at c.loop-n.n i.result s.result i.ensures s.ensures (omega arith) c.if-size-eq0.false,
+    )
+
+pub returns : goal.returns
+returns c =
+    let i = c.item_at in
+    c.last-2.ensures ∙ sym (c.loop-n.invariant.2 ∙ shape_full c.args.words.now c.loop-n.at c.loop-n.n i.result i.ensures (omega arith))

@@ -1,0 +1,17 @@
+-- `words::shape_of` meets its contract. The invariant: the shape of the whole is the shape of what is left, with n frames before it.
+-- Assumes nothing.
+
+use mathlib.Core.Path.{◌≡◌, sym, ap, ◌∙◌}
+use Prim.Native.Nat.{◌-◌, ◌≤◌}
+use native.Mathlib.Omega.{arith}
+use lib.ListN.{length, drop}
+use borrow.Author.Tests.{not-true, not-false}
+use Rattle.words.specs.Words.{shape_of, parse, frames_of}
+use Rattle.words.proofs.Laws.{shape_from, shape_end, shape_more, shape_full, item_within, parse_none, parse_head_bad, parse_head}
+use Rattle.words.proofs.shape_of.Given as goal
+
+abbrev pub invariant-loop-n : goal.invariant-loop-n
+invariant-loop-n l = (l.at ≤ length l.words) × (l.n ≤ 64) × (shape_of (parse l.words) ≡ shape_from l.n (frames_of (64 - l.n) (drop l.at l.words)))
+
+abbrev pub decreases-loop-n : goal.decreases-loop-n
+decreases-loop-n l = 64 - l.n
