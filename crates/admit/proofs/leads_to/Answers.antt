@@ -18,7 +18,7 @@ returns-then-at-to c =
 pub returns-then-not-is_member : goal.returns-then-not-is_member
 returns-then-not-is_member c =
     let l = c.loop-n in
-    sym (leads_off _ _ _ _ (omega arith) c.if-at-to.false (sym c.is_member.ensures ∙ not-true _ c.if-not-is_member.true)) ∙ l.invariant.1
+    sym (leads_off _ _ _ _ (omega arith) c.if-at-to.false (sym c.is_member.ensures ∙ c.if-not-is_member.true)) ∙ l.invariant.1
 
 pub offset_bounds-ms-i : goal.offset_bounds-ms-i
 offset_bounds-ms-i c = omega (arith, rw (← c.index-i.ensures) at (index_lt c.loop-n.at))
@@ -35,7 +35,7 @@ loop-n-smaller c = omega arith
 pub loop-n-preserved : goal.loop-n-preserved
 loop-n-preserved c =
     let l = c.loop-n in
-    (omega arith, rw c.index-i.ensures (sym (leads_on _ _ _ _ (omega arith) c.if-at-to.false (sym c.is_member.ensures ∙ not-false _ c.if-not-is_member.false)) ∙ l.invariant.1))
+    (omega arith, rw c.index-i.ensures (sym (leads_on _ _ _ _ (omega arith) c.if-at-to.false (sym c.is_member.ensures ∙ c.if-not-is_member.false)) ∙ l.invariant.1))
 
 pub returns : goal.returns
 returns c = sym (leads_end _ _ _ _ c.loop-n-test.false) ∙ c.loop-n.invariant.1

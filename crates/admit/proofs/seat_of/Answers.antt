@@ -6,13 +6,13 @@ use Rattle.admit.proofs.seat_of.Goals as goal
 
 pub returns-in-At : goal.returns-in-At
 returns-in-At c =
-    rw c.low.ensures (seat_known _ _ _ c.key_of.ensures _ (sym c.find_call.ensures ∙ c.i-1.given.1))
+    rw c.low.ensures (seat_known _ _ _ c.key_of.ensures _ (sym c.find_call.ensures ∙ c.in-At.is))
 
 pub returns-in-At-lowest_free : goal.returns-in-At-lowest_free
 returns-in-At-lowest_free c =
     rw c.low-in-At-lowest_free.ensures
-    (seat_newcomer _ _ _ c.key_of.ensures _ (sym c.find_call.ensures ∙ c.enum_told-1.given.1) (sym c.lowest_free.ensures ∙ c.i-in-At-lowest_free-1.given.1))
+    (seat_newcomer _ _ _ c.key_of.ensures _ (sym c.find_call.ensures ∙ c.in-Nothing.is) (sym c.lowest_free.ensures ∙ c.in-At-lowest_free.is))
 
 pub returns-in-Nothing-lowest_free : goal.returns-in-Nothing-lowest_free
 returns-in-Nothing-lowest_free c =
-    seat_none _ _ _ c.key_of.ensures (sym c.find_call.ensures ∙ c.enum_told-1.given.1) (sym c.lowest_free.ensures ∙ c.enum_told-in-Nothing-lowest_free-1.given.1)
+    seat_none _ _ _ c.key_of.ensures (sym c.find_call.ensures ∙ c.in-Nothing.is) (sym c.lowest_free.ensures ∙ c.in-Nothing-lowest_free.is)

@@ -46,9 +46,8 @@ put_chunks-requires c = tt
 
 pub returns : goal.returns
 unfolding acks_burst
-returns c =
-    (
-      refl,
-      wrote_as (then c.put_head-a.ensures (then c.put_chunks-b.ensures c.put_chunks.ensures))
-          (rw (c.floor_if-lev.ensures, c.least_reach.ensures, c.ack_rows-n.ensures.front, c.tree_rows-k.ensures.front, c.minus-strays.ensures, c.either.ensures, c.either-all.ensures, c.both-moved.ensures, c.both-known.ensures, c.members-members.ensures)),
-    )
+returns c = (
+  refl,
+  wrote_as (then c.put_head-a.ensures (then c.put_chunks-b.ensures c.put_chunks.ensures))
+      (rw (c.floor_if-lev.ensures, c.least_reach.ensures, c.ack_rows-n.ensures.front, c.tree_rows-k.ensures.front, c.minus-strays.ensures, c.either.ensures, c.either-all.ensures, c.both-moved.ensures, c.both-known.ensures, c.members-members.ensures)),
+)

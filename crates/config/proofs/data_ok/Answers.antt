@@ -21,7 +21,7 @@ bounds-d-i c = omega arith
 
 pub returns-then-not-span_ok : goal.returns-then-not-span_ok
 returns-then-not-span_ok c =
-    sym (every_stop _ _ _ c.loop-i-test.true (sym c.span_ok.ensures ∙ not-true _ c.if-not-span_ok.true)) ∙ c.loop-i.invariant.1
+    sym (every_stop _ _ _ c.loop-i-test.true (sym c.span_ok.ensures ∙ c.if-not-span_ok.true)) ∙ c.loop-i.invariant.1
 
 pub overflow_add-i : goal.overflow_add-i
 overflow_add-i c = omega arith
@@ -31,7 +31,7 @@ loop-i-smaller c = omega arith
 
 pub loop-i-preserved : goal.loop-i-preserved
 loop-i-preserved c =
-    (omega arith, sym (every_pass _ _ _ c.loop-i-test.true (sym c.span_ok.ensures ∙ not-false _ c.if-not-span_ok.false)) ∙ c.loop-i.invariant.1)
+    (omega arith, sym (every_pass _ _ _ c.loop-i-test.true (sym c.span_ok.ensures ∙ c.if-not-span_ok.false)) ∙ c.loop-i.invariant.1)
 
 pub returns : goal.returns
 returns c = sym (every_end _ _ _ c.loop-i-test.false) ∙ c.loop-i.invariant.1

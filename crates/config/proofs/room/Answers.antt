@@ -27,7 +27,7 @@ bounds-d-level c = omega arith
 
 pub returns-then-not-fits : goal.returns-then-not-fits
 returns-then-not-fits c =
-    sym (room_stop _ _ _ _ c.loop-n-test.true (not-true _ c.if-not-fits.true)) ∙ c.loop-n.invariant.2
+    sym (room_stop _ _ _ _ c.loop-n-test.true c.if-not-fits.true) ∙ c.loop-n.invariant.2
 
 pub overflow_add-n : goal.overflow_add-n
 overflow_add-n c = omega arith
@@ -37,7 +37,7 @@ loop-n-smaller c = omega arith
 
 pub loop-n-preserved : goal.loop-n-preserved
 loop-n-preserved c =
-    (omega arith, omega arith, sym (room_more _ _ _ _ c.loop-n-test.true (not-false _ c.if-not-fits.false)) ∙ c.loop-n.invariant.2)
+    (omega arith, omega arith, sym (room_more _ _ _ _ c.loop-n-test.true c.if-not-fits.false) ∙ c.loop-n.invariant.2)
 
 pub returns : goal.returns
 returns c = sym (room_end _ _ _ _ c.loop-n-test.false) ∙ c.loop-n.invariant.2

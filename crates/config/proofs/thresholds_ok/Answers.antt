@@ -22,7 +22,7 @@ bounds-t-i c = omega arith
 
 pub returns-then-not-level_ok : goal.returns-then-not-level_ok
 returns-then-not-level_ok c =
-    sym (every_stop _ _ _ c.loop-i-test.true (sym c.level_ok.ensures ∙ not-true _ c.if-not-level_ok.true)) ∙ c.loop-i.invariant.1
+    sym (every_stop _ _ _ c.loop-i-test.true (sym c.level_ok.ensures ∙ c.if-not-level_ok.true)) ∙ c.loop-i.invariant.1
 
 pub overflow_add-i : goal.overflow_add-i
 overflow_add-i c = omega arith
@@ -32,7 +32,7 @@ loop-i-smaller c = omega arith
 
 pub loop-i-preserved : goal.loop-i-preserved
 loop-i-preserved c =
-    (omega arith, sym (every_pass _ _ _ c.loop-i-test.true (sym c.level_ok.ensures ∙ not-false _ c.if-not-level_ok.false)) ∙ c.loop-i.invariant.1)
+    (omega arith, sym (every_pass _ _ _ c.loop-i-test.true (sym c.level_ok.ensures ∙ c.if-not-level_ok.false)) ∙ c.loop-i.invariant.1)
 
 pub returns : goal.returns
 returns c = sym (every_end _ _ _ c.loop-i-test.false) ∙ c.loop-i.invariant.1

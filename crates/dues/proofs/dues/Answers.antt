@@ -15,11 +15,11 @@ no_bill-requires c = tt
 
 pub returns-then-not-figures_ok : goal.returns-then-not-figures_ok
 unfolding dues_of
-returns-then-not-figures_ok c = rw (c.no_bill.ensures, ← c.figures_ok.ensures, not-true c.figures_ok.result c.if-not-figures_ok.true)
+returns-then-not-figures_ok c = rw (c.no_bill.ensures, ← c.figures_ok.ensures, c.if-not-figures_ok.true)
 
 pub loop-i-init : goal.loop-i-init
 loop-i-init c =
-    (omega arith, sym c.figures_ok.ensures ∙ not-false _ c.if-not-figures_ok.false, reckoned_start _ _)
+    (omega arith, sym c.figures_ok.ensures ∙ c.if-not-figures_ok.false, reckoned_start _ _)
 
 pub offset_bounds-s-i : goal.offset_bounds-s-i
 offset_bounds-s-i c = omega arith

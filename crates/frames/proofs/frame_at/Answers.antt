@@ -8,18 +8,18 @@ use Rattle.frames.proofs.frame_at.Goals as goal
 
 pub returns-in-End : goal.returns-in-End
 unfolding frame_of
-returns-in-End c = rw (c.lost_frame.ensures, ← c.peek.ensures, c.enum_told-1.given.1)
+returns-in-End c = rw (c.lost_frame.ensures, ← c.peek.ensures, c.in-End.is)
 
 pub returns-in-Bad : goal.returns-in-Bad
 unfolding frame_of
-returns-in-Bad c = rw (c.lost_frame-in-Bad.ensures, ← c.peek.ensures, c.enum_told-in-Bad-1.given.1)
+returns-in-Bad c = rw (c.lost_frame-in-Bad.ensures, ← c.peek.ensures, c.in-Bad.is)
 
 pub returns-in-Lost : goal.returns-in-Lost
 unfolding frame_of
-returns-in-Lost c = rw (c.lost_frame-in-Lost.ensures, ← c.peek.ensures, c.enum_told-in-Lost-1.given.1)
+returns-in-Lost c = rw (c.lost_frame-in-Lost.ensures, ← c.peek.ensures, c.in-Lost.is)
 
 pub returns-in-Frame : goal.returns-in-Frame
 returns-in-Frame c =
     frame_read (drop c.args.at c.args.words.now) _ _ _ _ _ _
-    (sym c.peek.ensures ∙ c.flags-1.given.1)
+    (sym c.peek.ensures ∙ c.in-Frame.is)
     c.low.ensures c.low_len.ensures c.words_for-size.ensures

@@ -5,4 +5,4 @@ use Rattle.level.specs.Levels.{level_for}
 use Rattle.level.proofs.level_for.Goals as goal
 
 pub returns-in-Decibels : goal.returns-in-Decibels
-returns-in-Decibels c = c.level_of.ensures ∙ ap (level_for _ _) (sym c.x-1.given.1)
+returns-in-Decibels c = c.level_of.ensures ∙ ap (level_for _ _) (sym c.in-Decibels.is)

@@ -25,11 +25,10 @@ pub loop-l-smaller : goal.loop-l-smaller
 loop-l-smaller c = omega arith
 
 pub loop-l-preserved : goal.loop-l-preserved
-loop-l-preserved c =
-    (
-      omega arith,
-      c.loop-l.invariant.1 ∙ miss c.args.thresholds.now c.args.margin c.args.snr c.loop-l.l (omega arith) c.if-snr-thresholds.false,
-    )
+loop-l-preserved c = (
+  omega arith,
+  c.loop-l.invariant.1 ∙ miss c.args.thresholds.now c.args.margin c.args.snr c.loop-l.l (omega arith) c.if-snr-thresholds.false,
+)
 
 pub returns : goal.returns
 unfolding level_below

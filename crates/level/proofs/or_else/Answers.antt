@@ -3,4 +3,4 @@
 use Rattle.level.proofs.or_else.Goals as goal
 
 pub returns-in-Decibels : goal.returns-in-Decibels
-returns-in-Decibels c = rw c.a-1.given.1
+returns-in-Decibels c = rw c.in-Decibels.is

@@ -3,4 +3,4 @@
 use Rattle.level.proofs.smooth.Goals as goal
 
 pub returns-in-Decibels : goal.returns-in-Decibels
-returns-in-Decibels c = rw c.old-1.given.1
+returns-in-Decibels c = rw c.in-Decibels.is

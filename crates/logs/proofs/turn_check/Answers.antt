@@ -8,16 +8,16 @@ use Rattle.logs.proofs.turn_check.Goals as goal
 
 pub returns-then-not-sendings_ok : goal.returns-then-not-sendings_ok
 unfolding verdict_of
-returns-then-not-sendings_ok c = sym (cond_false _ _ _ (sym c.sendings_ok.ensures ∙ not-true _ c.if-not-sendings_ok.true))
+returns-then-not-sendings_ok c = sym (cond_false _ _ _ (sym c.sendings_ok.ensures ∙ c.if-not-sendings_ok.true))
 
 pub returns-then-not-marks_ok : goal.returns-then-not-marks_ok
 unfolding verdict_of
-returns-then-not-marks_ok c = sym (cond_true _ _ _ (sym c.sendings_ok.ensures ∙ not-false _ c.if-not-sendings_ok.false) ∙ cond_false _ _ _ (sym c.marks_ok.ensures ∙ not-true _ c.if-not-marks_ok.true))
+returns-then-not-marks_ok c = sym (cond_true _ _ _ (sym c.sendings_ok.ensures ∙ c.if-not-sendings_ok.false) ∙ cond_false _ _ _ (sym c.marks_ok.ensures ∙ c.if-not-marks_ok.true))
 
 pub returns-then-turns_ok : goal.returns-then-turns_ok
 unfolding verdict_of
-returns-then-turns_ok c = sym (cond_true _ _ _ (sym c.sendings_ok.ensures ∙ not-false _ c.if-not-sendings_ok.false) ∙ cond_true _ _ _ (sym c.marks_ok.ensures ∙ not-false _ c.if-not-marks_ok.false) ∙ cond_true _ _ _ (sym c.turns_ok.ensures ∙ c.if-turns_ok.true))
+returns-then-turns_ok c = sym (cond_true _ _ _ (sym c.sendings_ok.ensures ∙ c.if-not-sendings_ok.false) ∙ cond_true _ _ _ (sym c.marks_ok.ensures ∙ c.if-not-marks_ok.false) ∙ cond_true _ _ _ (sym c.turns_ok.ensures ∙ c.if-turns_ok.true))
 
 pub returns : goal.returns
 unfolding verdict_of
-returns c = sym (cond_true _ _ _ (sym c.sendings_ok.ensures ∙ not-false _ c.if-not-sendings_ok.false) ∙ cond_true _ _ _ (sym c.marks_ok.ensures ∙ not-false _ c.if-not-marks_ok.false) ∙ cond_false _ _ _ (sym c.turns_ok.ensures ∙ c.if-turns_ok.false))
+returns c = sym (cond_true _ _ _ (sym c.sendings_ok.ensures ∙ c.if-not-sendings_ok.false) ∙ cond_true _ _ _ (sym c.marks_ok.ensures ∙ c.if-not-marks_ok.false) ∙ cond_false _ _ _ (sym c.turns_ok.ensures ∙ c.if-turns_ok.false))

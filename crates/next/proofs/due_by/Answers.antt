@@ -4,7 +4,7 @@ use Rattle.std.proofs.Common.{rules}
 use Rattle.next.proofs.due_by.Goals as goal
 
 pub returns-then-time-end : goal.returns-then-time-end
-returns-then-time-end c = rw (c.d-1.given.1, c.if-time-end.true)
+returns-then-time-end c = rw (c.in-At.is, c.if-time-end.true)
 
 pub returns-else-time-end : goal.returns-else-time-end
-returns-else-time-end c = rw (c.d-1.given.1, c.if-time-end.false) c.overdue.ensures
+returns-else-time-end c = rw (c.in-At.is, c.if-time-end.false) c.overdue.ensures

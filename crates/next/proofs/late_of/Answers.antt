@@ -5,19 +5,19 @@ use Rattle.std.proofs.Common.{rules}
 use Rattle.next.proofs.late_of.Goals as goal
 
 pub returns-then-not-ok : goal.returns-then-not-ok
-returns-then-not-ok c = rw (not-true c.args.ok c.if-not-ok.true) c.no_late.ensures
+returns-then-not-ok c = rw c.if-not-ok.true c.no_late.ensures
 
 pub returns-in-Free : goal.returns-in-Free
-returns-in-Free c = rw (not-false c.args.ok c.if-not-ok.false, c.enum_told-1.given.1) c.no_late-in-Free.ensures
+returns-in-Free c = rw (c.if-not-ok.false, c.in-Free.is) c.no_late-in-Free.ensures
 
 pub returns-in-Quiet : goal.returns-in-Quiet
-returns-in-Quiet c = rw (not-false c.args.ok c.if-not-ok.false, c.enum_told-in-Quiet-1.given.1) c.no_late-in-Quiet.ensures
+returns-in-Quiet c = rw (c.if-not-ok.false, c.in-Quiet.is) c.no_late-in-Quiet.ensures
 
 pub returns-in-Close : goal.returns-in-Close
-returns-in-Close c = rw (not-false c.args.ok c.if-not-ok.false, c.enum_told-in-Close-1.given.1) c.no_late-in-Close.ensures
+returns-in-Close c = rw (c.if-not-ok.false, c.in-Close.is) c.no_late-in-Close.ensures
 
 pub returns-in-Again : goal.returns-in-Again
-returns-in-Again c = rw (not-false c.args.ok c.if-not-ok.false, c.d-1.given.1) c.late_reply.ensures
+returns-in-Again c = rw (c.if-not-ok.false, c.in-Again.is) c.late_reply.ensures
 
 pub returns-in-Missed : goal.returns-in-Missed
-returns-in-Missed c = rw (not-false c.args.ok c.if-not-ok.false, c.d-in-Missed-1.given.1) c.late_reply-in-Missed.ensures
+returns-in-Missed c = rw (c.if-not-ok.false, c.in-Missed.is) c.late_reply-in-Missed.ensures

@@ -15,7 +15,7 @@ returns-then-not-no_list_yet c =
     let told = c.told_in-ks.ensures in
     drawn_did a.s a.time (sym c.is_idle.ensures ∙ f.0) (not-true _ f.1) (eqb-true _ 0 b.1)
     (rw c.list_due.ensures at (rw c.told_in-ks.ensures at (sym c.eventful.ensures ∙ o.1)))
-    (rw c.list_due.ensures at told) c.list_round-k.ensures (sym c.no_list_yet.ensures ∙ not-true _ c.if-not-no_list_yet.true) c.next_round-q.ensures c.draw-list.ensures c.one_more-rounds.ensures
+    (rw c.list_due.ensures at told) c.list_round-k.ensures (sym c.no_list_yet.ensures ∙ c.if-not-no_list_yet.true) c.next_round-q.ensures c.draw-list.ensures c.one_more-rounds.ensures
 
 pub returns-else-not-no_list_yet : goal.returns-else-not-no_list_yet
 returns-else-not-no_list_yet c =
@@ -26,4 +26,4 @@ returns-else-not-no_list_yet c =
     let told = c.told_in-ks.ensures in
     no_list_yet_did a.s a.time (sym c.is_idle.ensures ∙ f.0) (not-true _ f.1) (eqb-true _ 0 b.1)
     (rw c.list_due.ensures at (rw c.told_in-ks.ensures at (sym c.eventful.ensures ∙ o.1)))
-    (rw c.list_due.ensures at told) c.list_round-k.ensures (sym c.no_list_yet.ensures ∙ not-false _ c.if-not-no_list_yet.false)
+    (rw c.list_due.ensures at told) c.list_round-k.ensures (sym c.no_list_yet.ensures ∙ c.if-not-no_list_yet.false)

@@ -8,4 +8,4 @@ use Rattle.signoff.proofs.strike_wait.Goals as goal
 pub returns-in-Waiting : goal.returns-in-Waiting
 returns-in-Waiting c =
     let a = c.args in
-    c.strike_reply.ensures ∙ ap (λ (y : Turn). strike_by y a.slot a.w) (sym c.turn-1.given.1)
+    c.strike_reply.ensures ∙ ap (λ (y : Turn). strike_by y a.slot a.w) (sym c.in-Waiting.is)

@@ -10,8 +10,8 @@ returns-then-room-lt8192 c = rw (lt-ltb _ _ c.if-room-lt8192.true)
 
 pub returns-then-not-clock_ok : goal.returns-then-not-clock_ok
 unfolding admit_refusal
-returns-then-not-clock_ok c = rw (le-ltb _ _ c.if-room-lt8192.false, ← c.clock_ok.ensures, not-true c.clock_ok.result c.if-not-clock_ok.true)
+returns-then-not-clock_ok c = rw (le-ltb _ _ c.if-room-lt8192.false, ← c.clock_ok.ensures, c.if-not-clock_ok.true)
 
 pub returns : goal.returns
 unfolding admit_refusal
-returns c = rw (le-ltb _ _ c.if-room-lt8192.false, ← c.clock_ok.ensures, not-false c.clock_ok.result c.if-not-clock_ok.false, c.relay_refusal.ensures, c.full_refusal.ensures)
+returns c = rw (le-ltb _ _ c.if-room-lt8192.false, ← c.clock_ok.ensures, c.if-not-clock_ok.false, c.relay_refusal.ensures, c.full_refusal.ensures)

@@ -10,8 +10,8 @@ returns-then-count-cell c = rw c.if-count-cell.true
 
 pub returns-then-not-has : goal.returns-then-not-has
 unfolding cell_refusal
-returns-then-not-has c = rw (c.if-count-cell.false, ← c.has.ensures, not-true c.has.result c.if-not-has.true)
+returns-then-not-has c = rw (c.if-count-cell.false, ← c.has.ensures, c.if-not-has.true)
 
 pub returns : goal.returns
 unfolding cell_refusal
-returns c = rw (c.if-count-cell.false, ← c.has.ensures, not-false c.has.result c.if-not-has.false)
+returns c = rw (c.if-count-cell.false, ← c.has.ensures, c.if-not-has.false)

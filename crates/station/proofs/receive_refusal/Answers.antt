@@ -10,13 +10,13 @@ pub returns-then-lent-count : goal.returns-then-lent-count
 returns-then-lent-count c = rw (le-ltb _ _ c.if-room-lt8192.false, lt-ltb _ _ c.if-lent-count.true)
 
 pub returns-then-not-clock_ok : goal.returns-then-not-clock_ok
-returns-then-not-clock_ok c = rw (le-ltb _ _ c.if-room-lt8192.false, le-ltb _ _ c.if-lent-count.false, ← c.clock_ok.ensures, not-true c.clock_ok.result c.if-not-clock_ok.true)
+returns-then-not-clock_ok c = rw (le-ltb _ _ c.if-room-lt8192.false, le-ltb _ _ c.if-lent-count.false, ← c.clock_ok.ensures, c.if-not-clock_ok.true)
 
 pub returns-then-not-level_ok : goal.returns-then-not-level_ok
-returns-then-not-level_ok c = rw (le-ltb _ _ c.if-room-lt8192.false, le-ltb _ _ c.if-lent-count.false, ← c.clock_ok.ensures, not-false c.clock_ok.result c.if-not-clock_ok.false, ← c.level_ok.ensures, not-true c.level_ok.result c.if-not-level_ok.true)
+returns-then-not-level_ok c = rw (le-ltb _ _ c.if-room-lt8192.false, le-ltb _ _ c.if-lent-count.false, ← c.clock_ok.ensures, c.if-not-clock_ok.false, ← c.level_ok.ensures, c.if-not-level_ok.true)
 
 pub returns-then-bad : goal.returns-then-bad
-returns-then-bad c = rw (le-ltb _ _ c.if-room-lt8192.false, le-ltb _ _ c.if-lent-count.false, ← c.clock_ok.ensures, not-false c.clock_ok.result c.if-not-clock_ok.false, ← c.level_ok.ensures, not-false c.level_ok.result c.if-not-level_ok.false, c.if-bad.true)
+returns-then-bad c = rw (le-ltb _ _ c.if-room-lt8192.false, le-ltb _ _ c.if-lent-count.false, ← c.clock_ok.ensures, c.if-not-clock_ok.false, ← c.level_ok.ensures, c.if-not-level_ok.false, c.if-bad.true)
 
 pub returns : goal.returns
-returns c = rw (le-ltb _ _ c.if-room-lt8192.false, le-ltb _ _ c.if-lent-count.false, ← c.clock_ok.ensures, not-false c.clock_ok.result c.if-not-clock_ok.false, ← c.level_ok.ensures, not-false c.level_ok.result c.if-not-level_ok.false, c.if-bad.false)
+returns c = rw (le-ltb _ _ c.if-room-lt8192.false, le-ltb _ _ c.if-lent-count.false, ← c.clock_ok.ensures, c.if-not-clock_ok.false, ← c.level_ok.ensures, c.if-not-level_ok.false, c.if-bad.false)

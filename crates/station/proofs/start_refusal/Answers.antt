@@ -10,8 +10,8 @@ returns-then-store-lt6400 c = rw (lt-ltb _ _ c.if-store-lt6400.true)
 
 pub returns-then-not-settings_ok : goal.returns-then-not-settings_ok
 unfolding start_refusal
-returns-then-not-settings_ok c = rw (le-ltb _ _ c.if-store-lt6400.false, ← c.settings_ok.ensures, not-true c.settings_ok.result c.if-not-settings_ok.true)
+returns-then-not-settings_ok c = rw (le-ltb _ _ c.if-store-lt6400.false, ← c.settings_ok.ensures, c.if-not-settings_ok.true)
 
 pub returns : goal.returns
 unfolding start_refusal
-returns c = rw (le-ltb _ _ c.if-store-lt6400.false, ← c.settings_ok.ensures, not-false c.settings_ok.result c.if-not-settings_ok.false)
+returns c = rw (le-ltb _ _ c.if-store-lt6400.false, ← c.settings_ok.ensures, c.if-not-settings_ok.false)

@@ -33,11 +33,11 @@ returns-then-not-payload_ok c =
     let a = c.args in
     sym (item_frame a.words.now a.at (omega arith) c.if-w.false c.if-w-ne40960.false
     ∙ frame_by a.words.now (a.at + 1) _ _ (omega arith) c.if-v-ne176.false c.payload_ok.ensures
-    ∙ simp (not-true c.payload_ok.result c.if-not-payload_ok.true))
+    ∙ simp c.if-not-payload_ok.true)
 
 pub returns : goal.returns
 returns c =
     let a = c.args in
     sym (item_frame a.words.now a.at (omega arith) c.if-w.false c.if-w-ne40960.false
     ∙ frame_by a.words.now (a.at + 1) _ _ (omega arith) c.if-v-ne176.false c.payload_ok.ensures
-    ∙ simp (not-false c.payload_ok.result c.if-not-payload_ok.false))
+    ∙ simp c.if-not-payload_ok.false)

@@ -6,4 +6,4 @@ use Rattle.words.specs.declared.Item.{Item}
 use Rattle.words.proofs.last.Goals as goal
 
 pub returns-in-End : goal.returns-in-End
-returns-in-End c = sym (ap (λ (i : Item). last_shape i c.args.n) c.enum_told-1.given.1)
+returns-in-End c = sym (ap (λ (i : Item). last_shape i c.args.n) c.in-End.is)

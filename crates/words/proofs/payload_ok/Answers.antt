@@ -19,7 +19,7 @@ pub returns-then-not-word_ok : goal.returns-then-not-word_ok
 returns-then-not-word_ok c =
     sym (c.loop-left.invariant.1
     ∙ payload_bad c.args.words.now c.loop-left.at c.loop-left.left (omega arith) (omega arith)
-    (sym c.word_ok.ensures ∙ not-true _ c.if-not-word_ok.true))
+    (sym c.word_ok.ensures ∙ c.if-not-word_ok.true))
 
 pub overflow_add-at : goal.overflow_add-at
 overflow_add-at c = omega arith
@@ -28,13 +28,12 @@ pub loop-left-smaller : goal.loop-left-smaller
 loop-left-smaller c = omega arith
 
 pub loop-left-preserved : goal.loop-left-preserved
-loop-left-preserved c =
-    (
-      omega arith,
-      c.loop-left.invariant.1
-          ∙ payload_more c.args.words.now c.loop-left.at c.loop-left.left c.less3-left.result (omega arith) (omega arith)
-          c.less3-left.ensures (sym c.word_ok.ensures ∙ not-false _ c.if-not-word_ok.false),
-    )
+loop-left-preserved c = (
+  omega arith,
+  c.loop-left.invariant.1
+      ∙ payload_more c.args.words.now c.loop-left.at c.loop-left.left c.less3-left.result (omega arith) (omega arith)
+      c.less3-left.ensures (sym c.word_ok.ensures ∙ c.if-not-word_ok.false),
+)
 
 pub returns : goal.returns
 returns c =

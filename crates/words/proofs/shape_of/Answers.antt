@@ -13,14 +13,14 @@ returns-then-words-eq0 c = rw (parse_none c.args.words.now c.if-words-eq0.true)
 pub returns-then-not-head_ok : goal.returns-then-not-head_ok
 returns-then-not-head_ok c =
     let a = c.args in
-    ap shape_of (sym (parse_head_bad a.words.now (omega arith) (sym c.head_ok.ensures ∙ not-true c.head_ok.result c.if-not-head_ok.true)))
+    ap shape_of (sym (parse_head_bad a.words.now (omega arith) (sym c.head_ok.ensures ∙ c.if-not-head_ok.true)))
 
 pub loop-n-init : goal.loop-n-init
 loop-n-init c =
     let a = c.args in (
       omega arith,
       omega arith,
-      parse_head a.words.now (omega arith) (sym c.head_ok.ensures ∙ not-false c.head_ok.result c.if-not-head_ok.false),
+      parse_head a.words.now (omega arith) (sym c.head_ok.ensures ∙ c.if-not-head_ok.false),
     )
 
 pub returns-then-size-eq0 : goal.returns-then-size-eq0

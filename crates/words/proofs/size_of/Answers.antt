@@ -6,4 +6,4 @@ use Rattle.words.specs.Words.{size_of}
 use Rattle.words.proofs.size_of.Goals as goal
 
 pub returns-in-Frame : goal.returns-in-Frame
-returns-in-Frame c = ap (λ (k : ℕ). 2 + k) c.words_for.ensures ∙ sym (ap size_of c.i-1.given.1)
+returns-in-Frame c = ap (λ (k : ℕ). 2 + k) c.words_for.ensures ∙ sym (ap size_of c.in-Frame.is)

@@ -6,7 +6,7 @@ pub promoted-requires : goal.promoted-requires
 promoted-requires c = tt
 
 pub returns-in-Unheard : goal.returns-in-Unheard
-returns-in-Unheard c = rw c.enum_told-1.given.1
+returns-in-Unheard c = rw c.in-Unheard.is
 
 pub returns-in-Decibels : goal.returns-in-Decibels
-returns-in-Decibels c = rw c.x-1.given.1 c.promoted.ensures
+returns-in-Decibels c = rw c.in-Decibels.is c.promoted.ensures

@@ -6,7 +6,7 @@ pub empty-requires : goal.empty-requires
 empty-requires c = tt
 
 pub returns-in-Unheard : goal.returns-in-Unheard
-returns-in-Unheard c = rw c.enum_told-1.given.1
+returns-in-Unheard c = rw c.in-Unheard.is
 
 pub returns-in-Decibels : goal.returns-in-Decibels
-returns-in-Decibels c = rw c.enum_told-in-Decibels-1.given.1 c.empty.ensures
+returns-in-Decibels c = rw c.in-Decibels.is c.empty.ensures

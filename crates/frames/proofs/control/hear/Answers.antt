@@ -7,7 +7,7 @@ use Rattle.bits.proofs.Lists.{and_true}
 use Rattle.frames.proofs.control.hear.Goals as goal
 
 pub returns-then-not-here : goal.returns-then-not-here
-returns-then-not-here c = rw (not-true c.args.here c.if-not-here.true)
+returns-then-not-here c = rw c.if-not-here.true
 
 pub bounds-hears-k : goal.bounds-hears-k
 bounds-hears-k c =
@@ -15,7 +15,7 @@ bounds-hears-k c =
     omega (arith, ltb-true c.args.r 62 h.0, ltb-true c.args.a 62 h.1)
 
 pub returns-then-slots : goal.returns-then-slots
-returns-then-slots c = rw (not-false c.args.here c.if-not-here.false, c.if-slots.true)
+returns-then-slots c = rw (c.if-not-here.false, c.if-slots.true)
 
 pub returns-else-slots : goal.returns-else-slots
-returns-else-slots c = rw (not-false c.args.here c.if-not-here.false, c.if-slots.false)
+returns-else-slots c = rw (c.if-not-here.false, c.if-slots.false)

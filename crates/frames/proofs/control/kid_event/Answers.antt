@@ -5,15 +5,15 @@ use Rattle.out.proofs.Laws.{wrote_none}
 use Rattle.frames.proofs.control.kid_event.Goals as goal
 
 pub returns-then-not-ok : goal.returns-then-not-ok
-returns-then-not-ok c = rw (not-true c.args.ok c.if-not-ok.true) (wrote_none _ _)
+returns-then-not-ok c = rw c.if-not-ok.true (wrote_none _ _)
 
 pub returns-then-b-ge128 : goal.returns-then-b-ge128
-returns-then-b-ge128 c = rw (not-false c.args.ok c.if-not-ok.false, le-leb _ _ c.if-b-ge128.true) (wrote_none _ _)
+returns-then-b-ge128 c = rw (c.if-not-ok.false, le-leb _ _ c.if-b-ge128.true) (wrote_none _ _)
 
 pub returns : goal.returns
 returns c =
     rw (
-      not-false c.args.ok c.if-not-ok.false,
+      c.if-not-ok.false,
       lt-leb _ _ c.if-b-ge128.false,
     )
     c.put_missed.ensures

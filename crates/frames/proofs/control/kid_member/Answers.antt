@@ -4,12 +4,12 @@ use borrow.Author.Tests.{not-true, not-false, le-leb, lt-leb}
 use Rattle.frames.proofs.control.kid_member.Goals as goal
 
 pub returns-then-not-ok : goal.returns-then-not-ok
-returns-then-not-ok c = rw (not-true c.args.ok c.if-not-ok.true)
+returns-then-not-ok c = rw c.if-not-ok.true
 
 pub returns-then-b-ge128 : goal.returns-then-b-ge128
 returns-then-b-ge128 c =
     rw (
-      not-false c.args.ok c.if-not-ok.false,
+      c.if-not-ok.false,
       le-leb _ _ c.if-b-ge128.true,
       ← c.snr_from_q.ensures,
     )
@@ -17,4 +17,4 @@ returns-then-b-ge128 c =
 
 pub returns : goal.returns
 returns c =
-    rw (not-false c.args.ok c.if-not-ok.false, lt-leb _ _ c.if-b-ge128.false) c.missed_one.ensures
+    rw (c.if-not-ok.false, lt-leb _ _ c.if-b-ge128.false) c.missed_one.ensures

@@ -7,7 +7,7 @@ use Rattle.frames.proofs.Entries.{Rest, hears_turn, rest_end}
 use Rattle.frames.proofs.control.report_hears.Goals as goal
 
 pub returns-then-not-here : goal.returns-then-not-here
-returns-then-not-here c = rw (not-true c.args.here c.if-not-here.true)
+returns-then-not-here c = rw c.if-not-here.true
 
 pub loop-e-init : goal.loop-e-init
 loop-e-init c = (omega arith, record { turns = 128; enough = omega (arith, c.ranges.len); same = refl })
@@ -23,5 +23,5 @@ loop-e-preserved c =
 
 pub returns : goal.returns
 returns c =
-    rw (not-false c.args.here c.if-not-here.false)
+    rw c.if-not-here.false
     (sym (rest_end _ _ _ _ _ _ c.loop-e.invariant.1 (omega arith)))

@@ -4,12 +4,12 @@ use borrow.Author.Tests.{not-true, not-false}
 use Rattle.frames.proofs.control.report_member.Goals as goal
 
 pub returns-then-not-here : goal.returns-then-not-here
-returns-then-not-here c = rw (not-true c.args.here c.if-not-here.true)
+returns-then-not-here c = rw c.if-not-here.true
 
 pub returns-then-forwarded : goal.returns-then-forwarded
 returns-then-forwarded c =
     rw (
-      not-false c.args.here c.if-not-here.false,
+      c.if-not-here.false,
       c.if-forwarded.true,
       c.with_heard.ensures,
       c.with_down-k.ensures,
@@ -19,7 +19,7 @@ returns-then-forwarded c =
 pub returns : goal.returns
 returns c =
     rw (
-      not-false c.args.here c.if-not-here.false,
+      c.if-not-here.false,
       c.if-forwarded.false,
       c.with_down-k.ensures,
       c.snr_from_q.ensures,

@@ -4,12 +4,12 @@ use borrow.Author.Tests.{not-true, not-false}
 use Rattle.frames.proofs.control.report_queue.Goals as goal
 
 pub returns-then-not-here : goal.returns-then-not-here
-returns-then-not-here c = rw (not-true c.args.here c.if-not-here.true)
+returns-then-not-here c = rw c.if-not-here.true
 
 pub returns : goal.returns
 returns c =
     rw (
-      not-false c.args.here c.if-not-here.false,
+      c.if-not-here.false,
       c.reported_to.ensures,
       c.byte_in-c.ensures,
       c.byte_in-b.ensures,

@@ -5,7 +5,7 @@ use Rattle.out.proofs.Laws.{then, wrote_none}
 use Rattle.frames.proofs.pieces.landed_events.Goals as goal
 
 pub returns-then-not-has_landed : goal.returns-then-not-has_landed
-returns-then-not-has_landed c = rw (← c.has_landed.ensures, not-true c.has_landed.result c.if-not-has_landed.true) (wrote_none _ _)
+returns-then-not-has_landed c = rw (← c.has_landed.ensures, c.if-not-has_landed.true) (wrote_none _ _)
 
 pub returns-then-relayed : goal.returns-then-relayed
 returns-then-relayed c =
@@ -21,7 +21,7 @@ pub returns : goal.returns
 returns c =
     rw (
       ← c.has_landed.ensures,
-      not-false c.has_landed.result c.if-not-has_landed.false,
+      c.if-not-has_landed.false,
       c.if-relayed.false,
     )
     c.put_message-2.ensures

@@ -6,7 +6,10 @@ use Rattle.frames.proofs.pieces.offer.Goals as goal
 
 pub take-requires : goal.take-requires
 take-requires c =
-    (room_of_store c.args.room _ c.requires.0 (omega arith), c.requires.1)
+    record {
+      room_bound = room_of_store c.args.room _ c.requires.room_in (omega arith);
+      piece_len_bound = c.requires.piece_len_bound;
+    }
 
 pub returns : goal.returns
 returns c =
@@ -16,4 +19,4 @@ returns c =
       c.empty_cell.ensures,
       c.shows_first.ensures,
     )
-    (no_room c.args.barred c.args.lent.now c.args.room c.args.c c.args.number c.args.offset c.args.piece.now c.requires.0 (omega arith))
+    (no_room c.args.barred c.args.lent.now c.args.room c.args.c c.args.number c.args.offset c.args.piece.now c.requires.room_in (omega arith))

@@ -5,8 +5,8 @@ use Rattle.frames.proofs.pieces.piece_of.Goals as goal
 
 pub returns-in_default : goal.returns-in_default
 unfolding piece_of
-returns-in_default c = rw (← c.high8.ensures, ← c.widen8.ensures, c.enum_told-1.given.1) c.unwanted.ensures
+returns-in_default c = rw (← c.high8.ensures, ← c.widen8.ensures, c.in_default.is) c.unwanted.ensures
 
 pub returns : goal.returns
 unfolding piece_of
-returns c = rw (← c.high8.ensures, ← c.widen8.ensures, c.n-1.given.1) c.numbered.ensures
+returns c = rw (← c.high8.ensures, ← c.widen8.ensures, c.in-Is.is) c.numbered.ensures

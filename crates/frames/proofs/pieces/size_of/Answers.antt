@@ -4,8 +4,8 @@ use Rattle.bits.specs.Stop.{stop}
 use Rattle.frames.proofs.pieces.size_of.Goals as goal
 
 pub returns-in-Bytes : goal.returns-in-Bytes
-returns-in-Bytes c = rw c.x-1.given.1 c.stopped.ensures
+returns-in-Bytes c = rw c.in-Bytes.is c.stopped.ensures
 
 pub returns-in-NotYet : goal.returns-in-NotYet
 unfolding stop
-returns-in-NotYet c = rw c.enum_told-1.given.1
+returns-in-NotYet c = rw c.in-NotYet.is

@@ -4,7 +4,7 @@ use borrow.Author.Tests.{not-true, not-false}
 use Rattle.frames.proofs.pieces.totals_after.Goals as goal
 
 pub returns-then-not-relayed : goal.returns-then-not-relayed
-returns-then-not-relayed c = rw (not-true c.args.relayed c.if-not-relayed.true)
+returns-then-not-relayed c = rw c.if-not-relayed.true
 
 pub returns : goal.returns
-returns c = rw (c.one_more.ensures, not-false c.args.relayed c.if-not-relayed.false)
+returns c = rw (c.one_more.ensures, c.if-not-relayed.false)

@@ -16,12 +16,15 @@ pub join-requires : goal.join-requires
 join-requires c =
     let a = c.args in
     let l : length (take 6400 a.part.now) ≡ 6400 = length-take-le 6400 a.part.now (search rules) in
-    (omega arith, c.requires.1)
+    record {
+      in_bounds = omega arith;
+      piece_len_bound = c.requires.piece_len_bound;
+    }
 
 pub returns : goal.returns
 returns c =
     let a = c.args in
-    let j = c.join in (
-      ap (λ (h : Held). h.cell) j.ensures,
-      ap (λ (h : Held). h.bytes ++ drop 6400 a.part.now) j.ensures,
-    )
+    let j = c.join in record {
+      cell = ap (λ (h : Held). h.cell) j.ensures;
+      bytes = ap (λ (h : Held). h.bytes ++ drop 6400 a.part.now) j.ensures;
+    }

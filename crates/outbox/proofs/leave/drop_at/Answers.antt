@@ -29,8 +29,8 @@ loop-j-preserved c =
     let l = c.loop-j in
     let i = l.invariant in
     let m = c.move_one-t in (
-      subst (λ (x : Sender). leaving.Moving a.s a.bytes.now a.marks.now c.count_of-n.result a.i x m.new.1.0 m.new.1.1.0 (l.j + 1)) (sym m.ensures.0.0)
-          (leaving.moving-turn a.s a.bytes.now a.marks.now c.count_of-n.result a.i i.0 (search rules) i.2 i.3 m.ensures.0.1 m.ensures.1.0 m.ensures.1.1),
+      subst (λ (x : Sender). leaving.Moving a.s a.bytes.now a.marks.now c.count_of-n.result a.i x m.new.1.0 m.new.1.1.0 (l.j + 1)) (sym m.ensures.sender.0)
+          (leaving.moving-turn a.s a.bytes.now a.marks.now c.count_of-n.result a.i i.0 (search rules) i.2 i.3 m.ensures.sender.1 m.ensures.bytes.0 m.ensures.bytes.1),
       i.1,
       i.2,
       i.3,

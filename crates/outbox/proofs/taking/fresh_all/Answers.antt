@@ -37,7 +37,7 @@ pub fresh_at-c-requires : goal.fresh_at-c-requires
 fresh_at-c-requires c = let l = c.loop-i.invariant in let p = c.requires in (omega arith, (p.0, (omega arith, p.1.1)))
 
 pub with_cut-t-requires : goal.with_cut-t-requires
-with_cut-t-requires c = let l = c.loop-i in let i = l.invariant in let f = c.fresh_at-c.ensures.1.1.0.1 in let m = W.total-most l.t l.i in (omega arith, omega arith)
+with_cut-t-requires c = let l = c.loop-i in let i = l.invariant in let f = c.fresh_at-c.ensures.left.1.0.1 in let m = W.total-most l.t l.i in (omega arith, omega arith)
 
 pub loop-i-preserved : goal.loop-i-preserved
 loop-i-preserved c =

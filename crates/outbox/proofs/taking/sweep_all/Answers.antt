@@ -48,10 +48,10 @@ loop-i-preserved c =
       i.1,
       i.2,
       i.3,
-      B.sweep-same a.mark p.1.1 a.s [] l.marks m n l.i l.v.left t.result.left h i.2 r t.ensures.1.0 t.ensures.1.1 ∙ i.4,
-      B.sweep-turn a.mark p.1.1 a.s a.bytes.now l.marks m n l.i l.v.left t.result.left h i.2 r t.ensures.1.0 t.ensures.1.1 ∙ i.5,
-      B.passing-turn ps i.6 (B.sweep-rest a.mark p.1.1 a.s a.bytes.now l.marks m n l.i l.v.left t.result.left h i.2 r t.ensures.1.0 t.ensures.1.1) t.ensures.0
-          (t.ensures.1.0 ∙ ap (λ (x : ℕ). l.v.left - x) (sym (length-map (pass_pieces a.mark l.v.left (S.part l.marks l.i (S.cut_of a.s l.i))) (O.sent-of (get_or a.s.seqs l.i 0) (S.part a.bytes.now l.i (S.total_of a.s l.i)))))),
+      B.sweep-same a.mark p.1.1 a.s [] l.marks m n l.i l.v.left t.result.left h i.2 r t.ensures.left.0 t.ensures.left.1 ∙ i.4,
+      B.sweep-turn a.mark p.1.1 a.s a.bytes.now l.marks m n l.i l.v.left t.result.left h i.2 r t.ensures.left.0 t.ensures.left.1 ∙ i.5,
+      B.passing-turn ps i.6 (B.sweep-rest a.mark p.1.1 a.s a.bytes.now l.marks m n l.i l.v.left t.result.left h i.2 r t.ensures.left.0 t.ensures.left.1) t.ensures.words
+          (t.ensures.left.0 ∙ ap (λ (x : ℕ). l.v.left - x) (sym (length-map (pass_pieces a.mark l.v.left (S.part l.marks l.i (S.cut_of a.s l.i))) (O.sent-of (get_or a.s.seqs l.i 0) (S.part a.bytes.now l.i (S.total_of a.s l.i)))))),
     )
 
 pub shape_of-marks : goal.shape_of-marks

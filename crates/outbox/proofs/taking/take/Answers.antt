@@ -58,21 +58,21 @@ returns c =
     let o = S.outbox a.s a.bytes.now a.marks.now in
     let n = S.count_of a.s in
     let t = f.result.sender in
-    let en : S.count_of f.result.sender ≡ S.count_of a.s = ap (λ (x : ℕ). least x 8) f.ensures.1.1.1.0 in
+    let en : S.count_of f.result.sender ≡ S.count_of a.s = ap (λ (x : ℕ). least x 8) f.ensures.words.1.1.0 in
     let B1 = S.msgs a.s a.bytes.now r.new.1.0 (S.count_of a.s) 0 in
     let B2 = S.msgs a.s a.bytes.now w.new.1.1.0 (S.count_of a.s) 0 in
     let B3 = S.msgs f.result.sender a.bytes.now f.new.1.1.0 (S.count_of a.s) 0 in
     let B4 = S.msgs f.result.sender a.bytes.now v.new.1.1.0 (S.count_of f.result.sender) 0 in
     let e3 = ap (λ (k : ℕ). S.msgs f.result.sender a.bytes.now f.new.1.1.0 k 0) en in
-    let e4 = v.ensures.0 ∙ ap (O.sweep true f.result.left) e3 in
-    let w3 = wrote_as v.ensures.1.0 (ap (λ (x : List O.OutMsg). burst_words (O.sweep-out true f.result.left x)) e3) in (
+    let e4 = v.ensures.msgs ∙ ap (O.sweep true f.result.left) e3 in
+    let w3 = wrote_as v.ensures.words.0 (ap (λ (x : List O.OutMsg). burst_words (O.sweep-out true f.result.left x)) e3) in (
       sym (sym c.take_refusal-no.ensures ∙ c.if-no-ne0.false),
       (
         ap (λ (x : List O.OutMsg). record { msgs = x; next_seq = f.result.sender.next })
-            (B.take-msgs a.max a.room o B1 B2 B3 B4 w.result.left f.result.left (r.ensures a.bytes.now) w.ensures.0 w.ensures.1.0 w.ensures.1.1 f.ensures.0 f.ensures.1.0 f.ensures.1.1.0 e4 w3)
-            ∙ ap (λ (x : ℕ). record { msgs = (O.take_out a.max a.room o).msgs; next_seq = x }) f.ensures.1.1.1.1,
+            (B.take-msgs a.max a.room o B1 B2 B3 B4 w.result.left f.result.left (r.ensures a.bytes.now) w.ensures.msgs w.ensures.words.0 w.ensures.words.1 f.ensures.msgs f.ensures.words.0 f.ensures.words.1.0 e4 w3)
+            ∙ ap (λ (x : ℕ). record { msgs = (O.take_out a.max a.room o).msgs; next_seq = x }) f.ensures.words.1.1.1,
         (
-          B.take_words a.max a.room o B1 B2 B3 B4 w.result.left f.result.left (r.ensures a.bytes.now) w.ensures.0 w.ensures.1.0 w.ensures.1.1 f.ensures.0 f.ensures.1.0 f.ensures.1.1.0 e4 w3,
+          B.take_words a.max a.room o B1 B2 B3 B4 w.result.left f.result.left (r.ensures a.bytes.now) w.ensures.msgs w.ensures.words.0 w.ensures.words.1 f.ensures.msgs f.ensures.words.0 f.ensures.words.1.0 e4 w3,
           λ z. absurd (z refl),
         ),
       ),

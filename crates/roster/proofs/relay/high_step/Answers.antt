@@ -4,8 +4,8 @@ use borrow.Author.Tests.{not-true, not-false}
 use Rattle.roster.proofs.relay.high_step.Goals as goal
 
 pub returns-then-not-has : goal.returns-then-not-has
-returns-then-not-has c = rw (← c.has.ensures, not-true c.has.result c.if-not-has.true)
+returns-then-not-has c = rw (← c.has.ensures, c.if-not-has.true)
 
 pub returns : goal.returns
 returns c =
-    rw (← c.has.ensures, not-false c.has.result c.if-not-has.false, ← c.heard_at-q.ensures, ← c.loud_enough.ensures) c.better_high.ensures
+    rw (← c.has.ensures, c.if-not-has.false, ← c.heard_at-q.ensures, ← c.loud_enough.ensures) c.better_high.ensures

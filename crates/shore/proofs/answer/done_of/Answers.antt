@@ -3,7 +3,7 @@
 use Rattle.shore.proofs.answer.done_of.Goals as goal
 
 pub returns-in-Refused : goal.returns-in-Refused
-returns-in-Refused c = rw (c.a-1.given.1, c.block_of-block.ensures)
+returns-in-Refused c = rw (c.in-Refused.is, c.block_of-block.ensures)
 
 pub returns-in-Words : goal.returns-in-Words
-returns-in-Words c = rw (c.a-in-Words-1.given.1, c.block_of-block.ensures)
+returns-in-Words c = rw (c.in-Words.is, c.block_of-block.ensures)

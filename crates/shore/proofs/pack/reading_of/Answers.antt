@@ -3,7 +3,7 @@
 use Rattle.shore.proofs.pack.reading_of.Goals as goal
 
 pub returns-in-Unheard : goal.returns-in-Unheard
-returns-in-Unheard c = rw c.enum_told-1.given.1
+returns-in-Unheard c = rw c.in-Unheard.is
 
 pub returns-in-Decibels : goal.returns-in-Decibels
-returns-in-Decibels c = rw c.x-1.given.1
+returns-in-Decibels c = rw c.in-Decibels.is

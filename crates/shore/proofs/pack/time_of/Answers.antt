@@ -3,7 +3,7 @@
 use Rattle.shore.proofs.pack.time_of.Goals as goal
 
 pub returns-in-Never : goal.returns-in-Never
-returns-in-Never c = rw c.enum_told-1.given.1
+returns-in-Never c = rw c.in-Never.is
 
 pub returns-in-At : goal.returns-in-At
-returns-in-At c = rw c.c-1.given.1
+returns-in-At c = rw c.in-At.is

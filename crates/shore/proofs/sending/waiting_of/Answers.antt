@@ -3,7 +3,7 @@
 use Rattle.shore.proofs.sending.waiting_of.Goals as goal
 
 pub returns-in-Bytes : goal.returns-in-Bytes
-returns-in-Bytes c = rw c.w-1.given.1
+returns-in-Bytes c = rw c.in-Bytes.is
 
 pub returns-in-Refused : goal.returns-in-Refused
-returns-in-Refused c = rw c.w-in-Refused-1.given.1
+returns-in-Refused c = rw c.in-Refused.is

@@ -4,7 +4,7 @@ use mathlib.Core.Path.{refl}
 use Rattle.stream.proofs.table.room_of.Goals as goal
 
 pub returns-in-At : goal.returns-in-At
-returns-in-At c = rw c.own-1.given.1 refl
+returns-in-At c = rw c.in-At.is refl
 
 pub returns-in-At-free : goal.returns-in-At-free
-returns-in-At-free c = rw (c.enum_told-1.given.1, c.free-1.given.1) refl
+returns-in-At-free c = rw (c.in-Nothing.is, c.in-At-free.is) refl

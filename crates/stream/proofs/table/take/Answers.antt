@@ -9,7 +9,10 @@ put-requires c =
     let f =
     take_fits c.args.barred c.args.store.now c.args.room c.args.cell c.args.number c.args.offset c.args.piece.now _ _ _ _ _ _
     e c.cell_for-old.ensures c.has_room-some.ensures c.is_over-over.ensures c.keeping-kept.ensures c.changed.ensures c.if-changed.true in
-    (rw e c.requires.0, (c.requires.1, f))
+    record {
+      c_bound = rw e c.requires.room_bound;
+      piece_len_bound = (c.requires.piece_len_bound, f);
+    }
 
 pub returns-then-changed : goal.returns-then-changed
 returns-then-changed c =

@@ -12,7 +12,7 @@ loop-i-init c = (omega arith, refl)
 pub returns-then-not-on : goal.returns-then-not-on
 returns-then-not-on c =
     let l = c.loop-i in
-    c.slid-t.ensures ∙ sym (slide_stop _ _ _ _ (mark_lowest _ _ ∙ not-true _ c.if-not-on.true)) ∙ l.invariant.1
+    c.slid-t.ensures ∙ sym (slide_stop _ _ _ _ (mark_lowest _ _ ∙ c.if-not-on.true)) ∙ l.invariant.1
 
 pub overflow_add-i : goal.overflow_add-i
 overflow_add-i c = omega arith
@@ -25,7 +25,7 @@ loop-i-preserved c =
     let l = c.loop-i in (
       omega arith,
       rw c.slid-t.ensures
-          (sym (slide_turn 128 l.i _ _ _ (omega arith) (mark_lowest _ _ ∙ not-false _ c.if-not-on.false)) ∙ l.invariant.1),
+          (sym (slide_turn 128 l.i _ _ _ (omega arith) (mark_lowest _ _ ∙ c.if-not-on.false)) ∙ l.invariant.1),
     )
 
 pub returns : goal.returns
