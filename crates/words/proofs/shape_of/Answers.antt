@@ -26,18 +26,18 @@ loop-n-init c =
 pub returns-then-size-eq0 : goal.returns-then-size-eq0
 returns-then-size-eq0 c =
     let i = c.item_at-i in
-    let s = c.type_size in
+    let s = c.size_of-size in
     c.last.ensures
     ∙ sym (c.loop-n.invariant.2 ∙ shape_end c.args.words.now c.loop-n.at c.loop-n.n i.result s.result i.ensures s.ensures (omega arith) c.if-size-eq0.true)
 
 pub overflow_add-at : goal.overflow_add-at
 overflow_add-at c =
-    omega (arith, item_within c.args.words.now c.loop-n.at _ _ c.loop-n.invariant.0 c.item_at-i.ensures c.type_size.ensures)
+    omega (arith, item_within c.args.words.now c.loop-n.at _ _ c.loop-n.invariant.0 c.item_at-i.ensures c.size_of-size.ensures)
 
 pub loop-n-preserved : goal.loop-n-preserved
 loop-n-preserved c =
     let i = c.item_at-i in
-    let s = c.type_size in (
+    let s = c.size_of-size in (
       item_within c.args.words.now c.loop-n.at i.result s.result c.loop-n.invariant.0 i.ensures s.ensures,
       omega arith,
       c.loop-n.invariant.2 ∙ shape_more c.args.words.now c.loop-n.at c.loop-n.n i.result s.result i.ensures s.ensures (omega arith) c.if-size-eq0.false,
