@@ -87,13 +87,28 @@ def of_libraries(text, crates):
     return names
 
 
+FIELDS = set()
+
+
+def note_fields():
+    """Notes the fields with a dash of the repository's records."""
+    for path in files(".antt"):
+        inside = False
+        for line in read(path).split("\n"):
+            if line.strip() and not line[0].isspace():
+                inside = re.match(r"(pub |abbrev )*record ", line) is not None
+            it = DECLARED.match(line)
+            if inside and it and it[1] and "-" in it[3]:
+                FIELDS.add(it[3])
+
+
 def turn_antt(text, new, kept):
     def one(m):
         name = m[0]
         if name not in new or name in kept:
             return name
-        # behind a dot stands a field or a step that is named after the code
-        if "-" in name and m.start() and text[m.start() - 1] == ".":
+        # behind a dot stands a field of a record, or a step that is named after the code
+        if "-" in name and m.start() and text[m.start() - 1] == "." and name not in FIELDS:
             return name
         return new[name]
 
@@ -119,6 +134,7 @@ def turn_rust(text, new, kept):
 def main():
     crates = set(os.listdir("crates"))
     new = table(declared())
+    note_fields()
     for ending, turn in ((".antt", turn_antt), (".rt", turn_rust), (".edit", turn_rust)):
         for path in files(ending):
             text = read(path)

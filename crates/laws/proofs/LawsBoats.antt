@@ -172,7 +172,7 @@ module _ (t : Table) (store : List ℕ) (tidy : Tidy t store) (o : ℕ) where
   open_here = go (room_at t o) here
     where
       go : (r : Room) → Here r → has_room r ≡ true → has_bit t.landed (place_of r) ≡ false
-      go (Own d) w h = w.Filling.open-yet
+      go (Own d) w h = w.Filling.open_yet
       go (Free d) w h =
           ⊎_elim (λ e. absurd (never_both (has_bit t.busy d) (tidy.taken d e) w.unused)) (λ e. e) (cases (has_bit t.landed d))
       go Full w h = absurd (never_both false h refl)
@@ -321,7 +321,7 @@ module _ (t : Table) (w : Window) (store : List ℕ) (slot field : ℕ) (p : Lis
               d,
               record {
                 was = own_room t store tidy o d f;
-                is = own_room t' store' tidy' o d (record { taken = q.0 ∙ f.taken; open_yet = q.1 ∙ f.open-yet; holds = q.2 ∙ f.holds });
+                is = own_room t' store' tidy' o d (record { taken = q.0 ∙ f.taken; open_yet = q.1 ∙ f.open_yet; holds = q.2 ∙ f.holds });
                 cell = q.3;
                 bytes = in_other store c h.bytes in_store long d n (omega arith);
               },
@@ -361,7 +361,7 @@ module _ (t : Table) (w : Window) (store : List ℕ) (slot field : ℕ) (p : Lis
     barred_filling (Own c) q d o f =
         let n : d ≡ c → ⊥ = λ e. never_both (has_bit (without_bit t.busy c) d) f.taken (ap (has_bit (without_bit t.busy c)) e ∙ without_same t.busy c) in
         let r = freed_other t store tidy c d n in
-        let g : Filling t d o = record { taken = sym r.0 ∙ f.taken; open_yet = sym r.1 ∙ f.open-yet; holds = f.holds } in
+        let g : Filling t d o = record { taken = sym r.0 ∙ f.taken; open_yet = sym r.1 ∙ f.open_yet; holds = f.holds } in
         (g, λ e. n (tidy.one d c (owner_of slot k) (subst (Filling t d) e g) q.Filling))
     barred_filling (Free c) q d o f = (f, λ e. found t store tidy (owner_of slot k) d (subst (Filling t d) e f) q.none)
     barred_filling Full q d o f = (f, λ e. found t store tidy (owner_of slot k) d (subst (Filling t d) e f) q.none)
@@ -378,7 +378,7 @@ module _ (t : Table) (w : Window) (store : List ℕ) (slot field : ℕ) (p : Lis
         → Filling (barred_table t r) d o
     still_filling (Own c) q d o z f =
         let r = freed_other t store tidy c d (λ e. z (sym f.holds ∙ ap (λ (y : ℕ). get_or t.owners y 0) e ∙ q.Filling.holds)) in
-        record { taken = r.0 ∙ f.taken; open_yet = r.1 ∙ f.open-yet; holds = f.holds }
+        record { taken = r.0 ∙ f.taken; open_yet = r.1 ∙ f.open_yet; holds = f.holds }
     still_filling (Free c) q d o z f = f
     still_filling Full q d o z f = f
 
@@ -658,13 +658,13 @@ module _ (n : Net) (f : Fit n) where
       let back : y.slot ≡ x.slot → ⊥ = λ e. apart (sym e) in
       ⊎_elim
       (λ m.
-      for_first x y u v apart o m.0 m.1 (calm_alone x y u v apart o m.0 m.1 a.one a.for-x qx)
-      (calm_after x y u v apart o m.0 m.1 a.one a.other a.apart a.for-x a.for-y qx))
+      for_first x y u v apart o m.0 m.1 (calm_alone x y u v apart o m.0 m.1 a.one a.for_x qx)
+      (calm_after x y u v apart o m.0 m.1 a.one a.other a.apart a.for_x a.for_y qx))
       (λ p.
       ⊎_elim
       (λ m.
-      sym (for_first y x v u back o m.0 m.1 (calm_alone y x v u back o m.0 m.1 a.other a.for-y qy)
-      (calm_after y x v u back o m.0 m.1 a.other a.one (λ e. a.apart (sym e)) a.for-y a.for-x qy)))
+      sym (for_first y x v u back o m.0 m.1 (calm_alone y x v u back o m.0 m.1 a.other a.for_y qy)
+      (calm_after y x v u back o m.0 m.1 a.other a.one (λ e. a.apart (sym e)) a.for_y a.for_x qy)))
       (λ q. for_neither x y u v apart o p q ∙ sym (for_neither y x v u back o q p))
       (whose y o))
       (whose x o)

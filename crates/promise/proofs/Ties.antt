@@ -134,7 +134,7 @@ comes_filling t c s k = go (has_bit t.busy c) (has_bit t.landed c) refl refl
         record { taken = p; open_yet = q; holds = parts_owner (get_or t.owners c 0) s k w.0 w.1 }
 
 pub filling_comes : (t : Table) (c s k : ℕ) → Filling t c (owner_of s k) → k < 2 ^ 32 → use_at t c ≡ Comes s k
-filling_comes t c s k f z = use_comes _ _ _ s k f.taken f.open-yet f.holds z
+filling_comes t c s k f z = use_comes _ _ _ s k f.taken f.open_yet f.holds z
 
 -- ---- the cell that a piece of message k of slot s would go into
 

@@ -92,10 +92,10 @@ module _ (slot : ℕ) (bodies : List (List ℕ)) where
     pub texts : All Text r.box.msgs
     pub front : List (List ℕ)
     pub split : bodies ≡ front ++ rest
-    pub count : r.box.next-seq ≡ length front
+    pub count : r.box.next_seq ≡ length front
 
   abbrev FairNow : Ledger → Run → Event → Type 0
-  FairNow l r (Post d) = r.box.next-seq < 4294967295
+  FairNow l r (Post d) = r.box.next_seq < 4294967295
   FairNow l r (Take max room) = (0 < max) × (max ≤ 255)
   FairNow l r (Ack b j) = K r.bursts l b j
   FairNow l r Stale = Unit {0}
@@ -106,15 +106,15 @@ module _ (slot : ℕ) (bodies : List (List ℕ)) where
   body_is : (front rest : List (List ℕ)) (d : List ℕ) → bodies ≡ front ++ (d ∷ rest) → own (length front) ≡ d
   body_is front rest d e = ap (λ (l : List (List ℕ)). get_or l (length front) []) e ∙ get_or-append_seam front d rest []
 
-  posted_inv : (l : Ledger) (r : Run) (rest : List (List ℕ)) (d : List ℕ) → RunInv l r (d ∷ rest) → r.box.next-seq < 4294967295 → RunInv l (step r (Post d)) rest
+  posted_inv : (l : Ledger) (r : Run) (rest : List (List ℕ)) (d : List ℕ) → RunInv l r (d ∷ rest) → r.box.next_seq < 4294967295 → RunInv l (step r (Post d)) rest
   unfolding step stop Fair
   posted_inv l r rest d v h =
-      let e : stop (r.box.next-seq + 1) ≡ r.box.next-seq + 1 = cond_true (leb (r.box.next-seq + 1) 4294967295) (r.box.next-seq + 1) 4294967295 (le-leb (r.box.next-seq + 1) 4294967295 (omega arith)) in
+      let e : stop (r.box.next_seq + 1) ≡ r.box.next_seq + 1 = cond_true (leb (r.box.next_seq + 1) 4294967295) (r.box.next_seq + 1) 4294967295 (le-leb (r.box.next_seq + 1) 4294967295 (omega arith)) in
       record {
         run = stepped (K r.bursts l) r (Post d) v.run h;
         pieces = v.pieces;
         texts =
-            all_join Text (record { seq = r.box.next-seq; bytes = framed d; cut = 0; inflight = [] }) r.box.msgs v.texts
+            all_join Text (record { seq = r.box.next_seq; bytes = framed d; cut = 0; inflight = [] }) r.box.msgs v.texts
             (ap framed (sym (ap own v.count ∙ body_is v.front rest d v.split)));
         front = v.front ++ (d ∷ []);
         split = v.split ∙ sym (append_assoc v.front (d ∷ []) rest);
@@ -150,7 +150,7 @@ module _ (slot : ℕ) (bodies : List (List ℕ)) where
   taken_inv : (l : Ledger) (r : Run) (rest : List (List ℕ)) (max room : ℕ) → RunInv l r rest → 0 < max → max ≤ 255 → RunInv l (step r (Take max room)) rest
   unfolding step Fair
   taken_inv l r rest max room v h s =
-      let p = passed_take (K r.bursts l) r.bursts r.box.next-seq max room h r.box v.run.good v.run.rise in
+      let p = passed_take (K r.bursts l) r.bursts r.box.next_seq max room h r.box v.run.good v.run.rise in
       let t = taken_texts max room r.box v.texts in
       record {
         run =

@@ -462,30 +462,30 @@ module _ (bs : List (List Sent)) (X : List Sent) where
 -- ### a run
 pub record RunOk (K : ℕ → ℕ → Type 0) (r : Run) : Type 0 where
   pub good : All (Good K r.bursts) r.box.msgs
-  pub rise : Rise 0 r.box.msgs r.box.next-seq
-  pub numbers : (b j : ℕ) → Is r.bursts b j → (piece r.bursts b j).seq < r.box.next-seq
+  pub rise : Rise 0 r.box.msgs r.box.next_seq
+  pub numbers : (b j : ℕ) → Is r.bursts b j → (piece r.bursts b j).seq < r.box.next_seq
 
 module _ (K : ℕ → ℕ → Type 0) (r : Run) (k : RunOk K r) where
-  posted_ok : (d : List ℕ) → r.box.next-seq < 4294967295 → RunOk K (step r (Post d))
+  posted_ok : (d : List ℕ) → r.box.next_seq < 4294967295 → RunOk K (step r (Post d))
   unfolding step stop
   posted_ok d h =
-      let e : stop (r.box.next-seq + 1) ≡ r.box.next-seq + 1 = cond_true (leb (r.box.next-seq + 1) 4294967295) (r.box.next-seq + 1) 4294967295 (le-leb (r.box.next-seq + 1) 4294967295 (omega arith)) in
-      let m : OutMsg = record { seq = r.box.next-seq; bytes = framed d; cut = 0; inflight = [] } in
+      let e : stop (r.box.next_seq + 1) ≡ r.box.next_seq + 1 = cond_true (leb (r.box.next_seq + 1) 4294967295) (r.box.next_seq + 1) 4294967295 (le-leb (r.box.next_seq + 1) 4294967295 (omega arith)) in
+      let m : OutMsg = record { seq = r.box.next_seq; bytes = framed d; cut = 0; inflight = [] } in
       record {
         good =
-            all_join (Good K r.bursts) (record { seq = r.box.next-seq; bytes = framed d; cut = 0; inflight = [] }) r.box.msgs k.good
+            all_join (Good K r.bursts) (record { seq = r.box.next_seq; bytes = framed d; cut = 0; inflight = [] }) r.box.msgs k.good
             (record {
               sound = record { fits = omega arith; tiled = (omega arith, λ i a b. absurd (omega arith)); tight = tt; below = λ off len w. absurd (let n = k.numbers w.b w.j w.sent in omega (arith, w.of)) };
               cuts = λ b j i q. absurd (let n = k.numbers b j i in omega arith);
             });
-        rise = subst (λ (n : ℕ). Rise 0 (r.box.msgs ++ (record { seq = r.box.next-seq; bytes = framed d; cut = 0; inflight = [] } ∷ [])) n) (sym e) (rise_join 0 r.box.next-seq (record { seq = r.box.next-seq; bytes = framed d; cut = 0; inflight = [] }) r.box.msgs refl k.rise);
+        rise = subst (λ (n : ℕ). Rise 0 (r.box.msgs ++ (record { seq = r.box.next_seq; bytes = framed d; cut = 0; inflight = [] } ∷ [])) n) (sym e) (rise_join 0 r.box.next_seq (record { seq = r.box.next_seq; bytes = framed d; cut = 0; inflight = [] }) r.box.msgs refl k.rise);
         numbers = λ b j i. subst (λ (n : ℕ). (piece r.bursts b j).seq < n) (sym e) (let n = k.numbers b j i in omega arith);
       }
 
   taken_ok : (max room : ℕ) → 0 < max → RunOk K (step r (Take max room))
   unfolding step
   taken_ok max room h =
-      let p = passed_take K r.bursts r.box.next-seq max room h r.box k.good k.rise in
+      let p = passed_take K r.bursts r.box.next_seq max room h r.box k.good k.rise in
       let X : List Sent = (take_out max room r.box).out in
       let ms : List OutMsg = (take_out max room r.box).msgs in
       record {
@@ -493,12 +493,12 @@ module _ (K : ℕ → ℕ → Type 0) (r : Run) (k : RunOk K r) where
             all_to (λ m. Good K r.bursts m × ((j : ℕ) → j < length (take_out max room r.box).out → (get_or (take_out max room r.box).out j none).seq ≡ m.seq → From m (get_or (take_out max room r.box).out j none)))
             (Good K (r.bursts ++ ((take_out max room r.box).out ∷ []))) (λ m g. good_grown r.bursts (take_out max room r.box).out m g.1 K g.0) (take_out max room r.box).msgs
             (all_both (Good K r.bursts) (λ m. (j : ℕ) → j < length (take_out max room r.box).out → (get_or (take_out max room r.box).out j none).seq ≡ m.seq → From m (get_or (take_out max room r.box).out j none)) (take_out max room r.box).msgs p.good
-            (own_all r.box.next-seq (take_out max room r.box).msgs (take_out max room r.box).out p.rise p.made));
+            (own_all r.box.next_seq (take_out max room r.box).msgs (take_out max room r.box).out p.rise p.made));
         rise = p.rise;
         numbers = λ b j i.
-            ⊎_elim (λ q. subst (λ (x : Sent). x.seq < r.box.next-seq) (sym (piece_old r.bursts (take_out max room r.box).out b j q.0)) (k.numbers b j q))
-            (λ q. subst (λ (x : Sent). x.seq < r.box.next-seq) (sym (piece_new r.bursts (take_out max room r.box).out b j q.0))
-            (made_below 0 r.box.next-seq (take_out max room r.box).msgs (get_or (take_out max room r.box).out j none) p.rise (each_at (take_out max room r.box).msgs (take_out max room r.box).out j p.made q.1)))
+            ⊎_elim (λ q. subst (λ (x : Sent). x.seq < r.box.next_seq) (sym (piece_old r.bursts (take_out max room r.box).out b j q.0)) (k.numbers b j q))
+            (λ q. subst (λ (x : Sent). x.seq < r.box.next_seq) (sym (piece_new r.bursts (take_out max room r.box).out b j q.0))
+            (made_below 0 r.box.next_seq (take_out max room r.box).msgs (get_or (take_out max room r.box).out j none) p.rise (each_at (take_out max room r.box).msgs (take_out max room r.box).out j p.made q.1)))
             (is_split r.bursts (take_out max room r.box).out b j i);
       }
 
@@ -506,7 +506,7 @@ module _ (K : ℕ → ℕ → Type 0) (r : Run) (k : RunOk K r) where
   unfolding step
   acked_ok b j i q = record {
     good = all_retain (Good K r.bursts) unfinished (acked (piece r.bursts b j).seq (piece r.bursts b j).off r.box.msgs) (good_acked K r.bursts b j i q r.box.msgs k.good);
-    rise = rise_retain unfinished 0 r.box.next-seq (acked (piece r.bursts b j).seq (piece r.bursts b j).off r.box.msgs) (rise_acked (piece r.bursts b j).seq (piece r.bursts b j).off 0 r.box.next-seq r.box.msgs k.rise);
+    rise = rise_retain unfinished 0 r.box.next_seq (acked (piece r.bursts b j).seq (piece r.bursts b j).off r.box.msgs) (rise_acked (piece r.bursts b j).seq (piece r.bursts b j).off 0 r.box.next_seq r.box.msgs k.rise);
     numbers = k.numbers;
   }
 
@@ -514,7 +514,7 @@ module _ (K : ℕ → ℕ → Type 0) (r : Run) (k : RunOk K r) where
   unfolding step
   stale_ok = record {
     good = all_map (Good K r.bursts) stale_in (good_stale K r.bursts) r.box.msgs k.good;
-    rise = rise_map stale_in (λ m. refl) 0 r.box.next-seq r.box.msgs k.rise;
+    rise = rise_map stale_in (λ m. refl) 0 r.box.next_seq r.box.msgs k.rise;
     numbers = k.numbers;
   }
 
@@ -522,7 +522,7 @@ module _ (K : ℕ → ℕ → Type 0) (r : Run) (k : RunOk K r) where
   unfolding step
   held_ok next also = record {
     good = all_retain (Good K r.bursts) (not_held next also) r.box.msgs k.good;
-    rise = rise_retain (not_held next also) 0 r.box.next-seq r.box.msgs k.rise;
+    rise = rise_retain (not_held next also) 0 r.box.next_seq r.box.msgs k.rise;
     numbers = k.numbers;
   }
 

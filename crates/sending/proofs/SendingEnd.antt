@@ -137,7 +137,7 @@ module _ (slot : ℕ) (low : slot < 62) (bodies : List (List ℕ)) (small : (k :
           cut =
               subst (λ (y : ℕ). Cut (framed (own slot bodies y)) (field % 65536) p) (sym o.same.number_is)
               (subst (λ (y : ℕ). Cut (framed (own slot bodies x.seq)) y p) (sym (ap (λ (y : ℕ). y % 65536) o.same.field_is ∙ q.1))
-              (subst (λ (y : List ℕ). Cut (framed (own slot bodies x.seq)) x.off y) (sym o.same.bytes-are) c));
+              (subst (λ (y : List ℕ). Cut (framed (own slot bodies x.seq)) x.off y) (sym o.same.bytes_are) c));
           near = o.near;
         }
 
@@ -346,7 +346,7 @@ module _ (slot : ℕ) (low : slot < 62) (bodies : List (List ℕ)) (small : (k :
   unfolding bodies_in run_after
   goes_none l r rest v = v
 
-  goes_post : (l : Ledger) (r : Run) (rest : List (List ℕ)) (d : List ℕ) → r.box.next-seq < 4294967295 → Goes l r rest (Post d ∷ [])
+  goes_post : (l : Ledger) (r : Run) (rest : List (List ℕ)) (d : List ℕ) → r.box.next_seq < 4294967295 → Goes l r rest (Post d ∷ [])
   unfolding bodies_in run_after
   goes_post l r rest d h v = event_inv slot bodies l (Post d) r rest v h
 
@@ -377,7 +377,7 @@ module _ (slot : ℕ) (low : slot < 62) (bodies : List (List ℕ)) (small : (k :
       let n = small x.seq in
       let f = c.ranges in
       let o : field % 65536 ≡ x.off = ap (λ (y : ℕ). y % 65536) m.field_is ∙ (field_parts x.seq x.off (omega arith)).1 in
-      let w : length p ≡ length x.bytes = ap length m.bytes-are in
+      let w : length p ≡ length x.bytes = ap length m.bytes_are in
       (i, λ y u v. subst (λ (z : ℕ). l.covered slot z y ≡ true) m.number_is (k h.0 y (omega arith) (omega arith)))
 
   module _ (x : Ends) (rest : List (List ℕ)) (v : Inv x rest) (word sent : ℕ) (frames : List (Option ℕ)) (r : Reception) (made : MadeFor slot x word sent frames r) where

@@ -49,7 +49,7 @@ step r (Held next also) = with_box r (held r.box next also)
 
 -- what the run may ask: numbers left for a message, a piece of a byte at least, and acknowledgements of pieces that were sent and kept
 unfoldable pub Fair : (ℕ → ℕ → Type 0) → Run → Event → Type 0
-Fair K r (Post d) = r.box.next-seq < 4294967295
+Fair K r (Post d) = r.box.next_seq < 4294967295
 Fair K r (Take max room) = 0 < max
 Fair K r (Ack b j) = Is r.bursts b j × K b j
 Fair K r Stale = Unit {0}

@@ -219,7 +219,7 @@ pub record MadeFor (slot : ℕ) (x : Ends) (word sent : ℕ) (frames : List (Opt
 -- of a step; 'numbers stay within the window' here: a posting that is not refused finds a number that no other message has
 abbrev pub StepOk : ℕ → Stays → Step → Ends → Type 0
 StepOk slot M (post body memory) x =
-    post_refusal (length x.run.box.msgs) memory (length body) ≡ 0 → x.run.box.next-seq < 4294967295
+    post_refusal (length x.run.box.msgs) memory (length body) ≡ 0 → x.run.box.next_seq < 4294967295
 StepOk slot M (take max room out bytes marks) x = Unit {0}
 StepOk slot M (stale marks) x = Unit {0}
 StepOk slot M (held next also bytes marks) x = Unit {0}

@@ -51,7 +51,7 @@ module _ (owners : List ℕ) (busy landed owner : ℕ) where
       record { taken = b.0; open_yet = not-true (has_bit landed c) b.1; holds = eqb-true (get_or owners c 0) owner a.1 }
 
   pub filling_own : (c : ℕ) → Filling owners busy landed c owner → is_own busy landed c (get_or owners c 0) owner ≡ true
-  filling_own c f = own_test (has_bit busy c) (has_bit landed c) (get_or owners c 0) owner f.taken f.open-yet f.holds
+  filling_own c f = own_test (has_bit busy c) (has_bit landed c) (get_or owners c 0) owner f.taken f.open_yet f.holds
     where
       own_test : (a b : Bool) (x y : ℕ) → a ≡ true → b ≡ false → x ≡ y → a && not b && eqb x y ≡ true
       own_test a b x y p q r = ap (λ (t : Bool). t && not b && eqb x y) p ∙ ap (λ (t : Bool). not t && eqb x y) q ∙ eq-eqb x y r

@@ -109,7 +109,7 @@ module _ (t : Table) (c owner : ℕ) (x : Taken) where
   pub filling_other : (j o : ℕ) → (j ≡ c → ⊥) → Filling (kept_table t c owner x) j o → Filling t j o
   filling_other j o n f =
       let r = kept_other j n in
-      record { taken = sym r.0 ∙ f.taken; open_yet = sym r.1 ∙ f.open-yet; holds = sym r.2 ∙ f.holds }
+      record { taken = sym r.0 ∙ f.taken; open_yet = sym r.1 ∙ f.open_yet; holds = sym r.2 ∙ f.holds }
 
   module _ (store store' : List ℕ) (tidy : Tidy t store) (below : c < t.count) (long : length store' ≡ length store)
       (fit : Fits x.cell) (only : (d : ℕ) → Filling t d owner → d ≡ c) where
@@ -178,7 +178,7 @@ module _ (t : Table) (store : List ℕ) (tidy : Tidy t store) (c : ℕ) where
   freed_filling : (j o : ℕ) → Filling (freed_table t c) j o → Filling t j o
   freed_filling j o f =
       let r = kept_bit t.busy j f.taken in
-      record { taken = r.1; open_yet = sym (without_other t.landed c j (λ q. r.0 (sym q))) ∙ f.open-yet; holds = f.holds }
+      record { taken = r.1; open_yet = sym (without_other t.landed c j (λ q. r.0 (sym q))) ∙ f.open_yet; holds = f.holds }
 
   -- another cell stays as it was
   pub freed_other : (j : ℕ) → (j ≡ c → ⊥)

@@ -28,7 +28,7 @@ pub settle_all-requires : goal.settle_all-requires
 settle_all-requires c =
     let a = c.args in
     let s = c.wide16-start.ensures.0 in
-    let k = c.copy_in.auto.0 in
+    let k = c.copy_in.auto.dst in
     omega arith
 
 pub returns-then-start-joined : goal.returns-then-start-joined

@@ -6,6 +6,7 @@ use Rattle.inbox.specs.Cells.{next, next_place}
 use Rattle.inbox.proofs.Search.{next_turn_this, next_turn_on, next_end}
 use borrow.Author.Rules.{rules}
 use Rattle.inbox.proofs.cell.next_place.Goals as goal
+use Rattle.inbox.proofs.cell.next_place.Goals.{then-better_place, else-better_place}
 
 pub loop-k-init : goal.loop-k-init
 loop-k-init c = (search rules, refl)
@@ -22,17 +23,18 @@ loop-k-preserved c =
     let l = c.loop-k in
     let b = c.better_place in (
       omega arith,
-      ⊎_elim (λ w.
-          ap (λ (x : ℕ). next (16 - (l.k + 1)) a.cell (l.k + 1) x c.if-better_place.from) w.2
-          ∙ ap (λ (x : ℕ). next (16 - (l.k + 1)) a.cell (l.k + 1) l.k x) w.3
-          ∙ sym (next_turn_this 16 a.cell l.k l.best l.from (search rules) (sym b.ensures ∙ w.0.taken))
-          ∙ l.invariant.1)
-          (λ w.
-          ap (λ (x : ℕ). next (16 - (l.k + 1)) a.cell (l.k + 1) x c.if-better_place.from) w.1
-          ∙ ap (λ (x : ℕ). next (16 - (l.k + 1)) a.cell (l.k + 1) l.best x) w.2
-          ∙ sym (next_turn_on 16 a.cell l.k l.best l.from (search rules) (sym b.ensures ∙ w.0.left))
-          ∙ l.invariant.1)
-          c.if-better_place.branch,
+      elim c.if-better_place.branch [
+        then-better_place w ↦
+          ap (λ (x : ℕ). next (16 - (l.k + 1)) a.cell (l.k + 1) x c.if-better_place.from) w.best-is
+          ∙ ap (λ (x : ℕ). next (16 - (l.k + 1)) a.cell (l.k + 1) l.k x) w.from-is
+          ∙ sym (next_turn_this 16 a.cell l.k l.best l.from (search rules) (sym b.ensures ∙ w.if-better_place.true))
+          ∙ l.invariant.1
+        | else-better_place w ↦
+          ap (λ (x : ℕ). next (16 - (l.k + 1)) a.cell (l.k + 1) x c.if-better_place.from) w.best-is
+          ∙ ap (λ (x : ℕ). next (16 - (l.k + 1)) a.cell (l.k + 1) l.best x) w.from-is
+          ∙ sym (next_turn_on 16 a.cell l.k l.best l.from (search rules) (sym b.ensures ∙ w.if-better_place.false))
+          ∙ l.invariant.1
+      ],
     )
 
 pub returns : goal.returns

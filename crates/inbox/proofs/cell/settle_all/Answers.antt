@@ -74,7 +74,7 @@ loop-c-preserved c =
     let n = l.invariant.3.0 in
     let h = l.invariant.3.1 in (
       omega arith,
-      m.auto.0 ∙ l.invariant.1,
+      m.auto.bytes ∙ l.invariant.1,
       l.invariant.2,
       (
         l.invariant.3.0 - 1,

@@ -35,7 +35,7 @@ start-requires c =
     let q = P.least-left (length a.whole.now - l.c) a.max in
     let e = n.ensures in
     let i = l.invariant in
-    (omega arith, omega (arith, l.invariant.same-marks))
+    (omega arith, omega (arith, l.invariant.same_marks))
 
 pub overflow_sub-left : goal.overflow_sub-left
 overflow_sub-left c = let l = c.loop-c in let z = c.if-left-eq0.false in search rules

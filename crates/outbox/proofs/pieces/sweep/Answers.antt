@@ -12,13 +12,13 @@ loop-i-preserved c =
     let a = c.args in
     let l = c.loop-i in
     let s = c.sweep_at-v in
-    P.sweeping-turn a.mark a.seq a.whole.now a.out.now a.w.at a.w.left a.marks.now c.requires.1 (omega (arith, l.invariant.same-marks)) l.invariant s.ensures.words s.ensures.left.0 s.ensures.left.1
+    P.sweeping-turn a.mark a.seq a.whole.now a.out.now a.w.at a.w.left a.marks.now c.requires.1 (omega (arith, l.invariant.same_marks)) l.invariant s.ensures.words s.ensures.left.0 s.ensures.left.1
 
 pub returns : goal.returns
 returns c =
     let a = c.args in
     let l = c.loop-i in
-    let h : length a.marks.now ≤ l.i = omega (arith, l.invariant.same-marks) in (
+    let h : length a.marks.now ≤ l.i = omega (arith, l.invariant.same_marks) in (
       P.swept-words a.mark a.seq a.whole.now a.out.now a.w.at a.w.left a.marks.now h l.invariant,
       (
         P.swept-left a.mark a.seq a.whole.now a.out.now a.w.at a.w.left a.marks.now h l.invariant,
