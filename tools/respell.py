@@ -18,12 +18,13 @@ NAME = re.compile(r"[^\s(){}.;,@\"«»]+")
 CAMEL = re.compile(r"(?<![\w'])[a-z][a-z0-9]*[A-Z][A-Za-z0-9]*(?![\w'])")
 STRING = re.compile(r'"(?:[^"\\]|\\.)*"')
 # Facts, whose names are a type's; and of two definitions that would fall together the one that gives way.
-GIVEN = {"filling": "Filling", "sent-of": "sent_piece_of", "boxOf": "box_at_slot"}
+GIVEN = {"filling": "Filling", "sent-of": "sent_piece_of", "burst-words": "sent_words", "boxOf": "box_at_slot"}
 
 
 def files(ending):
     for folder, dirs, names in os.walk("crates"):
-        dirs[:] = sorted(d for d in dirs if d not in ("out", "data"))
+        # what a check keeps lies in crates/NAME/out, and there is a crate out
+        dirs[:] = sorted(d for d in dirs if d != "data" and not (d == "out" and folder.count("/") == 1))
         for name in sorted(names):
             if name.endswith(ending):
                 yield os.path.join(folder, name)

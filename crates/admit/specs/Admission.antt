@@ -6,7 +6,7 @@ use Rattle.bits.specs.declared.Found.{Found}
 use Rattle.bits.specs.declared.Found.TheVariants.{At, Nothing}
 use Rattle.wire.specs.Call.{key_of}
 use Rattle.queue.specs.Queues.{empty_queue}
-use Rattle.out.specs.Encode.{eventWord}
+use Rattle.out.specs.Encode.{event_word}
 use Rattle.roster.specs.Members.{no_member, new_member}
 use Rattle.net.specs.declared.Station.{Station}
 use Rattle.net.specs.State.{index_of, member_at, with_member, with_used, also_ack, emptied, with_queue}
@@ -44,7 +44,7 @@ slot_of Full = 255
 
 -- event 4 first where it has a relay, then event 1
 abbrev pub admit_events : ℕ → ℕ → List ℕ
-admit_events slot via = cond (eqb via 63) (eventWord 1 slot via ∷ []) (eventWord 4 slot via ∷ eventWord 1 slot via ∷ [])
+admit_events slot via = cond (eqb via 63) (event_word 1 slot via ∷ []) (event_word 4 slot via ∷ event_word 1 slot via ∷ [])
 
 abbrev pub enter_at : Station → ℕ → List ℕ → ℕ → Float → Station
 enter_at s slot call via now =

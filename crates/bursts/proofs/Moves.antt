@@ -16,7 +16,7 @@ use Rattle.bits.proofs.Loops.{fold_keeps}
 use Rattle.level.specs.declared.Level.{Level}
 use Rattle.level.specs.declared.Level.TheVariants.{Unheard, Decibels}
 use Rattle.level.specs.Levels.{is_heard}
-use Rattle.out.specs.Encode.{eventWord}
+use Rattle.out.specs.Encode.{event_word}
 use Rattle.recent.specs.Readings.{no_recent}
 use Rattle.roster.specs.declared.Member.{Member}
 use Rattle.roster.specs.Members.{no_member, rerouted_to}
@@ -45,13 +45,13 @@ promoted_in x i s =
     (set s.recent i (recent_by x (recent_at s i)))
 
 promote_by_lem : (x : Level) (i : ℕ) (s : Station) (ws : List ℕ)
-    → promote_with x i (said s ws) ≡ said (promoted_in x i s) (ws ++ cond (is_heard x) (eventWord 5 i 63 ∷ []) [])
+    → promote_with x i (said s ws) ≡ said (promoted_in x i s) (ws ++ cond (is_heard x) (event_word 5 i 63 ∷ []) [])
 promote_by_lem Unheard i s ws = changed_none s i ws ∙ rw (set-get_or s.recent i no_recent)
 promote_by_lem (Decibels snr) i s ws = refl
 
 -- x: the level at which the boat in slot i was heard directly, where it is to leave its relay
 pub promote_turn : (floor : Float) (i : ℕ) (s : Station) (x : Level) → x ≡ promotable_at (has_bit s.used i) (member_in s i) floor → (ws : List ℕ)
-    → promote_at floor i (said s ws) ≡ said (promoted_in x i s) (ws ++ cond (is_heard x) (eventWord 5 i 63 ∷ []) [])
+    → promote_at floor i (said s ws) ≡ said (promoted_in x i s) (ws ++ cond (is_heard x) (event_word 5 i 63 ∷ []) [])
 unfolding promote_at
 promote_turn floor i s x e ws = ap (λ (y : Level). promote_with y i (said s ws)) (sym e) ∙ promote_by_lem x i s ws
 
@@ -61,17 +61,17 @@ moved_to r c s =
     changed s c (cond (eqb r 63) (member_in s c) (rerouted_to (member_in s c) r)) (cond (not (eqb r 63)) (with_bit s.round.treenews c) s.round.treenews)
 
 move_by : (t : Bool) (r c : ℕ) (s : Station) (ws : List ℕ)
-    → cond t (said s ws) (said (changed s c (rerouted_to (member_in s c) r) (with_bit s.round.treenews c)) (ws ++ (eventWord 5 c r ∷ []))) ≡ said (changed s c (cond t (member_in s c) (rerouted_to (member_in s c) r)) (cond (not t) (with_bit s.round.treenews c) s.round.treenews)) (ws ++ cond (not t) (eventWord 5 c r ∷ []) [])
+    → cond t (said s ws) (said (changed s c (rerouted_to (member_in s c) r) (with_bit s.round.treenews c)) (ws ++ (event_word 5 c r ∷ []))) ≡ said (changed s c (cond t (member_in s c) (rerouted_to (member_in s c) r)) (cond (not t) (with_bit s.round.treenews c) s.round.treenews)) (ws ++ cond (not t) (event_word 5 c r ∷ []) [])
 move_by true r c s ws = changed_none s c ws
 move_by false r c s ws = refl
 
 moves : (down : Bool) (r c : ℕ) (s : Station) (ws : List ℕ)
-    → cond down (move_to r c (said s ws)) (said s ws) ≡ said (moved_to (cond down r 63) c s) (ws ++ cond (not (eqb (cond down r 63) 63)) (eventWord 5 c (cond down r 63) ∷ []) [])
+    → cond down (move_to r c (said s ws)) (said s ws) ≡ said (moved_to (cond down r 63) c s) (ws ++ cond (not (eqb (cond down r 63) 63)) (event_word 5 c (cond down r 63) ∷ []) [])
 moves true r c s ws = move_by (eqb r 63) r c s ws
 moves false r c s ws = changed_none s c ws
 
 pub move_turn : (leaves c : ℕ) (s : Station) (r : ℕ) → r ≡ cond (must_move leaves s c) (new_relay s c) 63 → (ws : List ℕ)
-    → move_at leaves c (said s ws) ≡ said (moved_to r c s) (ws ++ cond (not (eqb r 63)) (eventWord 5 c r ∷ []) [])
+    → move_at leaves c (said s ws) ≡ said (moved_to r c s) (ws ++ cond (not (eqb r 63)) (event_word 5 c r ∷ []) [])
 unfolding move_at
 move_turn leaves c s r e ws = rw e (moves (must_move leaves s c) (new_relay s c) c s ws)
 
@@ -116,7 +116,7 @@ unfolding move_at
 ahead_at leaves ws c x =
     let s = x.station in
     let r = new_relay s c in
-    ahead_by (must_move leaves s c) (eqb r 63) (changed s c (rerouted_to (member_in s c) r) (with_bit s.round.treenews c)) x ws (eventWord 5 c r ∷ [])
+    ahead_by (must_move leaves s c) (eqb r 63) (changed s c (rerouted_to (member_in s c) r) (with_bit s.round.treenews c)) x ws (event_word 5 c r ∷ [])
 
 -- words said before it stand before what it says
 pub move_ahead : (ws : List ℕ) (x : Said) → move_all (ahead ws x) ≡ ahead ws (move_all x)

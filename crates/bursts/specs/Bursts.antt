@@ -11,7 +11,7 @@ use Rattle.level.specs.Order.{is_nan}
 use Rattle.rounding.specs.Round.{announced}
 use Rattle.wire.specs.Call.{pack_call}
 use Rattle.wire.specs.Kinds.{k_poll, k_relay, c_beacon, c_acks, c_tree, c_rxlist}
-use Rattle.out.specs.Encode.{headWord, waveWord, ctrlWords, chunkWords}
+use Rattle.out.specs.Encode.{head_word, wave_word, ctrl_words, chunk_words}
 use Rattle.roster.specs.declared.Member.{Member}
 use Rattle.roster.specs.Members.{is_news, told_now, down_or_up}
 use Rattle.net.specs.declared.Station.{Station}
@@ -23,7 +23,7 @@ use Rattle.bursts.specs.Rows.{member_in, least_of, ack_rows, ack_rows_on, tree_r
 
 -- the head of a burst, and of one without frames
 abbrev pub head_words : ℕ → ℕ → ℕ → ℕ → List ℕ
-head_words code hi extra level = headWord code hi extra ∷ waveWord level ∷ []
+head_words code hi extra level = head_word code hi extra ∷ wave_word level ∷ []
 
 abbrev pub tiny_words : ℕ → ℕ → ℕ → List ℕ
 tiny_words kind extra level = head_words 62 kind extra level
@@ -77,13 +77,13 @@ acks_level s = floor_if (strays s) (least_reach s (acked_or_moved s))
 
 -- `ack_frames`: C_ACKS frames of three entries
 abbrev pub ack_frames : List ℕ → List ℕ
-ack_frames rows = chunkWords c_acks 18 rows
+ack_frames rows = chunk_words c_acks 18 rows
 
 -- then C_TREE frames of ten pairs
 abbrev pub acks_words : Station → List ℕ
 acks_words s =
     head_words 0 0 0 (acks_level s)
-    ++ (ack_frames (ack_rows s (acked s) 62) ++ chunkWords c_tree 20 (tree_rows s (acked_or_moved s) (moved_in s)))
+    ++ (ack_frames (ack_rows s (acked s) 62) ++ chunk_words c_tree 20 (tree_rows s (acked_or_moved s) (moved_in s)))
 
 unfoldable pub acks_burst : Station → Said
 acks_burst s = said (with_round (sends s) (with_treenews (with_toack s.round 0) 0)) (acks_words s)
@@ -158,7 +158,7 @@ beacon_acks s = (length (beacon_rows s) + 17) / 18
 
 abbrev pub beacon_words : Station → List ℕ
 beacon_words s =
-    head_words 0 0 0 s.settings.beaconlevel ++ (ctrlWords (beacon_payload s.settings (beacon_acks s)) ++ ack_frames (beacon_rows s))
+    head_words 0 0 0 s.settings.beaconlevel ++ (ctrl_words (beacon_payload s.settings (beacon_acks s)) ++ ack_frames (beacon_rows s))
 
 -- now + dur + turnaround + window_slots * slot_len + 0.0 (no chorus) + reply_slack, of a beacon with this many frames after the first
 abbrev pub window_end : Settings → Float → ℕ → Float
@@ -191,7 +191,7 @@ abbrev pub list_told : Station → Station
 list_told s = tell_all (with_round s (with_rxdirty s.round false))
 
 abbrev pub list_words : Station → List ℕ
-list_words s = head_words 0 0 0 (least_direct s) ++ chunkWords c_rxlist 21 (list_rows s)
+list_words s = head_words 0 0 0 (least_direct s) ++ chunk_words c_rxlist 21 (list_rows s)
 
 -- C_RXLIST frames of seven entries, where there is news; what it would tell is noted all the same
 unfoldable pub rx_list_burst : Station → Said

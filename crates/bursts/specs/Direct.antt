@@ -6,7 +6,7 @@ use Rattle.bits.specs.declared.Found.{Found}
 use Rattle.bits.specs.declared.Found.TheVariants as found
 use Rattle.wire.specs.Kinds.{t_down}
 use Rattle.words.specs.Words.{least}
-use Rattle.out.specs.Encode.{frameWords}
+use Rattle.out.specs.Encode.{frame_words}
 use Rattle.queue.specs.declared.Queue.{Queue}
 use Rattle.queue.specs.Queues.{empty_queue, first_of, is_due, sent_in, bytes_from}
 use Rattle.net.specs.declared.Station.{Station}
@@ -43,7 +43,7 @@ payload_at g level = least (get_or g.payloads level 0) 255
 
 -- T_DOWN and the slot, the offset of the first byte (24 bits), the bytes
 abbrev pub down_frame : List ℕ → ℕ → ℕ → ℕ → List ℕ
-down_frame queue slot o n = frameWords (64 * t_down + slot % 64) (o % 16777216) (bytes_from queue slot o n)
+down_frame queue slot o n = frame_words (64 * t_down + slot % 64) (o % 16777216) (bytes_from queue slot o n)
 
 -- the bytes from o on up to `last`, in k frames at most of `max` bytes each
 unfoldable pub down_frames : ℕ → List ℕ → ℕ → ℕ → ℕ → ℕ → List ℕ

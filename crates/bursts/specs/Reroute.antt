@@ -6,7 +6,7 @@ use Rattle.bits.specs.Loop.{fold}
 use Rattle.bits.specs.Mask.{has_bit, without_bit}
 use Rattle.level.specs.declared.Level.{Level}
 use Rattle.level.specs.declared.Level.TheVariants.{Unheard, Decibels}
-use Rattle.out.specs.Encode.{eventWord}
+use Rattle.out.specs.Encode.{event_word}
 use Rattle.recent.specs.declared.Recent.{Recent}
 use Rattle.recent.specs.Readings.{empty}
 use Rattle.roster.specs.declared.Member.{Member}
@@ -69,7 +69,7 @@ abbrev pub promote_with : Level → ℕ → Said → Said
 promote_with Unheard i x = x
 promote_with (Decibels snr) i x =
     said (also_news (emptied (with_member_in x.station i (promoted_at (member_in x.station i) snr)) i) i)
-    (x.words ++ (eventWord 5 i 63 ∷ []))
+    (x.words ++ (event_word 5 i 63 ∷ []))
 
 unfoldable pub promote_at : Float → ℕ → Said → Said
 promote_at floor i x = promote_with (promotable_at (has_bit x.station.used i) (member_in x.station i) floor) i x
@@ -101,7 +101,7 @@ abbrev pub move_to : ℕ → ℕ → Said → Said
 move_to r c x =
     cond (eqb r 63) x
     (said (also_news (with_member_in x.station c (rerouted_to (member_in x.station c) r)) c)
-    (x.words ++ (eventWord 5 c r ∷ [])))
+    (x.words ++ (event_word 5 c r ∷ [])))
 
 -- slot c is one of the leaves, and to be moved
 abbrev pub must_move : ℕ → Station → ℕ → Bool

@@ -2,7 +2,7 @@
 // hears them. And what one look over the members finds for the choice of relays.
 ghost use Rattle.std.specs.Prelude.{◌≡◌, cond, [], ◌∷◌, eqb};
 ghost use Rattle.bits.specs.Mask.{with_bit, without_bit};
-ghost use Rattle.out.specs.Encode.{Wrote, eventWord};
+ghost use Rattle.out.specs.Encode.{Wrote, event_word};
 ghost use Rattle.roster.specs.Members.{rerouted_to};
 ghost use Rattle.net.specs.Net.{Did, said};
 ghost use Rattle.bursts.specs.Reroute.{able_of, survey_of, promoted_by, recent_by, promote_all, leaves_of, is_down, relay_from, move_all, reroute_of};
@@ -70,7 +70,7 @@ fn recent_by(r: Recent, x: Level) -> Recent
 
 // Event 5, where a boat moved.
 fn routed(moved: bool, slot: usize, via: u8, o: &mut [u32], at: usize) -> usize
-    ensures { Wrote o.old at (cond moved (eventWord 5 slot via ∷ []) []) o.new result }
+    ensures { Wrote o.old at (cond moved (event_word 5 slot via ∷ []) []) o.new result }
 {
     if moved {
         return out::put_event(o, at, 5, slot, via);

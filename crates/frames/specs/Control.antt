@@ -7,7 +7,7 @@ use Rattle.level.specs.declared.Level.{Level}
 use Rattle.level.specs.declared.Level.TheVariants.{Unheard, Decibels}
 use Rattle.recent.specs.declared.Recent.{Recent}
 use Rattle.recent.specs.Readings.{empty, noted}
-use Rattle.out.specs.Encode.{missedWord}
+use Rattle.out.specs.Encode.{missed_word}
 use Rattle.roster.specs.declared.Member.{Member}
 use Rattle.roster.specs.Members.{with_heard, with_down, with_caps, with_version, received_at, reached_at, missed_one, is_willing}
 use Rattle.net.specs.declared.Station.{Station}
@@ -145,7 +145,7 @@ abbrev pub kid_member : Air → ℕ → Member → Member
 kid_member a b m = cond (leb 128 b) (reached_at m (snr_from_q b) a.time) (missed_one m)
 
 abbrev pub kid_events : ℕ → ℕ → List ℕ
-kid_events c b = cond (leb 128 b) [] (missedWord c ∷ [])
+kid_events c b = cond (leb 128 b) [] (missed_word c ∷ [])
 
 -- what the entry makes of the boat's readings: the level that it names is one more, nothing heard makes them none
 abbrev pub heard_as : Level → Recent → Recent

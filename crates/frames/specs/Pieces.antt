@@ -1,7 +1,7 @@
 -- `ncs_rx` of ncs.rs, T_UP: a boat's piece, kept or not, and what lands. Messages that claim too much are document 02's, U4.
 use Rattle.std.specs.Prelude.{ℕ, ◌+◌, Bool, true, not, cond, ◌&&◌, List, [], ◌∷◌, ◌++◌, eqb, Float}
 use Rattle.bits.specs.Mask.{has_bit, with_bit}
-use Rattle.out.specs.Encode.{eventWord, messageWord}
+use Rattle.out.specs.Encode.{event_word, message_word}
 use Rattle.inbox.specs.declared.store.Landed.{Landed}
 use Rattle.inbox.specs.declared.store.Landed.TheVariants.{Bytes, NotYet}
 use Rattle.stream.specs.Table.{Accepted, accept, bars, has_landed}
@@ -41,7 +41,7 @@ is_relayed a s slot r = has_landed r.landed && not (eqb a.polled slot) && is_mem
 abbrev pub piece_events : Air → Station → ℕ → Accepted → List ℕ
 piece_events a s slot r =
     cond (has_landed r.landed)
-    (cond (is_relayed a s slot r) (eventWord 4 slot a.polled ∷ messageWord slot r.cell r.number ∷ []) (messageWord slot r.cell r.number ∷ [])) []
+    (cond (is_relayed a s slot r) (event_word 4 slot a.polled ∷ message_word slot r.cell r.number ∷ []) (message_word slot r.cell r.number ∷ [])) []
 
 abbrev pub relay_if : Bool → Station → Station
 relay_if given s = cond given (one_relay (with_round s (with_rxdirty s.round true))) s

@@ -9,7 +9,7 @@ use lib.Ieee.{Float}
 use lib.ListN.{length, get_or}
 use Rattle.bits.proofs.Lists.{cond_keeps}
 use Rattle.wire.specs.Kinds.{k_close, k_pollack, k_ack, c_acks, c_tree, c_rxlist}
-use Rattle.out.specs.Encode.{ctrlWords, chunkWords}
+use Rattle.out.specs.Encode.{ctrl_words, chunk_words}
 use Rattle.roster.specs.declared.Member.{Member}
 use Rattle.queue.specs.declared.Queue.{Queue}
 use Rattle.queue.specs.Queues.{empty_queue, first_of}
@@ -50,14 +50,14 @@ payload_most g acks = cond_keeps (λ (t : List ℕ). length (name_payload g ++ t
 acks_other : (s : Station) → Other (acks_burst s).words
 unfolding acks_burst
 acks_other s =
-    other_burst 0 0 0 (acks_level s) (chunkWords c_acks 18 (ack_rows s (acked s) 62) ++ chunkWords c_tree 20 (tree_rows s (acked_or_moved s) (moved_in s)))
+    other_burst 0 0 0 (acks_level s) (chunk_words c_acks 18 (ack_rows s (acked s) 62) ++ chunk_words c_tree 20 (tree_rows s (acked_or_moved s) (moved_in s)))
     (other_both (other_rows c_acks 18 (ack_rows s (acked s) 62) (omega arith)) (other_rows c_tree 20 (tree_rows s (acked_or_moved s) (moved_in s)) (omega arith)))
 
 beacon_other : (s : Station) (now : Float) → Other (beacon_of s now).words
 unfolding beacon_of
 beacon_other s now =
     let p = beacon_payload s.settings (beacon_acks s) in
-    other_burst 0 0 0 s.settings.beaconlevel (ctrlWords p ++ chunkWords c_acks 18 (beacon_rows s))
+    other_burst 0 0 0 s.settings.beaconlevel (ctrl_words p ++ chunk_words c_acks 18 (beacon_rows s))
     (other_both (other_ctrl p (payload_most s.settings (beacon_acks s))) (other_rows c_acks 18 (beacon_rows s) (omega arith)))
 
 -- members and queues stay
@@ -81,7 +81,7 @@ module _ {F : Type 0} {now : Float} {lent : List ℕ} {s : Station} (P : Said �
   sends_cases (Sends.acks f e) = other (acks_burst s) (refl, refl) (acks_other s)
   sends_cases (Sends.list f e) =
       other _ ((reach_told uncelled s).boats (λ n. n))
-      (other_burst 0 0 0 (least_direct s) (chunkWords c_rxlist 21 (list_rows s)) (other_rows c_rxlist 21 (list_rows s) (omega arith)))
+      (other_burst 0 0 0 (least_direct s) (chunk_words c_rxlist 21 (list_rows s)) (other_rows c_rxlist 21 (list_rows s) (omega arith)))
   sends_cases (Sends.word f e slot here) = back f slot here
   sends_cases (Sends.poll e slot h) = other _ (refl, refl) (poll_other s.settings (is_member s.used slot) (member_at s slot) slot (source_for s slot) false)
   sends_cases (Sends.pollack r n heard e l) = other _ (refl, refl) (other_tiny k_pollack _ _)

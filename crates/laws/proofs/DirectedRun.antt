@@ -8,7 +8,7 @@ use lib.ListN.{length, take, drop, get_or}
 use Rattle.words.specs.Words.{word_ok, payload_ok, unpack, payload, frame_of, item_at}
 use Rattle.words.specs.declared.Item.{Item}
 use Rattle.words.specs.declared.Item.TheVariants.{End, Bad, Lost, Frame}
-use Rattle.out.specs.Encode.{pack, frameWords}
+use Rattle.out.specs.Encode.{pack, frame_words}
 use Rattle.inbox.specs.Messages.{framed}
 use Rattle.laws.specs.Directed.{also_posted, emptied_at, begins_down, Carries, DownFrames}
 
@@ -56,7 +56,7 @@ unfolding DownFrames
 first posted told w ws e d = d.0 e
 
 abbrev to_one_lem : ℕ → List ℕ → List ℕ
-to_one_lem field p = frameWords 65 field p
+to_one_lem field p = frame_words 65 field p
 
 module _ (told : ℕ → ℕ) (bytes : ℕ → List ℕ) (field : ℕ) (p : List ℕ) (e : item_at (to_one_lem field p) ≡ Frame 65 field (length p)) (b : begins_down (0xa0000000 + 65 * 256 + length p) ≡ true) where
   says : DownFrames bytes told (to_one_lem field p) → Says bytes told (to_one_lem field p) 1 field (length p)

@@ -16,7 +16,7 @@ use Rattle.wire.specs.Fields.{field_db, snr_from_q}
 use Rattle.wire.specs.Kinds.{tiny, k_idle, c_report}
 use Rattle.words.specs.Words.{heard, word_ok, payload_ok, unpack, payload, frame_of, item_at, frames_of, head_ok, parse}
 use Rattle.words.specs.Fine.{Bytes}
-use Rattle.out.specs.Encode.{pack, framesWords, chunks_of, burstWords, frameWords}
+use Rattle.out.specs.Encode.{pack, frames_words, chunks_of, burst_words, frame_words}
 use Rattle.inbox.specs.Messages.{framed}
 use Rattle.roster.specs.Members.{tally}
 use Rattle.roster.specs.Relays.{heard_at, best_high, relay_src_for, turn_over}
@@ -63,10 +63,10 @@ joins = admission (0 ∷ 0 ∷ 0 ∷ 0 ∷ 1 ∷ []) 63 nil 8192
 
 -- the boat in slot 0 says K_IDLE; and a report of it that it holds two bytes
 abbrev idle : Call
-idle = reception (burstWords (record { head = record { code = tiny; hi = k_idle; extra = 0 }; frames = [] })) nil nil handed 8192 []
+idle = reception (burst_words (record { head = record { code = tiny; hi = k_idle; extra = 0 }; frames = [] })) nil nil handed 8192 []
 
 abbrev holds_two : Call
-holds_two = reception (burstWords (record { head = record { code = 0; hi = 8; extra = 0 }; frames = heard 191 0 (c_report ∷ 0 ∷ 0 ∷ 0 ∷ 0 ∷ 0 ∷ 0 ∷ 0 ∷ 0 ∷ 2 ∷ 0 ∷ 0 ∷ []) ∷ [] })) nil nil handed 8192 (0 ∷ [])
+holds_two = reception (burst_words (record { head = record { code = 0; hi = 8; extra = 0 }; frames = heard 191 0 (c_report ∷ 0 ∷ 0 ∷ 0 ∷ 0 ∷ 0 ∷ 0 ∷ 0 ∷ 0 ∷ 2 ∷ 0 ∷ 0 ∷ []) ∷ [] })) nil nil handed 8192 (0 ∷ [])
 
 abbrev desk : List Call → Desk → Desk
 desk [] d = d
@@ -102,22 +102,22 @@ wide = desk (joins ∷ posting 0 (300 ∷ []) none ∷ decision nil (put_bytes n
 
 pub record DirectedTrace : Type 0 where
   -- the first burst: the bytes from 0 on, in two frames
-  pub sent : (outcome (decision nil one 8192) at.net).words ≡ head_words 0 0 0 0 ++ (frameWords 64 0 (2 ∷ 0 ∷ []) ++ frameWords 64 2 (104 ∷ 105 ∷ []))
+  pub sent : (outcome (decision nil one 8192) at.net).words ≡ head_words 0 0 0 0 ++ (frame_words 64 0 (2 ∷ 0 ∷ []) ++ frame_words 64 2 (104 ∷ 105 ∷ []))
   -- what was posted, and what was reported
   pub posted : then.posted 0 ≡ 2 ∷ 0 ∷ 104 ∷ 105 ∷ 1 ∷ 0 ∷ 33 ∷ []
   pub told : then.told 0 ≡ 2
   -- the next round's: from byte 2 on
-  pub again : (outcome (decision nil two 8192) then.net).words ≡ head_words 0 0 0 0 ++ (frameWords 64 2 (104 ∷ 105 ∷ []) ++ frameWords 64 4 (1 ∷ 0 ∷ []))
+  pub again : (outcome (decision nil two 8192) then.net).words ≡ head_words 0 0 0 0 ++ (frame_words 64 2 (104 ∷ 105 ∷ []) ++ frame_words 64 4 (1 ∷ 0 ∷ []))
   -- the slot's next holder: nothing of the former boat's
   pub anew : later.posted 0 ≡ 1 ∷ 0 ∷ 8 ∷ []
   pub untold : later.told 0 ≡ 0
-  pub next_holder : (outcome (decision nil three 8192) later.net).words ≡ head_words 0 0 0 0 ++ (frameWords 64 0 (1 ∷ 0 ∷ []) ++ frameWords 64 2 (8 ∷ []))
+  pub next_holder : (outcome (decision nil three 8192) later.net).words ≡ head_words 0 0 0 0 ++ (frame_words 64 0 (1 ∷ 0 ∷ []) ++ frame_words 64 2 (8 ∷ []))
   -- where somebody else wrote the queue, and where a message is no bytes, other bytes are sent
-  pub overwritten : (outcome (decision nil none 8192) at.net).words ≡ head_words 0 0 0 0 ++ (frameWords 64 0 (0 ∷ 0 ∷ []) ++ frameWords 64 2 (0 ∷ 0 ∷ []))
-  pub too_wide : (outcome (decision nil wide.queue 8192) wide.net).words ≡ head_words 0 0 0 0 ++ (frameWords 64 0 (1 ∷ 0 ∷ []) ++ frameWords 64 2 (44 ∷ []))
+  pub overwritten : (outcome (decision nil none 8192) at.net).words ≡ head_words 0 0 0 0 ++ (frame_words 64 0 (0 ∷ 0 ∷ []) ++ frame_words 64 2 (0 ∷ 0 ∷ []))
+  pub too_wide : (outcome (decision nil wide.queue 8192) wide.net).words ≡ head_words 0 0 0 0 ++ (frame_words 64 0 (1 ∷ 0 ∷ []) ++ frame_words 64 2 (44 ∷ []))
 
 pub directed_trace : DirectedTrace
-unfolding size units round sum add sub mul lt le eq of_int of_bits first fold every any has_bit with_bit without_bit both_of either_of minus_of lowest_bit lowest_free slots_of stop level_below digit char trim_start trim_end unpacked shifted field_db snr_from_q word_ok payload_ok unpack payload frame_of item_at frames_of head_ok parse pack framesWords chunks_of tally heard_at best_high relay_src_for turn_over is_member new_station on_tx_done seat_of find_call leads_to poll_burst acks_burst beacon_rows beacon_payload beyond beacon_of tell_all list_sent rx_list_burst tried_of source_for promote_at promote_all move_at move_all reroute_of mask_where rows_on least_reach least_direct poll_stage directed_to is_due list_for draw_stage reroute_stage round_end act_of window_stage again_stage missed_stage due_of ncs_next each_entry report_frame control_by read_frame frame_step read_frames idle_end reply_end ncs_rx admit_refusal admit_of receive_refusal receive_of next_refusal next_of post_refusal post_of space_refusal bytes_from put_bytes down_frames down_burst direct_burst sent_of result step desk_after also_told told_by bereave_at bereave_all clear_at clear_all unhear_at unhear_all sign_off sign_off_refusal sign_off_of
+unfolding size units round sum add sub mul lt le eq of_int of_bits first fold every any has_bit with_bit without_bit both_of either_of minus_of lowest_bit lowest_free slots_of stop level_below digit char trim_start trim_end unpacked shifted field_db snr_from_q word_ok payload_ok unpack payload frame_of item_at frames_of head_ok parse pack frames_words chunks_of tally heard_at best_high relay_src_for turn_over is_member new_station on_tx_done seat_of find_call leads_to poll_burst acks_burst beacon_rows beacon_payload beyond beacon_of tell_all list_sent rx_list_burst tried_of source_for promote_at promote_all move_at move_all reroute_of mask_where rows_on least_reach least_direct poll_stage directed_to is_due list_for draw_stage reroute_stage round_end act_of window_stage again_stage missed_stage due_of ncs_next each_entry report_frame control_by read_frame frame_step read_frames idle_end reply_end ncs_rx admit_refusal admit_of receive_refusal receive_of next_refusal next_of post_refusal post_of space_refusal bytes_from put_bytes down_frames down_burst direct_burst sent_of result step desk_after also_told told_by bereave_at bereave_all clear_at clear_all unhear_at unhear_all sign_off sign_off_refusal sign_off_of
 directed_trace = record { sent = refl; posted = refl; told = refl; again = refl; anew = refl; untold = refl; next_holder = refl; overwritten = refl; too_wide = refl }
 
 -- the run meets the premises
@@ -128,6 +128,6 @@ more : Bytes (33 ∷ [])
 more = Bytes.more {b = 33} (omega arith) Bytes.none
 
 pub trace_lent : QueuesLent (before ++ (between ++ (decision nil two 8192 ∷ []))) from
-unfolding size units round sum add sub mul lt le eq of_int of_bits first fold every any has_bit with_bit without_bit both_of either_of minus_of lowest_bit lowest_free slots_of stop level_below digit char trim_start trim_end unpacked shifted field_db snr_from_q word_ok payload_ok unpack payload frame_of item_at frames_of head_ok parse pack framesWords chunks_of tally heard_at best_high relay_src_for turn_over is_member new_station on_tx_done seat_of find_call leads_to poll_burst acks_burst beacon_rows beacon_payload beyond beacon_of tell_all list_sent rx_list_burst tried_of source_for promote_at promote_all move_at move_all reroute_of mask_where rows_on least_reach least_direct poll_stage directed_to is_due list_for draw_stage reroute_stage round_end act_of window_stage again_stage missed_stage due_of ncs_next each_entry report_frame control_by read_frame frame_step read_frames idle_end reply_end ncs_rx admit_refusal admit_of receive_refusal receive_of next_refusal next_of post_refusal post_of space_refusal bytes_from put_bytes down_frames down_burst direct_burst sent_of result step desk_after also_told told_by QueuesLent
+unfolding size units round sum add sub mul lt le eq of_int of_bits first fold every any has_bit with_bit without_bit both_of either_of minus_of lowest_bit lowest_free slots_of stop level_below digit char trim_start trim_end unpacked shifted field_db snr_from_q word_ok payload_ok unpack payload frame_of item_at frames_of head_ok parse pack frames_words chunks_of tally heard_at best_high relay_src_for turn_over is_member new_station on_tx_done seat_of find_call leads_to poll_burst acks_burst beacon_rows beacon_payload beyond beacon_of tell_all list_sent rx_list_burst tried_of source_for promote_at promote_all move_at move_all reroute_of mask_where rows_on least_reach least_direct poll_stage directed_to is_due list_for draw_stage reroute_stage round_end act_of window_stage again_stage missed_stage due_of ncs_next each_entry report_frame control_by read_frame frame_step read_frames idle_end reply_end ncs_rx admit_refusal admit_of receive_refusal receive_of next_refusal next_of post_refusal post_of space_refusal bytes_from put_bytes down_frames down_burst direct_burst sent_of result step desk_after also_told told_by QueuesLent
 trace_lent =
     (tt, (((λ _. refl), hi), ((λ _. refl), (tt, ((λ _. refl), (tt, (tt, (((λ _. refl), more), ((λ _. refl), (tt, (tt, ((λ _. refl), tt))))))))))))

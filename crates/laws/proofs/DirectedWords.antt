@@ -14,8 +14,8 @@ use Rattle.wire.specs.Kinds.{t_down}
 use Rattle.words.specs.Words.{unpack, payload, least}
 use Rattle.words.specs.Fine.{Bytes}
 use Rattle.words.proofs.Fine.{take_bytes}
-use Rattle.out.specs.Encode.{headWord, waveWord, word12, pack, ctrlWords, chunks_of, chunkSize, chunkWords}
-use Rattle.out.proofs.Pack.{length-take-most}
+use Rattle.out.specs.Encode.{head_word, wave_word, word12, pack, ctrl_words, chunks_of, chunk_size, chunk_words}
+use Rattle.out.proofs.Pack.{length_take_most}
 use Rattle.out.proofs.Trip.{item_back}
 use Rattle.queue.specs.Queues.{place_of, bytes_from}
 use Rattle.queue.proofs.Laws.{length_bytes}
@@ -53,7 +53,7 @@ other_pack (a ∷ b ∷ []) = Other.more (above_frame (word12 a b 0) (omega arit
 other_pack (a ∷ b ∷ c ∷ l) = Other.more (above_frame (word12 a b c) (omega arith)) (other_pack l)
 
 -- a control frame
-pub other_ctrl : (p : List ℕ) → length p ≤ 255 → Other (ctrlWords p)
+pub other_ctrl : (p : List ℕ) → length p ≤ 255 → Other (ctrl_words p)
 other_ctrl p h =
     let w = 0xa0000000 + 0xbf * 256 + length p in
     let e : w / 268435456 ≡ 10 = omega arith in
@@ -66,14 +66,14 @@ module _ (kind size : ℕ) (few : size ≤ 31) where
   other_chunks zero l = Other.none
   other_chunks (suc k) [] = Other.none
   other_chunks (suc k) (b ∷ l) =
-      other_both (other_ctrl (kind ∷ take size (b ∷ l)) (omega (arith, length-take-most size (b ∷ l)))) (other_chunks k (drop size (b ∷ l)))
+      other_both (other_ctrl (kind ∷ take size (b ∷ l)) (omega (arith, length_take_most size (b ∷ l)))) (other_chunks k (drop size (b ∷ l)))
 
-pub other_rows : (kind size : ℕ) (l : List ℕ) → chunkSize size ≤ 31 → Other (chunkWords kind size l)
-other_rows kind size l h = other_chunks kind (chunkSize size) h (length l) l
+pub other_rows : (kind size : ℕ) (l : List ℕ) → chunk_size size ≤ 31 → Other (chunk_words kind size l)
+other_rows kind size l h = other_chunks kind (chunk_size size) h (length l) l
 
 pub other_burst : (code hi extra level : ℕ) (fs : List ℕ) → Other fs → Other (head_words code hi extra level ++ fs)
 other_burst code hi extra level fs o =
-    Other.more (below_frame (headWord code hi extra) (omega arith)) (Other.more (below_frame (waveWord level) (omega arith)) o)
+    Other.more (below_frame (head_word code hi extra) (omega arith)) (Other.more (below_frame (wave_word level) (omega arith)) o)
 
 pub other_tiny : (kind extra level : ℕ) → Other (tiny_words kind extra level)
 other_tiny kind extra level = other_burst 62 kind extra level [] Other.none

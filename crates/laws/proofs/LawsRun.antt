@@ -16,7 +16,7 @@ use Rattle.level.specs.Levels.{smoothed}
 use Rattle.wire.specs.Call.{digit, char, trim_start, trim_end, unpacked, pack_call}
 use Rattle.wire.specs.Numbers.{widened, widened_at}
 use Rattle.words.specs.Words.{Heard, heard, word_ok, payload_ok, unpack, payload, frame_of, item_at, frames_of, head_ok, parse}
-use Rattle.out.specs.Encode.{pack, framesWords, burstWords}
+use Rattle.out.specs.Encode.{pack, frames_words, burst_words}
 use Rattle.inbox.specs.Cells.{Held, seek, next, grow, settle, store, await}
 use Rattle.inbox.specs.Cells as cells
 use Rattle.inbox.specs.Messages.{Piece, accept_all, framed, Cut, shows_of}
@@ -119,7 +119,7 @@ pub record PartsRun (n : Net) : Type 0 where
   pub joined : (accept_all (cell_now (after some_of_hi n) 0) (from 3 (105 ∷ []) ∷ from 2 (104 ∷ []) ∷ [])).cell.joined ≡ 4
 
 pub parts_run : (g : Settings) → PartsRun (three_cells g)
-unfolding step after result admit_of admit_refusal new_station seat_of find_call first lowest_free has_bit with_bit without_bit leads_to unpacked digit char trim_start trim_end receive_of receive_refusal parse head_ok frames_of item_at frame_of payload unpack payload_ok word_ok pack framesWords ncs_rx read_frames frame_step read_frame piece_frame reply_end is_member accept widened widened_at own_cell put_of cells.accept shows_of settle grow store await seek next stop went_all went_with in_cells StoresOk
+unfolding step after result admit_of admit_refusal new_station seat_of find_call first lowest_free has_bit with_bit without_bit leads_to unpacked digit char trim_start trim_end receive_of receive_refusal parse head_ok frames_of item_at frame_of payload unpack payload_ok word_ok pack frames_words ncs_rx read_frames frame_step read_frame piece_frame reply_end is_member accept widened widened_at own_cell put_of cells.accept shows_of settle grow store await seek next stop went_all went_with in_cells StoresOk
 parts_run g =
     record {
       alone = (tt, (tt, tt));
@@ -137,7 +137,7 @@ abbrev anew : List Call
 anew = joins ∷ hears (heard 0 0 (0 ∷ 0 ∷ []) ∷ []) (0 ∷ []) ∷ freeing 0 ∷ hears (heard 0 65536 (2 ∷ 0 ∷ []) ∷ []) (1 ∷ []) ∷ []
 
 pub anew_run : (g : Settings) → pieces anew (three_cells g) ≡ from 0 (2 ∷ 0 ∷ []) ∷ []
-unfolding step after result admit_of admit_refusal new_station seat_of find_call first lowest_free has_bit with_bit leads_to unpacked digit char trim_start trim_end receive_of receive_refusal parse head_ok frames_of item_at frame_of payload unpack payload_ok word_ok pack framesWords ncs_rx read_frames frame_step read_frame piece_frame reply_end is_member accept widened widened_at own_cell put_of cells.accept shows_of settle grow store await seek next stop went_all went_with in_cells StoresOk slide_of free_of cell_refusal without_bit
+unfolding step after result admit_of admit_refusal new_station seat_of find_call first lowest_free has_bit with_bit leads_to unpacked digit char trim_start trim_end receive_of receive_refusal parse head_ok frames_of item_at frame_of payload unpack payload_ok word_ok pack frames_words ncs_rx read_frames frame_step read_frame piece_frame reply_end is_member accept widened widened_at own_cell put_of cells.accept shows_of settle grow store await seek next stop went_all went_with in_cells StoresOk slide_of free_of cell_refusal without_bit
 anew_run g = refl
 
 -- ---- its premises are needed
@@ -155,7 +155,7 @@ abbrev rewritten : List Call
 rewritten =
     joins
     ∷ hears (heard 0 0 (2 ∷ 0 ∷ []) ∷ heard 0 3 (105 ∷ []) ∷ []) (0 ∷ 0 ∷ [])
-    ∷ reception (burstWords (record { head = record { code = 0; hi = 0; extra = 0 }; frames = [] })) zero_time zero_time (another (replicate 19200 9)) 8192 []
+    ∷ reception (burst_words (record { head = record { code = 0; hi = 0; extra = 0 }; frames = [] })) zero_time zero_time (another (replicate 19200 9)) 8192 []
     ∷ []
 
 -- or there is no place: 16 bytes of one message wait, and the second part, which comes first, finds none
@@ -175,7 +175,7 @@ pub record PartsNeeded (n : Net) : Type 0 where
   pub no_place : SameJoined (accept_all (crowded n) (from 2 (7 ∷ 7 ∷ []) ∷ from 0 (60 ∷ 0 ∷ []) ∷ [])) (accept_all (crowded n) (from 0 (60 ∷ 0 ∷ 7 ∷ 7 ∷ []) ∷ [])) → ⊥
 
 pub parts_needed : (g : Settings) → PartsNeeded (three_cells g)
-unfolding step after result admit_of admit_refusal new_station seat_of find_call first lowest_free has_bit with_bit without_bit leads_to unpacked digit char trim_start trim_end receive_of receive_refusal parse head_ok frames_of item_at frame_of payload unpack payload_ok word_ok pack framesWords ncs_rx read_frames frame_step read_frame piece_frame reply_end is_member accept widened widened_at own_cell put_of cells.accept shows_of settle grow store await seek next stop went_all went_with in_cells StoresOk
+unfolding step after result admit_of admit_refusal new_station seat_of find_call first lowest_free has_bit with_bit without_bit leads_to unpacked digit char trim_start trim_end receive_of receive_refusal parse head_ok frames_of item_at frame_of payload unpack payload_ok word_ok pack frames_words ncs_rx read_frames frame_step read_frame piece_frame reply_end is_member accept widened widened_at own_cell put_of cells.accept shows_of settle grow store await seek next stop went_all went_with in_cells StoresOk
 parts_needed g =
     record {
       other_byte = λ h. let z : ◌≡◌ {A = ℕ} 9 105 = ap (λ (l : List ℕ). get_or l 3 0) h.bytes in omega arith;

@@ -18,7 +18,7 @@ use Rattle.wire.specs.Call.{bytes_of, packed}
 use Rattle.wire.specs.Kinds.{c_beacon, c_acks, c_tree, c_rxlist}
 use Rattle.words.specs.Fine.{Bytes}
 use Rattle.words.proofs.Fine.{get_or_bytes}
-use Rattle.out.specs.Encode.{ctrlWords, chunkWords}
+use Rattle.out.specs.Encode.{ctrl_words, chunk_words}
 use Rattle.stream.specs.Window.{bitmap_of}
 use Rattle.net.specs.declared.Station.{Station}
 use Rattle.net.specs.declared.Settings.{Settings}
@@ -119,14 +119,14 @@ more_frames : {n k : ℕ} {fs : List ℕ} → Frames n fs → n ≤ k → Frames
 more_frames f h = record { plain = f.plain; good = λ m ws g room q. f.good m ws g room (omega arith) }
 
 pub acks_frames : (s : Station) → LinksHold s
-    → Frames 64 (chunkWords c_acks 18 (ack_rows s (acked s) 62) ++ chunkWords c_tree 20 (tree_rows s (acked_or_moved s) (moved_in s)))
+    → Frames 64 (chunk_words c_acks 18 (ack_rows s (acked s) 62) ++ chunk_words c_tree 20 (tree_rows s (acked_or_moved s) (moved_in s)))
 acks_frames s l =
     let a = ack_rows_lem s (acked s) 62 in
     let t = tree_rows_lem s l in
     more_frames (frames_both (frames_rows c_acks 18 21 _ (omega arith) (omega arith) a.bytes (omega (arith, a.long)))
     (frames_rows c_tree 20 7 _ (omega arith) (omega arith) t.bytes (omega (arith, t.long)))) (omega arith)
 
-pub list_frames : (s : Station) → Frames 64 (chunkWords c_rxlist 21 (list_rows s))
+pub list_frames : (s : Station) → Frames 64 (chunk_words c_rxlist 21 (list_rows s))
 list_frames s = let r = list_rows_lem s in more_frames (frames_rows c_rxlist 21 9 _ (omega arith) (omega arith) r.bytes (omega (arith, r.long))) (omega arith)
 
 -- the settings that a beacon sends as they are
@@ -174,7 +174,7 @@ beacon_row g acks o =
       long = omega (arith, length-append (name_payload g) (timing g acks), t.long, e);
     }
 
-pub beacon_frames : (s : Station) → Sendable s.settings → Frames 64 (ctrlWords (beacon_payload s.settings (beacon_acks s)) ++ chunkWords c_acks 18 (beacon_rows s))
+pub beacon_frames : (s : Station) → Sendable s.settings → Frames 64 (ctrl_words (beacon_payload s.settings (beacon_acks s)) ++ chunk_words c_acks 18 (beacon_rows s))
 beacon_frames s o =
     let a = beacon_rows_lem s in
     let p = beacon_row s.settings (beacon_acks s) o in

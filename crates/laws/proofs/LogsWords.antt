@@ -14,8 +14,8 @@ use Rattle.words.specs.Words.{words_for, head_ok, head_of}
 use Rattle.words.specs.declared.Item.TheVariants.{Frame}
 use Rattle.words.specs.Fine.{Bytes}
 use Rattle.words.proofs.Fine.{take_bytes}
-use Rattle.out.specs.Encode.{headWord, waveWord, word12, pack, ctrlWords, chunks_of, chunkSize, chunkWords, frameWords}
-use Rattle.out.proofs.Pack.{length-take-most}
+use Rattle.out.specs.Encode.{head_word, wave_word, word12, pack, ctrl_words, chunks_of, chunk_size, chunk_words, frame_words}
+use Rattle.out.proofs.Pack.{length_take_most}
 use Rattle.out.proofs.Trip.{item_back, rest_back}
 use Rattle.bursts.specs.Bursts.{head_words, tiny_words}
 use Rattle.logs.specs.Reading.{Entry, part, frame_part, part_of, parts_from, marks_from, sending_by, entries_from, sent_in}
@@ -79,28 +79,28 @@ good_mark w ws e g room h = rw (eq-eqb (w / 268435456) 6 e) (g 0 (omega arith))
 good_head : (code hi extra level : ℕ) (ws : List ℕ) → GoodFrom 64 ws → Good (head_words code hi extra level ++ ws)
 unfolding parts_from part_of head_ok
 good_head code hi extra level ws g room h =
-    let w = headWord code hi extra in
+    let w = head_word code hi extra in
     rw (
       ne_eqb (w / 268435456) 6 (λ e. omega arith),
       eq-eqb (w / 268435456) 8 (omega arith),
       eq-eqb (w / 65536 % 2) 0 (omega arith),
-      eq-eqb (waveWord level / 32) 75497472 (omega arith),
+      eq-eqb (wave_word level / 32) 75497472 (omega arith),
     ) (g 64 (omega arith))
 
 module _ (flags field : ℕ) (fl : flags < 256) (fi : field < 16777216) (p ws : List ℕ) (n : length p < 256) (bs : Bytes p) where
   abbrev w : ℕ
   w = 0xa0000000 + flags * 256 + length p
 
-  frame_part_lem : (room : ℕ) → part_of room (frameWords flags field p ++ ws) ≡ frame_part room (Frame flags field (length p))
+  frame_part_lem : (room : ℕ) → part_of room (frame_words flags field p ++ ws) ≡ frame_part room (Frame flags field (length p))
   unfolding part_of head_ok
   frame_part_lem room =
       rw (ne_eqb (w / 268435456) 6 (λ e. omega arith), ne_eqb (w / 268435456) 8 (λ e. omega arith)) (ap (frame_part room) (item_back flags field p ws fl fi n bs))
 
   -- a frame, where one may follow
-  good_frame : (m : ℕ) → GoodFrom m ws → GoodFrom (suc m) (frameWords flags field p ++ ws)
+  good_frame : (m : ℕ) → GoodFrom m ws → GoodFrom (suc m) (frame_words flags field p ++ ws)
   good_frame m g room h =
-      let q : part_of room (frameWords flags field p ++ ws) ≡ part (2 + words_for (length p)) (room - 1) = frame_part_lem room ∙ cond_false (eqb room 0) _ _ (ne_eqb room 0 (λ e. omega arith)) in
-      parts_more (frameWords flags field p ++ ws) 0 room (part (2 + words_for (length p)) (room - 1)) (sym q) (omega arith) (λ e. omega arith)
+      let q : part_of room (frame_words flags field p ++ ws) ≡ part (2 + words_for (length p)) (room - 1) = frame_part_lem room ∙ cond_false (eqb room 0) _ _ (ne_eqb room 0 (λ e. omega arith)) in
+      parts_more (frame_words flags field p ++ ws) 0 room (part (2 + words_for (length p)) (room - 1)) (sym q) (omega arith) (λ e. omega arith)
       ∙ rw (zero-add (2 + words_for (length p)), rest_back flags field p ws fl fi n bs) (g (room - 1) (omega arith))
 
 -- ---- frames
@@ -123,14 +123,14 @@ frames_both {n} {k} {a} {b} f g =
       good = λ m ws h room q. rw append_assoc (f.good (k + m) (b ++ ws) (g.good m ws h) room (omega arith));
     }
 
-pub frames_one : (flags field : ℕ) → flags < 256 → field < 16777216 → (p : List ℕ) → length p < 256 → Bytes p → Frames 1 (frameWords flags field p)
+pub frames_one : (flags field : ℕ) → flags < 256 → field < 16777216 → (p : List ℕ) → length p < 256 → Bytes p → Frames 1 (frame_words flags field p)
 frames_one flags field fl fi p n bs =
     record {
       plain = Plain.more {w = 0xa0000000 + flags * 256 + length p} (omega arith) (omega arith) (Plain.more {w = 0xb0000000 + field} (omega arith) (omega arith) (plain_pack bs));
       good = λ m ws g room h. good_frame flags field fl fi p ws n bs m g room (omega arith);
     }
 
-pub frames_ctrl : (p : List ℕ) → length p < 256 → Bytes p → Frames 1 (ctrlWords p)
+pub frames_ctrl : (p : List ℕ) → length p < 256 → Bytes p → Frames 1 (ctrl_words p)
 frames_ctrl p n bs = frames_one 0xbf 0 (omega arith) (omega arith) p n bs
 
 drop_bytes : (n : ℕ) {l : List ℕ} → Bytes l → Bytes (drop n l)
@@ -146,13 +146,13 @@ module _ (kind size : ℕ) (byte : kind < 256) (most : size ≤ 31) where
   frames_chunks (suc k) zero (Bytes.more b t) e = absurd (omega arith)
   frames_chunks (suc k) (suc n) {l} (Bytes.more {b = x} {l = m} b t) e =
       let c : length (drop size (x ∷ m)) ≤ n * size = omega (arith, length-drop size (x ∷ m), e) in
-      subst (λ (j : ℕ). Frames j (ctrlWords (kind ∷ take size (x ∷ m)) ++ chunks_of k kind size (drop size (x ∷ m)))) (omega arith)
-      (frames_both (frames_ctrl (kind ∷ take size (x ∷ m)) (omega (arith, length-take-most size (x ∷ m))) (Bytes.more byte (take_bytes size (Bytes.more b t))))
+      subst (λ (j : ℕ). Frames j (ctrl_words (kind ∷ take size (x ∷ m)) ++ chunks_of k kind size (drop size (x ∷ m)))) (omega arith)
+      (frames_both (frames_ctrl (kind ∷ take size (x ∷ m)) (omega (arith, length_take_most size (x ∷ m))) (Bytes.more byte (take_bytes size (Bytes.more b t))))
       (frames_chunks k n (drop_bytes size (Bytes.more b t)) c))
 
 -- rows in control frames of 18, 20 or 21 bytes each
-pub frames_rows : (kind size n : ℕ) (l : List ℕ) → kind < 256 → chunkSize size ≤ 31 → Bytes l → length l ≤ n * chunkSize size → Frames n (chunkWords kind size l)
-frames_rows kind size n l k m bs e = frames_chunks kind (chunkSize size) k m (length l) n bs e
+pub frames_rows : (kind size n : ℕ) (l : List ℕ) → kind < 256 → chunk_size size ≤ 31 → Bytes l → length l ≤ n * chunk_size size → Frames n (chunk_words kind size l)
+frames_rows kind size n l k m bs e = frames_chunks kind (chunk_size size) k m (length l) n bs e
 
 -- ---- bursts
 
@@ -179,27 +179,27 @@ burst_none behind = record { sent = refl; good = λ ws g. g; marks = λ ws. refl
 
 module _ (code hi extra level : ℕ) (fs : List ℕ) (f : Frames 64 fs) where
   abbrev h : ℕ
-  h = headWord code hi extra
+  h = head_word code hi extra
 
   head_sent : sent_in (head_words code hi extra level ++ fs) ≡ head_words code hi extra level ++ fs
   unfolding sent_in
   head_sent =
       let a : h / 268435456 ≡ 8 = omega arith in
-      let b : waveWord level / 268435456 ≡ 9 = omega arith in
+      let b : wave_word level / 268435456 ≡ 9 = omega arith in
       rw (a, b, plain_sent f.plain)
 
   head_marks : (ws : List ℕ) → marks_from 0 ((head_words code hi extra level ++ fs) ++ ws) ≡ marks_from 0 ws
   unfolding marks_from
   head_marks ws =
       let a : h / 268435456 ≡ 8 = omega arith in
-      let b : waveWord level / 268435456 ≡ 9 = omega arith in
+      let b : wave_word level / 268435456 ≡ 9 = omega arith in
       rw (a, b) (plain_marks f.plain ws)
 
   head_read : (ws : List ℕ) → entries_from 0 ((head_words code hi extra level ++ fs) ++ ws) ≡ sending_by (head_of h) ++ entries_from 0 ws
   unfolding entries_from
   head_read ws =
       let a : h / 268435456 ≡ 8 = omega arith in
-      let b : waveWord level / 268435456 ≡ 9 = omega arith in
+      let b : wave_word level / 268435456 ≡ 9 = omega arith in
       rw (a, b, plain_entries f.plain ws)
 
   pub burst_of_lem : (behind : Option ℕ) → Agree (bursts_in (head_words code hi extra level ++ fs)) behind (sending_by (head_of h)) → Burst (head_words code hi extra level ++ fs) behind
@@ -220,7 +220,7 @@ burst_other level fs f e = burst_of_lem 0 0 0 level fs f none (subst (λ (l : Li
 -- one of data, whose code is its level
 pub burst_level : (level : ℕ) (fs : List ℕ) → level < 17 → Frames 64 fs → bursts_in (head_words level 0 0 level ++ fs) ≡ [] → Burst (head_words level 0 0 level ++ fs) none
 burst_level level fs l f e =
-    let w = headWord level 0 0 in
+    let w = head_word level 0 0 in
     let c : w / 2097152 % 128 ≡ level = omega arith in
     burst_of_lem level 0 0 level fs f none
     (subst (λ (x : List Entry). Agree (bursts_in (head_words level 0 0 level ++ fs)) none x) (sym (rw (c, ne_eqb level 62 (λ z. omega arith)))) (subst (λ (x : List TurnEvent). Agree x none []) (sym e) Agree.neither))
@@ -231,9 +231,9 @@ abbrev tiny_entry : ℕ → ℕ → List Entry
 tiny_entry kind slot =
     cond (eqb kind 1 || eqb kind 5) (log.poll slot ∷ []) (cond (eqb kind 2) (log.pollack slot ∷ []) (cond (eqb kind 3) (log.ack slot ∷ []) []))
 
-tiny_entry_lem : (kind extra : ℕ) → kind < 16 → sending_by (head_of (headWord 62 kind extra)) ≡ tiny_entry kind (extra % 64)
+tiny_entry_lem : (kind extra : ℕ) → kind < 16 → sending_by (head_of (head_word 62 kind extra)) ≡ tiny_entry kind (extra % 64)
 tiny_entry_lem kind extra h =
-    let w = headWord 62 kind extra in
+    let w = head_word 62 kind extra in
     let c : w / 2097152 % 128 ≡ 62 = omega arith in
     let n : w / 131072 % 16 ≡ kind = omega arith in
     let x : w % 65536 % 64 ≡ extra % 64 = omega arith in
@@ -243,7 +243,7 @@ burst_tiny : (kind extra level : ℕ) (behind : Option ℕ) → kind < 16 → Ag
     → Burst (tiny_words kind extra level) behind
 burst_tiny kind extra level behind h a =
     burst_of_lem 62 kind extra level [] (frames_none 64) behind
-    (subst (λ (l : List TurnEvent). Agree l behind (sending_by (head_of (headWord 62 kind extra)))) (sym (tiny_head kind extra level h))
+    (subst (λ (l : List TurnEvent). Agree l behind (sending_by (head_of (head_word 62 kind extra)))) (sym (tiny_head kind extra level h))
     (subst (λ (l : List Entry). Agree (tiny_burst kind (extra % 64) ++ []) behind l) (sym (tiny_entry_lem kind extra h)) a))
 
 pub burst_poll : (t : Bool) (extra level : ℕ) → Burst (tiny_words (cond t 1 5) extra level) none

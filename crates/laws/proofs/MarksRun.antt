@@ -12,7 +12,7 @@ use Rattle.bits.proofs.Lists.{le_or_lt}
 use Rattle.wire.specs.Call.{digit, char, trim_start, trim_end, unpacked}
 use Rattle.wire.specs.Numbers.{widened, widened_at}
 use Rattle.words.specs.Words.{word_ok, payload_ok, unpack, payload, frame_of, item_at, frames_of, head_ok, parse}
-use Rattle.out.specs.Encode.{pack, framesWords}
+use Rattle.out.specs.Encode.{pack, frames_words}
 use Rattle.inbox.specs.Cells.{seek, next, grow, settle}
 use Rattle.inbox.specs.Messages.{shows_of}
 use Rattle.inbox.specs.Cells as cells
@@ -50,13 +50,13 @@ pub record MarksRun (g : Settings) : Type 0 where
   pub book_too : rebuilt ((book_after all_empty closed (three_cells g) empty_book).ledger.handed 0) 2 ≡ 1
 
 pub marks_run : (g : Settings) → MarksRun g
-unfolding step after result rebuilt landed_in book_after fold either_of admit_of admit_refusal new_station seat_of find_call first lowest_free has_bit with_bit without_bit leads_to unpacked digit char trim_start trim_end receive_of receive_refusal parse head_ok frames_of item_at frame_of payload unpack payload_ok word_ok pack framesWords ncs_rx read_frames frame_step read_frame piece_frame reply_end is_member accept widened widened_at own_cell put_of cells.accept shows_of settle grow seek next slide_of mark_of stop events_in book_frames book_frame cover also_handed all_below
+unfolding step after result rebuilt landed_in book_after fold either_of admit_of admit_refusal new_station seat_of find_call first lowest_free has_bit with_bit without_bit leads_to unpacked digit char trim_start trim_end receive_of receive_refusal parse head_ok frames_of item_at frame_of payload unpack payload_ok word_ok pack frames_words ncs_rx read_frames frame_step read_frame piece_frame reply_end is_member accept widened widened_at own_cell put_of cells.accept shows_of settle grow seek next slide_of mark_of stop events_in book_frames book_frame cover also_handed all_below
 marks_run g = record { marked = refl; moved = refl; landed = refl; landed_too = refl; book = refl; book_too = refl }
 
 -- the premises hold of it
 
 pub marks_ok_lem : (g : Settings) → CallsOk all_empty closed (three_cells g) empty_book
-unfolding CallsOk step after result admit_of admit_refusal new_station seat_of find_call first lowest_free has_bit with_bit without_bit leads_to unpacked digit char trim_start trim_end receive_of receive_refusal parse head_ok frames_of item_at frame_of payload unpack payload_ok word_ok pack framesWords ncs_rx read_frames frame_step read_frame piece_frame reply_end is_member accept widened widened_at own_cell put_of cells.accept shows_of settle grow seek next slide_of mark_of stop events_in book_frames book_frame cover also_handed all_below
+unfolding CallsOk step after result admit_of admit_refusal new_station seat_of find_call first lowest_free has_bit with_bit without_bit leads_to unpacked digit char trim_start trim_end receive_of receive_refusal parse head_ok frames_of item_at frame_of payload unpack payload_ok word_ok pack frames_words ncs_rx read_frames frame_step read_frame piece_frame reply_end is_member accept widened widened_at own_cell put_of cells.accept shows_of settle grow seek next slide_of mark_of stop events_in book_frames book_frame cover also_handed all_below
 marks_ok_lem g = (
   tt,
   (

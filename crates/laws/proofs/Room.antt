@@ -16,7 +16,7 @@ use Rattle.wire.specs.Call.{unpack_call}
 use Rattle.words.specs.Words.{Heard, lost, heard, Burst, Parsed, malformed, parsed, parse}
 use Rattle.words.specs.Fine.{AllFine, FineBurst}
 use Rattle.words.proofs.Fine.{parse_fine}
-use Rattle.out.proofs.Laws.{after-room}
+use Rattle.out.proofs.Laws.{after_room}
 use Rattle.net.specs.declared.Station.{Station}
 use Rattle.net.specs.State.{member_at}
 use Rattle.net.specs.Net.{is_member, Said}
@@ -96,7 +96,7 @@ written_by false n k f = sym (f refl)
 fits : (o : Outcome) (room : ℕ) → length o.words ≤ 8192 → length o.words ≤ room → Silent o → Fits o room
 fits o room h k f =
     let e : answer_of o room ≡ cond (eqb o.refusal 0) (Words (length o.words)) (Refused o.refusal) =
-    ap (λ (n : ℕ). cond (eqb o.refusal 0) (Words n) (Refused o.refusal)) (after-room room 0 (length o.words) (omega arith) ∙ zero-add (length o.words)) in
+    ap (λ (n : ℕ). cond (eqb o.refusal 0) (Words n) (Refused o.refusal)) (after_room room 0 (length o.words) (omega arith) ∙ zero-add (length o.words)) in
     record {
       most = omega arith;
       fit = k;

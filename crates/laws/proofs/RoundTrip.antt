@@ -14,7 +14,7 @@ use Rattle.bits.proofs.Laws.{with_new, with_same, without_gone, without_there}
 use Rattle.bits.proofs.Lists.{cond_keeps, cond_true, cond_false, and_true, or_elim, never_both}
 use Rattle.bits.proofs.Loops.{fold_keeps_below}
 use Rattle.wire.specs.Call.{unpack_call}
-use Rattle.out.specs.Encode.{eventWord}
+use Rattle.out.specs.Encode.{event_word}
 use Rattle.stream.specs.Table.{Table}
 use Rattle.recent.specs.declared.Recent.{Recent}
 use Rattle.recent.specs.Readings.{no_recent, empty}
@@ -199,7 +199,7 @@ unrefused n s store o e = go (eqb n 0) refl e
     go false q e = absurd (never_both (eqb n 0) (eq-eqb n 0 e) q)
 
 admitted_is : (s : Station) (call : List ℕ) (now : Float) (slot : ℕ) → seat_of s call ≡ Free slot
-    → admitted s call 63 now ≡ said (enter_at s slot call 63 now) (eventWord 1 slot 63 ∷ [])
+    → admitted s call 63 now ≡ said (enter_at s slot call 63 now) (event_word 1 slot 63 ∷ [])
 admitted_is s call now slot q =
     ap (λ (seat : Seat). admit_by seat s call (via_for s seat 63) now) q
     ∙ ap (λ (v : ℕ). admit_by (Free slot) s call v now) (cond_both (leads_to 62 s 63 slot) 63)
@@ -208,7 +208,7 @@ module _ (n : Net) (packed : List ℕ) (now : Float) (room slot : ℕ) (seat : s
   abbrev call : List ℕ
   call = unpack_call packed
 
-  admit_is : outcome (admission packed 63 now room) n ≡ done (enter_at n.station slot call 63 now) [] (eventWord 1 slot 63 ∷ [])
+  admit_is : outcome (admission packed 63 now room) n ≡ done (enter_at n.station slot call 63 now) [] (event_word 1 slot 63 ∷ [])
   unfolding result admit_of
   admit_is =
       unrefused (admit_refusal room now n.station.used 63 (is_full (seat_of n.station call))) n.station [] (done (admitted n.station call 63 now).station [] (admitted n.station call 63 now).words) ok

@@ -7,7 +7,7 @@ use Rattle.bits.specs.Loop.{first, fold}
 use Rattle.bits.specs.Mask.{has_bit, with_bit, without_bit, lowest_free}
 use Rattle.wire.specs.Call.{digit, char, trim_start, trim_end, unpacked, unpack_call, pack_call}
 use Rattle.words.specs.Words.{heard, word_ok, payload_ok, unpack, payload, frame_of, item_at, frames_of, head_ok, parse}
-use Rattle.out.specs.Encode.{pack, framesWords}
+use Rattle.out.specs.Encode.{pack, frames_words}
 use Rattle.roster.specs.Members.{tally}
 use Rattle.roster.specs.Relays.{heard_at}
 use Rattle.net.specs.declared.Settings.{Settings}
@@ -46,5 +46,5 @@ pub record TripRun (g : Settings) : Type 0 where
   pub struck : heard_at (after (joins ∷ reports ∷ joins_b ∷ signing 1 ∷ []) (one_cell g)).station.hears 0 1 ≡ 63
 
 pub trip_run : (g : Settings) → TripRun g
-unfolding step after result admit_of admit_refusal new_station seat_of find_call first fold lowest_free has_bit with_bit without_bit leads_to unpacked digit char trim_start trim_end receive_of receive_refusal parse head_ok frames_of item_at frame_of payload unpack payload_ok word_ok pack framesWords ncs_rx read_frames frame_step read_frame control_by report_frame each_entry reply_end is_member heard_at sign_off_of sign_off_refusal sign_off bereave_all bereave_at clear_all clear_at unhear_all unhear_at tally
+unfolding step after result admit_of admit_refusal new_station seat_of find_call first fold lowest_free has_bit with_bit without_bit leads_to unpacked digit char trim_start trim_end receive_of receive_refusal parse head_ok frames_of item_at frame_of payload unpack payload_ok word_ok pack frames_words ncs_rx read_frames frame_step read_frame control_by report_frame each_entry reply_end is_member heard_at sign_off_of sign_off_refusal sign_off bereave_all bereave_at clear_all clear_at unhear_all unhear_at tally
 trip_run g = record { takes = refl; allowed = refl; here = refl; gone = refl; named = refl; struck = refl }

@@ -13,7 +13,7 @@ use Rattle.level.specs.Order.{total_lt}
 use Rattle.wire.specs.Call.{digit, char, trim_start, trim_end, unpacked, shifted}
 use Rattle.wire.specs.Kinds.{tiny, k_idle}
 use Rattle.words.specs.Words.{item_at, frames_of, head_ok, parse}
-use Rattle.out.specs.Encode.{pack, framesWords, chunks_of, burstWords}
+use Rattle.out.specs.Encode.{pack, frames_words, chunks_of, burst_words}
 use Rattle.roster.specs.Members.{tally}
 use Rattle.roster.specs.Relays.{heard_at, best_high, relay_src_for, turn_over}
 use Rattle.net.specs.declared.Settings.{Settings}
@@ -40,7 +40,7 @@ settings =
 
 -- K_IDLE from slot 0
 abbrev idle : Call
-idle = reception (burstWords (record { head = record { code = tiny; hi = k_idle; extra = 0 }; frames = [] })) nil nil handed 8192 []
+idle = reception (burst_words (record { head = record { code = tiny; hi = k_idle; extra = 0 }; frames = [] })) nil nil handed 8192 []
 
 -- a boat joins, and the first beacon goes out; it is polled, and polled again; the next decision finds that it missed, and polls it anew
 abbrev once : List Call
@@ -61,5 +61,5 @@ pub record SilentRun : Type 0 where
   pub heard : (after (twice ++ (idle ∷ [])) from).station.totals.silent ≡ 0
 
 silent_run : SilentRun
-unfolding size units round sum add mul lt le of_int of_bits first fold every any has_bit with_bit without_bit both_of either_of minus_of lowest_bit lowest_free slots_of stop level_below total_lt digit char trim_start trim_end unpacked shifted item_at frames_of head_ok parse pack framesWords chunks_of tally heard_at best_high relay_src_for turn_over is_member new_station on_tx_done seat_of find_call leads_to poll_burst acks_burst beacon_rows beacon_payload beyond beacon_of tell_all list_sent rx_list_burst tried_of source_for promote_at promote_all move_at move_all reroute_of mask_where rows_on least_reach least_direct poll_stage directed_to is_due list_for draw_stage reroute_stage round_end act_of window_stage again_stage missed_stage due_of ncs_next read_frames idle_end reply_end ncs_rx admit_refusal admit_of receive_refusal receive_of next_refusal next_of sent_of result step after
+unfolding size units round sum add mul lt le of_int of_bits first fold every any has_bit with_bit without_bit both_of either_of minus_of lowest_bit lowest_free slots_of stop level_below total_lt digit char trim_start trim_end unpacked shifted item_at frames_of head_ok parse pack frames_words chunks_of tally heard_at best_high relay_src_for turn_over is_member new_station on_tx_done seat_of find_call leads_to poll_burst acks_burst beacon_rows beacon_payload beyond beacon_of tell_all list_sent rx_list_burst tried_of source_for promote_at promote_all move_at move_all reroute_of mask_where rows_on least_reach least_direct poll_stage directed_to is_due list_for draw_stage reroute_stage round_end act_of window_stage again_stage missed_stage due_of ncs_next read_frames idle_end reply_end ncs_rx admit_refusal admit_of receive_refusal receive_of next_refusal next_of sent_of result step after
 silent_run = record { missed = refl; missed_once = refl; silent = refl; missed_twice = refl; heard = refl }

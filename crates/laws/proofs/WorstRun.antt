@@ -17,7 +17,7 @@ use Rattle.wire.specs.Call.{digit, char, trim_start, trim_end, unpacked, shifted
 use Rattle.wire.specs.Fields.{field_db, snr_from_q}
 use Rattle.wire.specs.Kinds.{tiny, k_idle, c_kids}
 use Rattle.words.specs.Words.{heard, word_ok, payload_ok, unpack, payload, frame_of, item_at, frames_of, head_ok, parse}
-use Rattle.out.specs.Encode.{pack, framesWords, chunks_of, burstWords}
+use Rattle.out.specs.Encode.{pack, frames_words, chunks_of, burst_words}
 use Rattle.roster.specs.Members.{tally}
 use Rattle.roster.specs.Relays.{heard_at, best_high, relay_src_for, turn_over}
 use Rattle.net.specs.State.{member_at}
@@ -57,7 +57,7 @@ both = admission (0 ∷ 0 ∷ 0 ∷ 0 ∷ 1 ∷ []) 63 nil 8192 ∷ admission (0
 
 -- K_IDLE from B, received at a level
 abbrev idle : Float → Call
-idle x = reception (burstWords (record { head = record { code = tiny; hi = k_idle; extra = 1 }; frames = [] })) x nil handed 8192 []
+idle x = reception (burst_words (record { head = record { code = tiny; hi = k_idle; extra = 1 }; frames = [] })) x nil handed 8192 []
 
 abbrev again : ℕ → Float → List Call
 again zero x = []
@@ -65,7 +65,7 @@ again (suc n) x = idle x ∷ again n x
 
 -- A's children: B reached, with this level field
 abbrev kids : ℕ → Call
-kids q = reception (burstWords (record { head = record { code = 0; hi = 0; extra = 0 }; frames = heard 128 0 (c_kids ∷ 1 ∷ (128 + q) ∷ []) ∷ [] })) nil nil handed 8192 (0 ∷ [])
+kids q = reception (burst_words (record { head = record { code = 0; hi = 0; extra = 0 }; frames = heard 128 0 (c_kids ∷ 1 ∷ (128 + q) ∷ []) ∷ [] })) nil nil handed 8192 (0 ∷ [])
 
 -- the first beacon, and the decision that reroutes
 abbrev promotes : List Call
@@ -96,7 +96,7 @@ pub record WorstRun : Type 0 where
   pub next_holder : of_b (idle low ∷ signing 1 ∷ admission (0 ∷ 0 ∷ 0 ∷ 0 ∷ 2 ∷ []) 0 nil 8192 ∷ []) ≡ Is Unheard
 
 pub worst_run : WorstRun
-unfolding size units round sum add mul lt le eq of_int of_bits first fold every any has_bit with_bit without_bit both_of either_of minus_of lowest_bit lowest_free slots_of stop level_below total_lt least_from back_from readings worst digit char trim_start trim_end unpacked shifted field_db snr_from_q word_ok payload_ok unpack payload frame_of item_at frames_of head_ok parse pack framesWords chunks_of tally heard_at best_high relay_src_for turn_over is_member new_station on_tx_done seat_of find_call leads_to poll_burst acks_burst beacon_rows beacon_payload beyond beacon_of tell_all list_sent rx_list_burst tried_of source_for promote_at promote_all move_at move_all reroute_of mask_where rows_on least_reach least_direct poll_stage directed_to is_due list_for draw_stage reroute_stage round_end act_of window_stage again_stage missed_stage due_of ncs_next each_entry kid_entry kids_frame control_by read_frame frame_step read_frames idle_end reply_end ncs_rx admit_refusal admit_of receive_refusal receive_of next_refusal next_of sent_of bereave_at bereave_all clear_at clear_all unhear_at unhear_all sign_off sign_off_refusal sign_off_of worst_of result step after
+unfolding size units round sum add mul lt le eq of_int of_bits first fold every any has_bit with_bit without_bit both_of either_of minus_of lowest_bit lowest_free slots_of stop level_below total_lt least_from back_from readings worst digit char trim_start trim_end unpacked shifted field_db snr_from_q word_ok payload_ok unpack payload frame_of item_at frames_of head_ok parse pack frames_words chunks_of tally heard_at best_high relay_src_for turn_over is_member new_station on_tx_done seat_of find_call leads_to poll_burst acks_burst beacon_rows beacon_payload beyond beacon_of tell_all list_sent rx_list_burst tried_of source_for promote_at promote_all move_at move_all reroute_of mask_where rows_on least_reach least_direct poll_stage directed_to is_due list_for draw_stage reroute_stage round_end act_of window_stage again_stage missed_stage due_of ncs_next each_entry kid_entry kids_frame control_by read_frame frame_step read_frames idle_end reply_end ncs_rx admit_refusal admit_of receive_refusal receive_of next_refusal next_of sent_of bereave_at bereave_all clear_at clear_all unhear_at unhear_all sign_off sign_off_refusal sign_off_of worst_of result step after
 worst_run =
     record {
       nobody = refl;

@@ -2,7 +2,7 @@
 -- it off gives the former station back, the event apart.' `RoundTrip`, the last definition, is that statement over every list of calls.
 use Rattle.std.specs.Prelude.{ℕ, ◌<◌, ◌≡◌, List, [], ◌∷◌, Float, length}
 use Rattle.wire.specs.Call.{unpack_call}
-use Rattle.out.specs.Encode.{eventWord}
+use Rattle.out.specs.Encode.{event_word}
 use Rattle.roster.specs.Relays.{heard_at}
 use Rattle.net.specs.declared.Station.{Station}
 use Rattle.admit.specs.declared.Seat.TheVariants.{Free}
@@ -18,7 +18,7 @@ Unnamed s slot = (r : ℕ) → r < 62 → heard_at s.hears r slot ≡ 63
 -- a direct admission without a relay, whose relay is 63, and the sign-off of the slot that it took: the admission says event 1 and nothing else, the sign-off is
 -- not refused and says nothing, and the net is what it was
 pub record ThereAndBack (n : Net) (joins leaves : Call) (slot : ℕ) : Type 0 where
-  pub event : (outcome joins n).words ≡ eventWord 1 slot 63 ∷ []
+  pub event : (outcome joins n).words ≡ event_word 1 slot 63 ∷ []
   pub taken : (outcome leaves (step joins n)).refusal ≡ 0
   pub silent : (outcome leaves (step joins n)).words ≡ []
   pub back : after (joins ∷ leaves ∷ []) n ≡ n

@@ -9,7 +9,7 @@ use Rattle.level.specs.declared.Clock.{Clock}
 use Rattle.level.specs.declared.Clock.TheVariants.{Never, At}
 use Rattle.level.specs.Order.{least}
 use Rattle.wire.specs.Kinds.{k_close}
-use Rattle.out.specs.Encode.{missedWord}
+use Rattle.out.specs.Encode.{missed_word}
 use Rattle.roster.specs.Members.{missed_one}
 use Rattle.roster.specs.Relays.{turn_over}
 use Rattle.net.specs.declared.Station.{Station}
@@ -176,7 +176,7 @@ abbrev pub missed_in : Station → ℕ → Station
 missed_in s slot = cond (is_member s.used slot) (with_counted s slot (missed_one (member_at s slot))) s
 
 abbrev pub missed_event : Station → ℕ → List ℕ
-missed_event s slot = cond (is_member s.used slot) (missedWord slot ∷ []) []
+missed_event s slot = cond (is_member s.used slot) (missed_word slot ∷ []) []
 
 -- no answer again: the waiting ends, and the decision goes on
 abbrev pub over_by : ℕ → Decision → Decision

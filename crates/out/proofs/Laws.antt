@@ -16,80 +16,80 @@ use Rattle.out.specs.Encode.{after, Wrote}
 -- ### The place after k words
 
 module _ (n : ℕ) where
-  after-step : (i k : ℕ) → after n i (suc k) ≡ after n (cond (ltb i n) (i + 1) i) k
+  after_step : (i k : ℕ) → after n i (suc k) ≡ after n (cond (ltb i n) (i + 1) i) k
   unfolding after
-  after-step i k = refl
+  after_step i k = refl
 
-  pub after-add : (i j k : ℕ) → after n i (j + k) ≡ after n (after n i j) k
+  pub after_add : (i j k : ℕ) → after n i (j + k) ≡ after n (after n i j) k
   unfolding after
-  after-add i zero k = rw zero-add
-  after-add i (suc j) k =
+  after_add i zero k = rw zero-add
+  after_add i (suc j) k =
       let e : suc j + k ≡ suc (j + k) = omega arith in
-      rw e (after-add (cond (ltb i n) (i + 1) i) j k)
+      rw e (after_add (cond (ltb i n) (i + 1) i) j k)
 
   -- past the end it stays
-  pub after-past : (i k : ℕ) → n ≤ i → after n i k ≡ i
+  pub after_past : (i k : ℕ) → n ≤ i → after n i k ≡ i
   unfolding after
-  after-past i zero h = refl
-  after-past i (suc k) h = rw (le-ltb i n h) (after-past i k h)
+  after_past i zero h = refl
+  after_past i (suc k) h = rw (le-ltb i n h) (after_past i k h)
 
   -- where all fits it goes on
-  pub after-room : (i k : ℕ) → i + k ≤ n → after n i k ≡ i + k
+  pub after_room : (i k : ℕ) → i + k ≤ n → after n i k ≡ i + k
   unfolding after
-  after-room i zero h = sym (add-zero i)
-  after-room i (suc k) h =
+  after_room i zero h = sym (add-zero i)
+  after_room i (suc k) h =
       let p : i < n = omega arith in
-      rw (lt-ltb i n p) (after-room (i + 1) k (omega arith) ∙ omega arith)
+      rw (lt-ltb i n p) (after_room (i + 1) k (omega arith) ∙ omega arith)
 
-  most-by : (i k : ℕ) (t : Bool) → ltb i n ≡ t → i ≤ n → ((j : ℕ) → j ≤ n → after n j k ≤ n) → after n (cond t (i + 1) i) k ≤ n
-  most-by i k true e h ih = ih (i + 1) (omega (arith, ltb-true i n e))
-  most-by i k false e h ih = ih i h
+  most_by : (i k : ℕ) (t : Bool) → ltb i n ≡ t → i ≤ n → ((j : ℕ) → j ≤ n → after n j k ≤ n) → after n (cond t (i + 1) i) k ≤ n
+  most_by i k true e h ih = ih (i + 1) (omega (arith, ltb-true i n e))
+  most_by i k false e h ih = ih i h
 
-  pub after-most : (i k : ℕ) → i ≤ n → after n i k ≤ n
+  pub after_most : (i k : ℕ) → i ≤ n → after n i k ≤ n
   unfolding after
-  after-most i zero h = h
-  after-most i (suc k) h = most-by i k (ltb i n) refl h (λ j. after-most j k)
+  after_most i zero h = h
+  after_most i (suc k) h = most_by i k (ltb i n) refl h (λ j. after_most j k)
 
 -- ### Two writers
 
-sets-past : (l : List ℕ) (i : ℕ) (vs : List ℕ) → length l ≤ i → sets l i vs ≡ l
-sets-past l i [] h = refl
-sets-past l i (a ∷ vs) h = rw (set_out l i a h) (sets-past l (suc i) vs (omega arith))
+sets_past : (l : List ℕ) (i : ℕ) (vs : List ℕ) → length l ≤ i → sets l i vs ≡ l
+sets_past l i [] h = refl
+sets_past l i (a ∷ vs) h = rw (set_out l i a h) (sets_past l (suc i) vs (omega arith))
 
-sets-by : (l : List ℕ) (i a : ℕ) (vs ws : List ℕ) (t : Bool) → ltb i (length l) ≡ t
+sets_by : (l : List ℕ) (i a : ℕ) (vs ws : List ℕ) (t : Bool) → ltb i (length l) ≡ t
     → sets (set l i a) (suc i) (vs ++ ws) ≡ sets (sets (set l i a) (suc i) vs) (after (length l) (suc i) (length vs)) ws
     → sets (set l i a) (suc i) (vs ++ ws) ≡ sets (sets (set l i a) (suc i) vs) (after (length l) (cond t (i + 1) i) (length vs)) ws
-sets-by l i a vs ws true e ih = rw (add-one i) ih
-sets-by l i a vs ws false e ih =
+sets_by l i a vs ws true e ih = rw (add-one i) ih
+sets_by l i a vs ws false e ih =
     let h : length l ≤ i = ltb-false i (length l) e in
     let g : length l ≤ suc i = omega arith in
-    rw (set_out l i a h, sets-past l (suc i) (vs ++ ws) g, sets-past l (suc i) vs g, after-past (length l) i (length vs) h) (sym (sets-past l i ws h))
+    rw (set_out l i a h, sets_past l (suc i) (vs ++ ws) g, sets_past l (suc i) vs g, after_past (length l) i (length vs) h) (sym (sets_past l i ws h))
 
-sets-after : (l : List ℕ) (i : ℕ) (vs ws : List ℕ) → sets l i (vs ++ ws) ≡ sets (sets l i vs) (after (length l) i (length vs)) ws
+sets_after : (l : List ℕ) (i : ℕ) (vs ws : List ℕ) → sets l i (vs ++ ws) ≡ sets (sets l i vs) (after (length l) i (length vs)) ws
 unfolding after
-sets-after l i [] ws = refl
-sets-after l i (a ∷ vs) ws =
-    sets-by l i a vs ws (ltb i (length l)) refl
-    (sets-after (set l i a) (suc i) vs ws ∙ ap (λ (n : ℕ). sets (sets (set l i a) (suc i) vs) (after n (suc i) (length vs)) ws) (length-set l i a))
+sets_after l i [] ws = refl
+sets_after l i (a ∷ vs) ws =
+    sets_by l i a vs ws (ltb i (length l)) refl
+    (sets_after (set l i a) (suc i) vs ws ∙ ap (λ (n : ℕ). sets (sets (set l i a) (suc i) vs) (after n (suc i) (length vs)) ws) (length-set l i a))
 
 module _ {l m : List ℕ} {i j : ℕ} {vs : List ℕ} (p : Wrote l i vs m j) where
   -- the output keeps its length
-  pub wrote-length : length m ≡ length l
-  wrote-length = ap length p.out ∙ length-sets l i vs
+  pub wrote_length : length m ≡ length l
+  wrote_length = ap length p.out ∙ length-sets l i vs
 
   -- a writer after another, which began where the first ended
   pub then : {r : List ℕ} {k : ℕ} {ws : List ℕ} → Wrote m j ws r k → Wrote l i (vs ++ ws) r k
   then {r} {k} {ws} q = record {
-    out = q.out ∙ rw (p.out, p.end) (sym (sets-after l i vs ws));
-    end = q.end ∙ rw (wrote-length, p.end, length-append vs ws) (sym (after-add (length l) i (length vs) (length ws)));
+    out = q.out ∙ rw (p.out, p.end) (sym (sets_after l i vs ws));
+    end = q.end ∙ rw (wrote_length, p.end, length-append vs ws) (sym (after_add (length l) i (length vs) (length ws)));
   }
 
   -- where all fits
-  pub wrote-end : i + length vs ≤ length l → j ≡ i + length vs
-  wrote-end h = p.end ∙ after-room (length l) i (length vs) h
+  pub wrote_end : i + length vs ≤ length l → j ≡ i + length vs
+  wrote_end h = p.end ∙ after_room (length l) i (length vs) h
 
-  pub wrote-most : i ≤ length l → j ≤ length l
-  wrote-most h = rw p.end (after-most (length l) i (length vs) h)
+  pub wrote_most : i ≤ length l → j ≤ length l
+  wrote_most h = rw p.end (after_most (length l) i (length vs) h)
 
 -- a writer that writes nothing
 pub wrote_none : (l : List ℕ) (i : ℕ) → Wrote l i [] l i
@@ -102,9 +102,9 @@ module _ (l : List ℕ) (i w : ℕ) where
   unfolding after
   word_in h = record { out = refl; end = rw (lt-ltb i (length l) h) }
 
-  pub word-past : length l ≤ i → Wrote l i (w ∷ []) l i
+  pub word_past : length l ≤ i → Wrote l i (w ∷ []) l i
   unfolding after
-  word-past h = record { out = sym (set_out l i w h); end = rw (le-ltb i (length l) h) }
+  word_past h = record { out = sym (set_out l i w h); end = rw (le-ltb i (length l) h) }
 
 -- the same words, said otherwise
 pub wrote_as : {l m : List ℕ} {i j : ℕ} {vs ws : List ℕ} → Wrote l i vs m j → vs ≡ ws → Wrote l i ws m j
@@ -114,7 +114,7 @@ wrote_as p e = rw e at p
 pub read_back : {l vs m : List ℕ} {j : ℕ} → Wrote l 0 vs m j → length vs ≤ length l → (take j m ≡ vs) × (drop j m ≡ drop j l)
 read_back {l} {vs} {m} {j} w h =
     let e : m ≡ vs ++ drop (0 + length vs) l = w.out ∙ sets-eq vs l 0 (omega arith) in
-    let z : j ≡ 0 + length vs = wrote-end w (omega arith) in
+    let z : j ≡ 0 + length vs = wrote_end w (omega arith) in
     let n : length vs ≡ j = omega arith in
     (ap (take j) e ∙ take_at vs (drop (0 + length vs) l) j n, ap (drop j) e ∙ drop_at vs (drop (0 + length vs) l) j n ∙ rw (← z))
 
@@ -125,15 +125,15 @@ pub record Still (l : List ℕ) (i : ℕ) (all : List ℕ) (m : List ℕ) (j : �
   pub whole : all ≡ done ++ rest
   pub wrote : Wrote l i done m j
 
-pub still-start : (l : List ℕ) (i : ℕ) (all : List ℕ) → Still l i all l i all
-still-start l i all = record { done = []; whole = refl; wrote = wrote_none l i }
+pub still_start : (l : List ℕ) (i : ℕ) (all : List ℕ) → Still l i all l i all
+still_start l i all = record { done = []; whole = refl; wrote = wrote_none l i }
 
-pub still-on : {l m r : List ℕ} {i j k : ℕ} {all rest ws more : List ℕ} → Still l i all m j rest → rest ≡ ws ++ more → Wrote m j ws r k → Still l i all r k more
-still-on {ws = ws} {more = more} s e w = record {
+pub still_on : {l m r : List ℕ} {i j k : ℕ} {all rest ws more : List ℕ} → Still l i all m j rest → rest ≡ ws ++ more → Wrote m j ws r k → Still l i all r k more
+still_on {ws = ws} {more = more} s e w = record {
   done = s.done ++ ws;
   whole = s.whole ∙ rw e (sym (append_assoc s.done ws more));
   wrote = then s.wrote w;
 }
 
-pub still-end : {l m : List ℕ} {i j : ℕ} {all rest : List ℕ} → Still l i all m j rest → rest ≡ [] → Wrote l i all m j
-still-end s e = wrote_as s.wrote (sym (s.whole ∙ rw e (append-nil s.done)))
+pub still_end : {l m : List ℕ} {i j : ℕ} {all rest : List ℕ} → Still l i all m j rest → rest ≡ [] → Wrote l i all m j
+still_end s e = wrote_as s.wrote (sym (s.whole ∙ rw e (append-nil s.done)))

@@ -4,7 +4,7 @@
 
 ghost use Rattle.std.specs.Prelude.{◌≡◌, [], ◌∷◌, ◌++◌, ◌+◌, ◌-◌, ◌≤◌, ◌<◌, ◌%◌, length, take, drop, get_or, replicate};
 ghost use Rattle.words.specs.Words.{least};
-ghost use Rattle.out.specs.Encode.{Wrote, word12, pack, frameWords, ctrlWords, headWord, waveWord, eventWord, missedWord, messageWord, chunkSize, chunkWords};
+ghost use Rattle.out.specs.Encode.{Wrote, word12, pack, frame_words, ctrl_words, head_word, wave_word, event_word, missed_word, message_word, chunk_size, chunk_words};
 
 use words::{least, words_for};
 
@@ -21,7 +21,7 @@ pub fn put_word(out: &mut [u32], at: usize, w: u32) -> usize
 
 // Event 1 checked in, 4 relayed or 5 routed.
 pub fn put_event(out: &mut [u32], at: usize, kind: u32, slot: usize, relay: u8) -> usize
-    ensures { Wrote out.old at (eventWord kind slot relay ∷ []) out.new result }
+    ensures { Wrote out.old at (event_word kind slot relay ∷ []) out.new result }
 {
     put_word(
         out,
@@ -32,7 +32,7 @@ pub fn put_event(out: &mut [u32], at: usize, kind: u32, slot: usize, relay: u8) 
 
 // Event 2: a message landed in a cell.
 pub fn put_message(out: &mut [u32], at: usize, slot: usize, cell: usize, number: u32) -> usize
-    ensures { Wrote out.old at (messageWord slot cell number ∷ []) out.new result }
+    ensures { Wrote out.old at (message_word slot cell number ∷ []) out.new result }
 {
     put_word(
         out,
@@ -43,14 +43,14 @@ pub fn put_message(out: &mut [u32], at: usize, slot: usize, cell: usize, number:
 
 // Event 3: a boat missed its turn.
 pub fn put_missed(out: &mut [u32], at: usize, slot: usize) -> usize
-    ensures { Wrote out.old at (missedWord slot ∷ []) out.new result }
+    ensures { Wrote out.old at (missed_word slot ∷ []) out.new result }
 {
     put_word(out, at, 0x3000_0000 + (slot % 64) as u32)
 }
 
 // Words 8 and 9: a sending's head and its level.
 pub fn put_head(out: &mut [u32], at: usize, code: u32, hi: u32, extra: u32, level: u32) -> usize
-    ensures { Wrote out.old at (headWord code hi extra ∷ waveWord level ∷ []) out.new result }
+    ensures { Wrote out.old at (head_word code hi extra ∷ wave_word level ∷ []) out.new result }
 {
     let w = 0x8000_0000 + code % 128 * 2097152 + hi % 16 * 131072 + extra % 65536;
     let a = put_word(out, at, w);
@@ -59,14 +59,14 @@ pub fn put_head(out: &mut [u32], at: usize, code: u32, hi: u32, extra: u32, leve
 
 // The head and the level of a tiny burst, which has code 62 and no frames.
 pub fn put_tiny(out: &mut [u32], at: usize, kind: u32, extra: u32, level: u32) -> usize
-    ensures { Wrote out.old at (headWord 62 kind extra ∷ waveWord level ∷ []) out.new result }
+    ensures { Wrote out.old at (head_word 62 kind extra ∷ wave_word level ∷ []) out.new result }
 {
     put_head(out, at, 62, kind, extra, level)
 }
 
 // A frame of the first n bytes of p, 255 at most: words 10, 11 and 12.
 pub fn put_frame(out: &mut [u32], at: usize, flags: u8, field: u32, p: &[u8], n: usize) -> usize
-    ensures { Wrote out.old at (frameWords flags (field % 16777216) (take (least n 255) p.now)) out.new result }
+    ensures { Wrote out.old at (frame_words flags (field % 16777216) (take (least n 255) p.now)) out.new result }
 {
     let m = least(least(n, 255), p.len());
     let a = put_word(out, at, 0xa000_0000 + flags as u32 * 256 + m as u32);
@@ -76,7 +76,7 @@ pub fn put_frame(out: &mut [u32], at: usize, flags: u8, field: u32, p: &[u8], n:
 
 // A control frame to everyone, of the first n bytes of p.
 pub fn put_ctrl(out: &mut [u32], at: usize, p: &[u8; 32], n: usize) -> usize
-    ensures { Wrote out.old at (ctrlWords (take n p.now)) out.new result }
+    ensures { Wrote out.old at (ctrl_words (take n p.now)) out.new result }
 {
     put_frame(out, at, 0xbf, 0, p, n)
 }
@@ -90,14 +90,14 @@ pub fn put_chunks(
     n: usize,
     size: usize,
 ) -> usize
-    ensures { Wrote out.old at (chunkWords kind size (take n rows.now)) out.new result }
+    ensures { Wrote out.old at (chunk_words kind size (take n rows.now)) out.new result }
 {
     put_rows(out, at, kind, rows, n, size)
 }
 
 // The same for rows of any length.
 pub fn put_rows(out: &mut [u32], at: usize, kind: u8, rows: &[u8], n: usize, size: usize) -> usize
-    ensures { Wrote out.old at (chunkWords kind size (take n rows.now)) out.new result }
+    ensures { Wrote out.old at (chunk_words kind size (take n rows.now)) out.new result }
 {
     let m = least(n, rows.len());
     let s = chunk_size(size);
@@ -111,7 +111,7 @@ pub fn put_rows(out: &mut [u32], at: usize, kind: u8, rows: &[u8], n: usize, siz
 }
 
 fn chunk_size(size: usize) -> usize
-    ensures { result ≡ chunkSize size }
+    ensures { result ≡ chunk_size size }
 {
     if size == 0 { 1 } else { least(size, 31) }
 }
@@ -119,7 +119,7 @@ fn chunk_size(size: usize) -> usize
 // The control frame of the byte `kind` and the n bytes of rows from i on.
 fn put_chunk(out: &mut [u32], at: usize, kind: u8, rows: &[u8], i: usize, n: usize) -> usize
     requires { (i + n ≤ length rows.now) × (n ≤ 31) }
-    ensures { Wrote out.old at (ctrlWords (kind ∷ take n (drop i rows.now))) out.new result }
+    ensures { Wrote out.old at (ctrl_words (kind ∷ take n (drop i rows.now))) out.new result }
 {
     let p = chunk_of(kind, rows, i, n);
     put_ctrl(out, at, &p, n + 1)

@@ -18,7 +18,7 @@ use Rattle.bits.proofs.Lists.{le_or_lt}
 use Rattle.wire.specs.Call.{digit, char, trim_start, trim_end, unpacked}
 use Rattle.wire.specs.Numbers.{widened, widened_at}
 use Rattle.words.specs.Words.{word_ok, payload_ok, unpack, payload, frame_of, item_at, frames_of, head_ok, parse}
-use Rattle.out.specs.Encode.{pack, framesWords}
+use Rattle.out.specs.Encode.{pack, frames_words}
 use Rattle.inbox.specs.Cells.{seek, next, grow, settle}
 use Rattle.inbox.specs.Cells as cells
 use Rattle.inbox.specs.Messages.{empty_cell, shows_of}
@@ -72,23 +72,23 @@ abbrev pub up_to : ℕ → Window
 up_to k = window_of 0 (2 ^ k - 1) 0
 
 to_15 : (g : Settings) → after (joins ∷ filled 15 1) (three_cells g) ≡ having g (up_to 15) 15
-unfolding having admit_of admit_refusal seat_of find_call leads_to unpacked digit char trim_start trim_end filled step after result new_station first lowest_free has_bit with_bit without_bit receive_of receive_refusal parse head_ok frames_of item_at frame_of payload unpack payload_ok word_ok pack framesWords ncs_rx read_frames frame_step read_frame piece_frame reply_end is_member accept widened widened_at own_cell put_of cells.accept shows_of settle grow seek next slide_of mark_of stop cell_refusal free_of
+unfolding having admit_of admit_refusal seat_of find_call leads_to unpacked digit char trim_start trim_end filled step after result new_station first lowest_free has_bit with_bit without_bit receive_of receive_refusal parse head_ok frames_of item_at frame_of payload unpack payload_ok word_ok pack frames_words ncs_rx read_frames frame_step read_frame piece_frame reply_end is_member accept widened widened_at own_cell put_of cells.accept shows_of settle grow seek next slide_of mark_of stop cell_refusal free_of
 to_15 g = refl
 
 to_43 : (g : Settings) → after (filled 28 16) (having g (up_to 15) 15) ≡ having g (up_to 43) 43
-unfolding having filled step after result new_station first lowest_free has_bit with_bit without_bit receive_of receive_refusal parse head_ok frames_of item_at frame_of payload unpack payload_ok word_ok pack framesWords ncs_rx read_frames frame_step read_frame piece_frame reply_end is_member accept widened widened_at own_cell put_of cells.accept shows_of settle grow seek next slide_of mark_of stop cell_refusal free_of
+unfolding having filled step after result new_station first lowest_free has_bit with_bit without_bit receive_of receive_refusal parse head_ok frames_of item_at frame_of payload unpack payload_ok word_ok pack frames_words ncs_rx read_frames frame_step read_frame piece_frame reply_end is_member accept widened widened_at own_cell put_of cells.accept shows_of settle grow seek next slide_of mark_of stop cell_refusal free_of
 to_43 g = refl
 
 to_71 : (g : Settings) → after (filled 28 44) (having g (up_to 43) 43) ≡ having g (up_to 71) 71
-unfolding having filled step after result new_station first lowest_free has_bit with_bit without_bit receive_of receive_refusal parse head_ok frames_of item_at frame_of payload unpack payload_ok word_ok pack framesWords ncs_rx read_frames frame_step read_frame piece_frame reply_end is_member accept widened widened_at own_cell put_of cells.accept shows_of settle grow seek next slide_of mark_of stop cell_refusal free_of
+unfolding having filled step after result new_station first lowest_free has_bit with_bit without_bit receive_of receive_refusal parse head_ok frames_of item_at frame_of payload unpack payload_ok word_ok pack frames_words ncs_rx read_frames frame_step read_frame piece_frame reply_end is_member accept widened widened_at own_cell put_of cells.accept shows_of settle grow seek next slide_of mark_of stop cell_refusal free_of
 to_71 g = refl
 
 to_99 : (g : Settings) → after (filled 28 72) (having g (up_to 71) 71) ≡ having g (up_to 99) 99
-unfolding having filled step after result new_station first lowest_free has_bit with_bit without_bit receive_of receive_refusal parse head_ok frames_of item_at frame_of payload unpack payload_ok word_ok pack framesWords ncs_rx read_frames frame_step read_frame piece_frame reply_end is_member accept widened widened_at own_cell put_of cells.accept shows_of settle grow seek next slide_of mark_of stop cell_refusal free_of
+unfolding having filled step after result new_station first lowest_free has_bit with_bit without_bit receive_of receive_refusal parse head_ok frames_of item_at frame_of payload unpack payload_ok word_ok pack frames_words ncs_rx read_frames frame_step read_frame piece_frame reply_end is_member accept widened widened_at own_cell put_of cells.accept shows_of settle grow seek next slide_of mark_of stop cell_refusal free_of
 to_99 g = refl
 
 to_127 : (g : Settings) → after (filled 28 100) (having g (up_to 99) 99) ≡ having g (up_to 127) 127
-unfolding having filled step after result new_station first lowest_free has_bit with_bit without_bit receive_of receive_refusal parse head_ok frames_of item_at frame_of payload unpack payload_ok word_ok pack framesWords ncs_rx read_frames frame_step read_frame piece_frame reply_end is_member accept widened widened_at own_cell put_of cells.accept shows_of settle grow seek next slide_of mark_of stop cell_refusal free_of
+unfolding having filled step after result new_station first lowest_free has_bit with_bit without_bit receive_of receive_refusal parse head_ok frames_of item_at frame_of payload unpack payload_ok word_ok pack frames_words ncs_rx read_frames frame_step read_frame piece_frame reply_end is_member accept widened widened_at own_cell put_of cells.accept shows_of settle grow seek next slide_of mark_of stop cell_refusal free_of
 to_127 g = refl
 
 after_both : (cs ds : List Call) (n : Net) → after (cs ++ ds) n ≡ after ds (after cs n)
@@ -132,7 +132,7 @@ pub record AlikeRun (g : Settings) : Type 0 where
       ≡ record { slot = 0; number = 0 } ∷ record { slot = 0; number = 128 } ∷ record { slot = 0; number = 256 } ∷ []
 
 pub alike_run : (g : Settings) → AlikeRun g
-unfolding having result new_station first lowest_free has_bit with_bit without_bit receive_of receive_refusal parse head_ok frames_of item_at frame_of payload unpack payload_ok word_ok pack framesWords ncs_rx read_frames frame_step read_frame piece_frame reply_end is_member accept widened widened_at own_cell put_of cells.accept shows_of settle grow seek next slide_of mark_of stop events_in book_frames book_frame cover also_handed all_below
+unfolding having result new_station first lowest_free has_bit with_bit without_bit receive_of receive_refusal parse head_ok frames_of item_at frame_of payload unpack payload_ok word_ok pack frames_words ncs_rx read_frames frame_step read_frame piece_frame reply_end is_member accept widened widened_at own_cell put_of cells.accept shows_of settle grow seek next slide_of mark_of stop events_in book_frames book_frame cover also_handed all_below
 alike_run g = record { events = refl; book = refl }
 
 -- so it is after those calls
@@ -144,7 +144,7 @@ alike_events g = ap (λ (n : Net). (answers_of alike n).events) (reached g) ∙ 
 -- ---- number 0, and then 128: all below 129 are handed over
 
 pub to_129 : (g : Settings) → after (freeing 0 ∷ filled 1 128) (step (hears (whole 0 ∷ []) (0 ∷ [])) (having g (up_to 127) 127)) ≡ having g (window_of 129 0 0) 128
-unfolding having filled step after result new_station first lowest_free has_bit with_bit without_bit receive_of receive_refusal parse head_ok frames_of item_at frame_of payload unpack payload_ok word_ok pack framesWords ncs_rx read_frames frame_step read_frame piece_frame reply_end is_member accept widened widened_at own_cell put_of cells.accept shows_of settle grow seek next slide_of mark_of stop cell_refusal free_of
+unfolding having filled step after result new_station first lowest_free has_bit with_bit without_bit receive_of receive_refusal parse head_ok frames_of item_at frame_of payload unpack payload_ok word_ok pack frames_words ncs_rx read_frames frame_step read_frame piece_frame reply_end is_member accept widened widened_at own_cell put_of cells.accept shows_of settle grow seek next slide_of mark_of stop cell_refusal free_of
 to_129 g = refl
 
 -- ---- the premises hold of two alike
@@ -157,7 +157,7 @@ reach : (k n : ℕ) → (k < n → ⊥) → k ≤ n + 127 → (n ≤ k + 128) ×
 reach k n z a = (⊎_elim (λ b. omega arith) (λ b. absurd (z b)) (le_or_lt n k), a)
 
 pub alike_ok : (g : Settings) → CallOk (sent_now all_empty late_book) (in_book alike) (answers_of alike (having g (up_to 127) 127)) late_book
-unfolding having result new_station first lowest_free has_bit with_bit without_bit receive_of receive_refusal parse head_ok frames_of item_at frame_of payload unpack payload_ok word_ok pack framesWords ncs_rx read_frames frame_step read_frame piece_frame reply_end is_member accept widened widened_at own_cell put_of cells.accept shows_of settle grow seek next slide_of mark_of stop events_in book_frames book_frame cover also_handed all_below
+unfolding having result new_station first lowest_free has_bit with_bit without_bit receive_of receive_refusal parse head_ok frames_of item_at frame_of payload unpack payload_ok word_ok pack frames_words ncs_rx read_frames frame_step read_frame piece_frame reply_end is_member accept widened widened_at own_cell put_of cells.accept shows_of settle grow seek next slide_of mark_of stop events_in book_frames book_frame cover also_handed all_below
 alike_ok g = (
   tt,
   (λ r. (

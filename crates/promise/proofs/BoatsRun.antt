@@ -14,7 +14,7 @@ use Rattle.bits.specs.Stop.{stop}
 use Rattle.wire.specs.Call.{digit, char, trim_start, trim_end, unpacked}
 use Rattle.wire.specs.Numbers.{widened, widened_at}
 use Rattle.words.specs.Words.{heard, word_ok, payload_ok, unpack, payload, frame_of, item_at, frames_of, head_ok, parse}
-use Rattle.out.specs.Encode.{pack, framesWords}
+use Rattle.out.specs.Encode.{pack, frames_words}
 use Rattle.inbox.specs.Cells.{seek, next, grow, settle, store, await}
 use Rattle.inbox.specs.Cells as cells
 use Rattle.inbox.specs.Messages.{framed, shows_of}
@@ -65,12 +65,12 @@ pub record BoatsRun (g : Settings) : Type 0 where
   pub read : reading_of (after boats_calls (two_cells g)).station (after boats_calls (two_cells g)).store 1 ≡ 104 ∷ 105 ∷ []
 
 pub boats_run : (g : Settings) → BoatsRun g
-unfolding step after result admit_of admit_refusal new_station seat_of find_call first lowest_free has_bit with_bit without_bit leads_to unpacked digit char trim_start trim_end receive_of receive_refusal parse head_ok frames_of item_at frame_of payload unpack payload_ok word_ok pack framesWords ncs_rx read_frames frame_step read_frame piece_frame reply_end is_member accept widened widened_at own_cell put_of cells.accept shows_of settle grow store await seek next slide_of mark_of stop events_in handed_in book_frames book_frame cover also_handed all_below read_refusal cell_refusal reading_of
+unfolding step after result admit_of admit_refusal new_station seat_of find_call first lowest_free has_bit with_bit without_bit leads_to unpacked digit char trim_start trim_end receive_of receive_refusal parse head_ok frames_of item_at frame_of payload unpack payload_ok word_ok pack frames_words ncs_rx read_frames frame_step read_frame piece_frame reply_end is_member accept widened widened_at own_cell put_of cells.accept shows_of settle grow store await seek next slide_of mark_of stop events_in handed_in book_frames book_frame cover also_handed all_below read_refusal cell_refusal reading_of
 boats_run g = record { events = refl; book = refl; read = refl }
 
 -- B's piece meets the premises, and nothing is asked of A's
 pub b_ok : (g : Settings) → CallsOk b_alone boats_calls (two_cells g) empty_book
-unfolding CallsOk step after result admit_of admit_refusal new_station seat_of find_call first lowest_free has_bit with_bit without_bit leads_to unpacked digit char trim_start trim_end receive_of receive_refusal parse head_ok frames_of item_at frame_of payload unpack payload_ok word_ok pack framesWords ncs_rx read_frames frame_step read_frame piece_frame reply_end is_member accept widened widened_at own_cell put_of cells.accept shows_of settle grow store await seek next slide_of mark_of stop events_in handed_in book_frames book_frame cover also_handed all_below read_refusal cell_refusal reading_of
+unfolding CallsOk step after result admit_of admit_refusal new_station seat_of find_call first lowest_free has_bit with_bit without_bit leads_to unpacked digit char trim_start trim_end receive_of receive_refusal parse head_ok frames_of item_at frame_of payload unpack payload_ok word_ok pack frames_words ncs_rx read_frames frame_step read_frame piece_frame reply_end is_member accept widened widened_at own_cell put_of cells.accept shows_of settle grow store await seek next slide_of mark_of stop events_in handed_in book_frames book_frame cover also_handed all_below read_refusal cell_refusal reading_of
 b_ok g =
     (tt, (tt, ((tt, λ r. ((λ m. absurd (apart m)), ((λ m. whole _ _ 1 104 105 refl refl), ((λ m. absurd (apart m)), tt)))), (tt, (tt, tt)))))
 
@@ -88,7 +88,7 @@ byte_2 F p q =
     omega arith
 
 pub a_breaks : (g : Settings) (M : Stays) → M.watched 0 0 ≡ true → CallsOk M boats_calls (two_cells g) empty_book → ⊥
-unfolding CallsOk step after result admit_of admit_refusal new_station seat_of find_call first lowest_free has_bit with_bit without_bit leads_to unpacked digit char trim_start trim_end receive_of receive_refusal parse head_ok frames_of item_at frame_of payload unpack payload_ok word_ok pack framesWords ncs_rx read_frames frame_step read_frame piece_frame reply_end is_member accept widened widened_at own_cell put_of cells.accept shows_of settle grow store await seek next slide_of mark_of stop events_in handed_in book_frames book_frame cover also_handed all_below read_refusal cell_refusal reading_of
+unfolding CallsOk step after result admit_of admit_refusal new_station seat_of find_call first lowest_free has_bit with_bit without_bit leads_to unpacked digit char trim_start trim_end receive_of receive_refusal parse head_ok frames_of item_at frame_of payload unpack payload_ok word_ok pack frames_words ncs_rx read_frames frame_step read_frame piece_frame reply_end is_member accept widened widened_at own_cell put_of cells.accept shows_of settle grow store await seek next slide_of mark_of stop events_in handed_in book_frames book_frame cover also_handed all_below read_refusal cell_refusal reading_of
 a_breaks g M on h =
     let f = h.1.1.0.1 refl in
     let w : M.watched 0 0 && true ≡ true = ap (λ (t : Bool). t && true) on in
@@ -112,11 +112,11 @@ next_calls =
     ∷ []
 
 pub next_book : (g : Settings) → handed_in next_alone next_calls (one_cell g) empty_book ≡ record { slot = 0; stay = 1; number = 0 } ∷ []
-unfolding step after result admit_of admit_refusal new_station seat_of find_call first fold lowest_free has_bit with_bit without_bit leads_to unpacked digit char trim_start trim_end receive_of receive_refusal parse head_ok frames_of item_at frame_of payload unpack payload_ok word_ok pack framesWords ncs_rx read_frames frame_step read_frame piece_frame reply_end is_member accept widened widened_at own_cell put_of cells.accept shows_of settle grow seek next slide_of stop events_in handed_in book_frames book_frame cover also_handed all_below read_refusal cell_refusal reading_of sign_off_of sign_off_refusal sign_off bereave_all bereave_at clear_all clear_at unhear_all unhear_at book_ends tally store await mark_of
+unfolding step after result admit_of admit_refusal new_station seat_of find_call first fold lowest_free has_bit with_bit without_bit leads_to unpacked digit char trim_start trim_end receive_of receive_refusal parse head_ok frames_of item_at frame_of payload unpack payload_ok word_ok pack frames_words ncs_rx read_frames frame_step read_frame piece_frame reply_end is_member accept widened widened_at own_cell put_of cells.accept shows_of settle grow seek next slide_of stop events_in handed_in book_frames book_frame cover also_handed all_below read_refusal cell_refusal reading_of sign_off_of sign_off_refusal sign_off bereave_all bereave_at clear_all clear_at unhear_all unhear_at book_ends tally store await mark_of
 next_book g = refl
 
 pub next_ok : (g : Settings) → CallsOk next_alone next_calls (one_cell g) empty_book
-unfolding CallsOk step after result admit_of admit_refusal new_station seat_of find_call first fold lowest_free has_bit with_bit without_bit leads_to unpacked digit char trim_start trim_end receive_of receive_refusal parse head_ok frames_of item_at frame_of payload unpack payload_ok word_ok pack framesWords ncs_rx read_frames frame_step read_frame piece_frame reply_end is_member accept widened widened_at own_cell put_of cells.accept shows_of settle grow seek next slide_of stop events_in handed_in book_frames book_frame cover also_handed all_below read_refusal cell_refusal reading_of sign_off_of sign_off_refusal sign_off bereave_all bereave_at clear_all clear_at unhear_all unhear_at book_ends tally store await mark_of
+unfolding CallsOk step after result admit_of admit_refusal new_station seat_of find_call first fold lowest_free has_bit with_bit without_bit leads_to unpacked digit char trim_start trim_end receive_of receive_refusal parse head_ok frames_of item_at frame_of payload unpack payload_ok word_ok pack frames_words ncs_rx read_frames frame_step read_frame piece_frame reply_end is_member accept widened widened_at own_cell put_of cells.accept shows_of settle grow seek next slide_of stop events_in handed_in book_frames book_frame cover also_handed all_below read_refusal cell_refusal reading_of sign_off_of sign_off_refusal sign_off bereave_all bereave_at clear_all clear_at unhear_all unhear_at book_ends tally store await mark_of
 next_ok g =
     (tt, ((tt, λ r. ((λ m. absurd (apart m)), ((λ m. absurd (apart m)), tt))), (tt, (tt, ((tt, λ r. ((λ m. whole _ _ 0 104 105 refl refl), tt)), (tt, tt))))))
 

@@ -14,7 +14,7 @@ use Rattle.bits.proofs.Lists.{cond_keeps}
 use Rattle.wire.specs.Call.{digit, char, trim_start, trim_end, unpacked}
 use Rattle.wire.specs.Numbers.{widened, widened_at}
 use Rattle.words.specs.Words.{heard, word_ok, payload_ok, unpack, payload, frame_of, item_at, frames_of, head_ok, parse}
-use Rattle.out.specs.Encode.{pack, framesWords}
+use Rattle.out.specs.Encode.{pack, frames_words}
 use Rattle.inbox.specs.Cells.{seek, next, grow, settle, store, await}
 use Rattle.inbox.specs.Cells as cells
 use Rattle.inbox.specs.Messages.{shows_of}
@@ -57,12 +57,12 @@ pub record ClaimsRun (g : Settings) : Type 0 where
   pub read : reading_of (after claims_calls (one_cell g)).station (after claims_calls (one_cell g)).store 0 ≡ 104 ∷ 105 ∷ []
 
 pub claims_run : (g : Settings) → ClaimsRun g
-unfolding step after result admit_of admit_refusal new_station seat_of find_call first lowest_free has_bit with_bit without_bit leads_to unpacked digit char trim_start trim_end receive_of receive_refusal parse head_ok frames_of item_at frame_of payload unpack payload_ok word_ok pack framesWords ncs_rx read_frames frame_step read_frame piece_frame reply_end is_member accept widened widened_at own_cell put_of cells.accept shows_of settle grow store await seek next slide_of mark_of bar_of stop events_in handed_in book_frames book_frame cover also_handed all_below read_refusal cell_refusal reading_of
+unfolding step after result admit_of admit_refusal new_station seat_of find_call first lowest_free has_bit with_bit without_bit leads_to unpacked digit char trim_start trim_end receive_of receive_refusal parse head_ok frames_of item_at frame_of payload unpack payload_ok word_ok pack frames_words ncs_rx read_frames frame_step read_frame piece_frame reply_end is_member accept widened widened_at own_cell put_of cells.accept shows_of settle grow store await seek next slide_of mark_of bar_of stop events_in handed_in book_frames book_frame cover also_handed all_below read_refusal cell_refusal reading_of
 claims_run g = record { answers = refl; barred = refl; book = refl; read = refl }
 
 -- the premises hold of these calls
 pub claims_ok : (g : Settings) → CallsOk claims_much claims_calls (one_cell g) empty_book
-unfolding CallsOk step after result admit_of admit_refusal new_station seat_of find_call first lowest_free has_bit with_bit without_bit leads_to unpacked digit char trim_start trim_end receive_of receive_refusal parse head_ok frames_of item_at frame_of payload unpack payload_ok word_ok pack framesWords ncs_rx read_frames frame_step read_frame piece_frame reply_end is_member accept widened widened_at own_cell put_of cells.accept shows_of settle grow store await seek next slide_of mark_of bar_of stop events_in handed_in book_frames book_frame cover also_handed all_below read_refusal cell_refusal reading_of
+unfolding CallsOk step after result admit_of admit_refusal new_station seat_of find_call first lowest_free has_bit with_bit without_bit leads_to unpacked digit char trim_start trim_end receive_of receive_refusal parse head_ok frames_of item_at frame_of payload unpack payload_ok word_ok pack frames_words ncs_rx read_frames frame_step read_frame piece_frame reply_end is_member accept widened widened_at own_cell put_of cells.accept shows_of settle grow store await seek next slide_of mark_of bar_of stop events_in handed_in book_frames book_frame cover also_handed all_below read_refusal cell_refusal reading_of
 claims_ok g = (
   tt,
   (

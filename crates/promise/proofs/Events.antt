@@ -6,7 +6,7 @@ use Prim.Native.Nat.{ℕ, ◌+◌, ◌*◌, ◌/◌, ◌%◌, ◌<◌}
 use native.Mathlib.Omega.{arith}
 use lib.Dec.{eqb}
 use borrow.Author.Tests.{eq-eqb, ne_eqb}
-use Rattle.out.specs.Encode.{eventWord, messageWord, missedWord}
+use Rattle.out.specs.Encode.{event_word, message_word, missed_word}
 use Rattle.promise.specs.Promise.{Event2, event_of, events_in}
 
 pub events_none : events_in [] ≡ []
@@ -35,11 +35,11 @@ pub append_quiet : (a b : List ℕ) (es : List Event2) → events_in a ≡ es �
 append_quiet a b es p q = events_append a b ∙ ap (λ (l : List Event2). l ++ events_in b) p ∙ ap (λ (l : List Event2). es ++ l) q
 
 -- the words that are none
-pub relayed_word : (slot via : ℕ) (ws : List ℕ) → events_in (eventWord 4 slot via ∷ ws) ≡ events_in ws
-relayed_word slot via ws = event_other (eventWord 4 slot via) ws (λ e. omega arith)
+pub relayed_word : (slot via : ℕ) (ws : List ℕ) → events_in (event_word 4 slot via ∷ ws) ≡ events_in ws
+relayed_word slot via ws = event_other (event_word 4 slot via) ws (λ e. omega arith)
 
-pub missed_word : (slot : ℕ) (ws : List ℕ) → events_in (missedWord slot ∷ ws) ≡ events_in ws
-missed_word slot ws = event_other (missedWord slot) ws (λ e. omega arith)
+pub missed_word_lem : (slot : ℕ) (ws : List ℕ) → events_in (missed_word slot ∷ ws) ≡ events_in ws
+missed_word_lem slot ws = event_other (missed_word slot) ws (λ e. omega arith)
 
 -- the parts of the one that is
 parts : (w n c s : ℕ) → w ≡ 536870912 + n * 8192 + c * 64 + s → n < 256 → c < 64 → s < 64
@@ -49,17 +49,17 @@ parts w n c s e a b d =
     let r : w / 8192 ≡ 65536 + n = omega arith in
     (omega arith, omega arith, omega arith, omega arith)
 
-word_is : (slot cell number : ℕ) → slot < 64 → cell < 64 → messageWord slot cell number ≡ 536870912 + number % 256 * 8192 + cell * 64 + slot
+word_is : (slot cell number : ℕ) → slot < 64 → cell < 64 → message_word slot cell number ≡ 536870912 + number % 256 * 8192 + cell * 64 + slot
 word_is slot cell number a b =
     let p : slot % 64 ≡ slot = omega arith in
     let q : cell % 128 ≡ cell = omega arith in
     omega arith
 
 -- and that one
-pub message_word : (slot cell number : ℕ) (ws : List ℕ) → slot < 64 → cell < 64
-    → events_in (messageWord slot cell number ∷ ws) ≡ record { slot = slot; cell = cell; number = number % 256 } ∷ events_in ws
-message_word slot cell number ws a b =
-    let w = messageWord slot cell number in
+pub message_word_lem : (slot cell number : ℕ) (ws : List ℕ) → slot < 64 → cell < 64
+    → events_in (message_word slot cell number ∷ ws) ≡ record { slot = slot; cell = cell; number = number % 256 } ∷ events_in ws
+message_word_lem slot cell number ws a b =
+    let w = message_word slot cell number in
     let r = parts w (number % 256) cell slot (word_is slot cell number a b) (omega arith) b a in
     event_this w ws r.0
     ∙ ap (λ (y : ℕ). record { slot = y; cell = w / 64 % 128; number = w / 8192 % 256 } ∷ events_in ws) r.1

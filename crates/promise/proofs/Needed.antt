@@ -16,7 +16,7 @@ use Rattle.bits.proofs.Lists.{cases, cond_keeps, le_or_lt}
 use Rattle.wire.specs.Call.{digit, char, trim_start, trim_end, unpacked}
 use Rattle.wire.specs.Numbers.{widened, widened_at}
 use Rattle.words.specs.Words.{Heard, lost, heard, word_ok, payload_ok, unpack, payload, frame_of, item_at, frames_of, head_ok, parse}
-use Rattle.out.specs.Encode.{pack, framesWords, burstWords}
+use Rattle.out.specs.Encode.{pack, frames_words, burst_words}
 use Rattle.inbox.specs.Cells.{seek, next, grow, settle}
 use Rattle.inbox.specs.Cells as cells
 use Rattle.inbox.specs.Messages.{framed, Cut, shows_of}
@@ -55,7 +55,7 @@ abbrev pub swapped : List Call
 swapped =
     joins
     ∷ hears (heard 0 0 (2 ∷ 0 ∷ 104 ∷ []) ∷ []) (0 ∷ [])
-    ∷ reception (burstWords (record { head = record { code = 0; hi = 0; extra = 0 }; frames = heard 0 3 (105 ∷ []) ∷ [] })) zero_time zero_time
+    ∷ reception (burst_words (record { head = record { code = 0; hi = 0; extra = 0 }; frames = heard 0 3 (105 ∷ []) ∷ [] })) zero_time zero_time
     (another (2 ∷ 0 ∷ 120 ∷ 120 ∷ replicate 6396 7)) 8192 (0 ∷ [])
     ∷ reading 0 handed
     ∷ []
@@ -95,7 +95,7 @@ pub record Broken (g : Settings) : Type 0 where
   pub overlong : Holds all_too_long 1 overlong (one_cell g) empty_book → ⊥
 
 pub broken : (g : Settings) → Broken g
-unfolding Holds step result admit_of admit_refusal new_station seat_of find_call first lowest_free has_bit with_bit without_bit leads_to unpacked digit char trim_start trim_end receive_of receive_refusal parse head_ok frames_of item_at frame_of payload unpack payload_ok word_ok pack framesWords ncs_rx read_frames frame_step read_frame piece_frame reply_end is_member accept widened widened_at own_cell put_of cells.accept shows_of settle grow seek next slide_of stop events_in book_frames book_frame cover also_handed all_below read_refusal cell_refusal reading_of
+unfolding Holds step result admit_of admit_refusal new_station seat_of find_call first lowest_free has_bit with_bit without_bit leads_to unpacked digit char trim_start trim_end receive_of receive_refusal parse head_ok frames_of item_at frame_of payload unpack payload_ok word_ok pack frames_words ncs_rx read_frames frame_step read_frame piece_frame reply_end is_member accept widened widened_at own_cell put_of cells.accept shows_of settle grow seek next slide_of stop events_in book_frames book_frame cover also_handed all_below read_refusal cell_refusal reading_of
 broken g =
     record {
       far = λ h. h.1.0.pairs;
@@ -173,13 +173,13 @@ once_more_lem = hears (whole 0 ∷ []) (0 ∷ [])
 
 -- number 0, handed over before, is read as 256, which lands: an event, and no message
 last_refuted : (g : Settings) (b : Book) → b.ledger.handed 0 0 ≡ true → Holds all_empty 3 (once_more_lem ∷ []) (having g (window_of 129 0 0) 128) b → ⊥
-unfolding Holds step after result new_station first lowest_free has_bit with_bit without_bit receive_of receive_refusal parse head_ok frames_of item_at frame_of payload unpack payload_ok word_ok pack framesWords ncs_rx read_frames frame_step read_frame piece_frame reply_end is_member accept widened widened_at own_cell put_of cells.accept shows_of settle grow seek next slide_of mark_of stop events_in book_frames book_frame cover also_handed all_below having filled cell_refusal free_of
+unfolding Holds step after result new_station first lowest_free has_bit with_bit without_bit receive_of receive_refusal parse head_ok frames_of item_at frame_of payload unpack payload_ok word_ok pack frames_words ncs_rx read_frames frame_step read_frame piece_frame reply_end is_member accept widened widened_at own_cell put_of cells.accept shows_of settle grow seek next slide_of mark_of stop events_in book_frames book_frame cover also_handed all_below having filled cell_refusal free_of
 last_refuted g b h z =
     subst (λ (t : Bool). Pairs 3 (record { slot = 0; cell = 0; number = 0 } ∷ []) (named (λ s. true) (record { slot = 0; cell = 0; number = 0 } ∷ []) ((enter_by (not t && true) 0 0 b.ledger (cover 0 0 0 2 b.ledger.covered)).out ++ [])) b.entry) h
     z.0.pairs
 
 zero_handed : (g : Settings) (b : Book) → (book_call (sent_now all_empty b) once_more_lem (having g (up_to 127) 127) b).left.ledger.handed 0 0 ≡ true
-unfolding Holds step after result new_station first lowest_free has_bit with_bit without_bit receive_of receive_refusal parse head_ok frames_of item_at frame_of payload unpack payload_ok word_ok pack framesWords ncs_rx read_frames frame_step read_frame piece_frame reply_end is_member accept widened widened_at own_cell put_of cells.accept shows_of settle grow seek next slide_of mark_of stop events_in book_frames book_frame cover also_handed all_below having filled cell_refusal free_of
+unfolding Holds step after result new_station first lowest_free has_bit with_bit without_bit receive_of receive_refusal parse head_ok frames_of item_at frame_of payload unpack payload_ok word_ok pack frames_words ncs_rx read_frames frame_step read_frame piece_frame reply_end is_member accept widened widened_at own_cell put_of cells.accept shows_of settle grow seek next slide_of mark_of stop events_in book_frames book_frame cover also_handed all_below having filled cell_refusal free_of
 zero_handed g b = hands (sent_now all_empty b) refl b.ledger
 
 no_end : (n k : ℕ) → NoEnd (filled n k)

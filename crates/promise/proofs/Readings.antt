@@ -13,7 +13,7 @@ use Rattle.bits.specs.Mask.{has_bit}
 use Rattle.bits.proofs.Laws.{with_other}
 use Rattle.bits.proofs.Lists.{cond_keeps, le_or_lt, eq_or_not}
 use Rattle.words.specs.Words.{Heard, lost, heard}
-use Rattle.out.specs.Encode.{eventWord, messageWord}
+use Rattle.out.specs.Encode.{event_word, message_word}
 use Rattle.stream.specs.declared.window.Window.{Window}
 use Rattle.stream.specs.Window.{land_of, bar_of, fresh_of}
 use Rattle.stream.specs.declared.table.Room.{Room}
@@ -33,7 +33,7 @@ use Rattle.promise.specs.Promise.{Event2, events_in}
 use Rattle.promise.proofs.FrameCases.{frame_cases}
 use Rattle.promise.proofs.Pieces.{also_one, windows_after, view_after, windows_barred, view_barred, event_for}
 use Rattle.promise.proofs.Quiet.{window_in, window_at, Keeps, kept_self, view_of, view_is, kept_view}
-use Rattle.promise.proofs.Events.{events_none, relayed_word, message_word}
+use Rattle.promise.proofs.Events.{events_none, relayed_word, message_word_lem}
 use Rattle.promise.proofs.Signs.{sign_beside, cleared}
 use Rattle.promise.proofs.Walk.{Change, others, turned, over, hears, written, counted, promoted, moved, entered, piece, landed, freed, barred, signs_off, Chain, chain_keeps, queued, posted}
 use Rattle.promise.proofs.Walk as walk
@@ -172,18 +172,18 @@ pub piece_events_lem : (a : Air) (s : Station) (slot : ℕ) (r : Accepted) → s
 piece_events_lem a s slot r low fit = at (has_landed r.landed) refl
   where
     word : List ℕ
-    word = messageWord slot r.cell r.number ∷ []
+    word = message_word slot r.cell r.number ∷ []
 
     one : Event2
     one = record { slot = slot; cell = r.cell; number = r.number % 256 }
 
     said : r.cell < 64 → events_in word ≡ one ∷ []
-    said f = message_word slot r.cell r.number [] low f ∙ ap (λ (l : List Event2). one ∷ l) events_none
+    said f = message_word_lem slot r.cell r.number [] low f ∙ ap (λ (l : List Event2). one ∷ l) events_none
 
     at : (b : Bool) → has_landed r.landed ≡ b
-        → events_in (cond b (cond (is_relayed a s slot r) (eventWord 4 slot a.polled ∷ word) word) []) ≡ also_one (cond b (some one) none) []
+        → events_in (cond b (cond (is_relayed a s slot r) (event_word 4 slot a.polled ∷ word) word) []) ≡ also_one (cond b (some one) none) []
     at true q =
-        cond_keeps (λ (ws : List ℕ). events_in ws ≡ one ∷ []) (is_relayed a s slot r) (eventWord 4 slot a.polled ∷ word) word
+        cond_keeps (λ (ws : List ℕ). events_in ws ≡ one ∷ []) (is_relayed a s slot r) (event_word 4 slot a.polled ∷ word) word
         (λ _. relayed_word slot a.polled word ∙ said (fit q)) (λ _. said (fit q))
     at false q = events_none
 

@@ -15,7 +15,7 @@ use Rattle.bits.proofs.Lists.{cond_keeps}
 use Rattle.wire.specs.Call.{digit, char, trim_start, trim_end, unpacked}
 use Rattle.wire.specs.Numbers.{widened, widened_at}
 use Rattle.words.specs.Words.{Heard, lost, heard, word_ok, payload_ok, unpack, payload, frame_of, item_at, frames_of, head_ok, parse}
-use Rattle.out.specs.Encode.{pack, framesWords}
+use Rattle.out.specs.Encode.{pack, frames_words}
 use Rattle.inbox.specs.Cells.{seek, next, grow, settle}
 use Rattle.inbox.specs.Cells as cells
 use Rattle.inbox.specs.Messages.{shows_of}
@@ -214,7 +214,7 @@ pub record Readings (g : Settings) : Type 0 where
   pub short : ReadsAs (record { watched = λ s. true; text = λ s k. 104 ∷ 105 ∷ 33 ∷ [] }) (some (message 0 0)) (with_hi g) 0 → ⊥
 
 pub readings : (g : Settings) → Readings g
-unfolding step after result admit_of admit_refusal new_station seat_of find_call first lowest_free has_bit with_bit without_bit leads_to unpacked digit char trim_start trim_end receive_of receive_refusal parse head_ok frames_of item_at frame_of payload unpack payload_ok word_ok pack framesWords ncs_rx read_frames frame_step read_frame piece_frame reply_end is_member accept widened widened_at own_cell put_of cells.accept shows_of settle grow seek next slide_of stop read_refusal cell_refusal reading_of
+unfolding step after result admit_of admit_refusal new_station seat_of find_call first lowest_free has_bit with_bit without_bit leads_to unpacked digit char trim_start trim_end receive_of receive_refusal parse head_ok frames_of item_at frame_of payload unpack payload_ok word_ok pack frames_words ncs_rx read_frames frame_step read_frame piece_frame reply_end is_member accept widened widened_at own_cell put_of cells.accept shows_of settle grow seek next slide_of stop read_refusal cell_refusal reading_of
 readings g =
     record {
       stale = λ h. let z : ◌≡◌ {A = ℕ} 0 22 = h in omega arith;

@@ -15,7 +15,7 @@ use Rattle.bits.proofs.Lists.{le_or_lt}
 use Rattle.wire.specs.Call.{digit, char, trim_start, trim_end, unpacked, pack_call}
 use Rattle.wire.specs.Numbers.{widened, widened_at}
 use Rattle.words.specs.Words.{Heard, lost, heard, word_ok, payload_ok, unpack, payload, frame_of, item_at, frames_of, head_ok, parse}
-use Rattle.out.specs.Encode.{pack, framesWords, burstWords}
+use Rattle.out.specs.Encode.{pack, frames_words, burst_words}
 use Rattle.inbox.specs.Cells.{seek, next, grow, settle, store, await}
 use Rattle.inbox.specs.Cells as cells
 use Rattle.inbox.specs.Messages.{framed, shows_of}
@@ -84,7 +84,7 @@ joins = admission (pack_call (65 ∷ 32 ∷ 32 ∷ 32 ∷ 32 ∷ 32 ∷ 32 ∷ [
 
 -- a burst of these frames, with their numbers
 abbrev pub hears : List Heard → List ℕ → Call
-hears fs numbers = reception (burstWords (record { head = record { code = 0; hi = 0; extra = 0 }; frames = fs })) zero_time zero_time handed 8192 numbers
+hears fs numbers = reception (burst_words (record { head = record { code = 0; hi = 0; extra = 0 }; frames = fs })) zero_time zero_time handed 8192 numbers
 
 -- number 0 of slot 0, whole, in one frame
 abbrev pub hi : Call
@@ -113,7 +113,7 @@ pub record HiRun (g : Settings) : Type 0 where
   pub freed : (outcome (reading 0 handed) (after (joins ∷ hi ∷ freeing 0 ∷ []) (one_cell g))).refusal ≡ 22
 
 pub hi_run : (g : Settings) → HiRun g
-unfolding step after result admit_of admit_refusal new_station seat_of find_call first lowest_free has_bit with_bit without_bit leads_to unpacked digit char trim_start trim_end receive_of receive_refusal parse head_ok frames_of item_at frame_of payload unpack payload_ok word_ok pack framesWords ncs_rx read_frames frame_step read_frame piece_frame reply_end is_member accept widened widened_at own_cell put_of cells.accept shows_of settle grow seek next slide_of stop events_in handed_in book_frames book_frame cover also_handed all_below next_of next_refusal read_refusal cell_refusal reading_of free_of
+unfolding step after result admit_of admit_refusal new_station seat_of find_call first lowest_free has_bit with_bit without_bit leads_to unpacked digit char trim_start trim_end receive_of receive_refusal parse head_ok frames_of item_at frame_of payload unpack payload_ok word_ok pack frames_words ncs_rx read_frames frame_step read_frame piece_frame reply_end is_member accept widened widened_at own_cell put_of cells.accept shows_of settle grow seek next slide_of stop events_in handed_in book_frames book_frame cover also_handed all_below next_of next_refusal read_refusal cell_refusal reading_of free_of
 hi_run g = record { stranger = refl; unbooked = refl; member = refl; answers = refl; book = refl; read = refl; freed = refl }
 
 -- the premises hold of these calls
@@ -125,7 +125,7 @@ pub near : (k n : ℕ) → k ≤ 1 → (1 < n → ⊥) → (n ≤ k + 128) × (k
 near k n a z = ⊎_elim (λ b. (omega arith, omega arith)) (λ b. absurd (z b)) (le_or_lt n 1)
 
 pub hi_ok : (g : Settings) → CallsOk all_hi hi_calls (one_cell g) empty_book
-unfolding CallsOk step after result admit_of admit_refusal new_station seat_of find_call first lowest_free has_bit with_bit without_bit leads_to unpacked digit char trim_start trim_end receive_of receive_refusal parse head_ok frames_of item_at frame_of payload unpack payload_ok word_ok pack framesWords ncs_rx read_frames frame_step read_frame piece_frame reply_end is_member accept widened widened_at own_cell put_of cells.accept shows_of settle grow seek next slide_of stop events_in handed_in book_frames book_frame cover also_handed all_below next_of next_refusal read_refusal cell_refusal reading_of free_of
+unfolding CallsOk step after result admit_of admit_refusal new_station seat_of find_call first lowest_free has_bit with_bit without_bit leads_to unpacked digit char trim_start trim_end receive_of receive_refusal parse head_ok frames_of item_at frame_of payload unpack payload_ok word_ok pack frames_words ncs_rx read_frames frame_step read_frame piece_frame reply_end is_member accept widened widened_at own_cell put_of cells.accept shows_of settle grow seek next slide_of stop events_in handed_in book_frames book_frame cover also_handed all_below next_of next_refusal read_refusal cell_refusal reading_of free_of
 hi_ok g = (
   tt,
   (
@@ -176,11 +176,11 @@ pub record PieceRun (g : Settings) : Type 0 where
   pub read : reading_of (after piece_calls (one_cell g)).station (after piece_calls (one_cell g)).store 0 ≡ 104 ∷ 105 ∷ []
 
 pub piece_run : (g : Settings) → PieceRun g
-unfolding step after result admit_of admit_refusal new_station seat_of find_call first lowest_free has_bit with_bit without_bit leads_to unpacked digit char trim_start trim_end receive_of receive_refusal parse head_ok frames_of item_at frame_of payload unpack payload_ok word_ok pack framesWords ncs_rx read_frames frame_step read_frame piece_frame reply_end is_member accept widened widened_at own_cell put_of cells.accept shows_of settle grow store await seek next slide_of mark_of stop events_in handed_in book_frames book_frame cover also_handed all_below next_of next_refusal read_refusal cell_refusal reading_of free_of
+unfolding step after result admit_of admit_refusal new_station seat_of find_call first lowest_free has_bit with_bit without_bit leads_to unpacked digit char trim_start trim_end receive_of receive_refusal parse head_ok frames_of item_at frame_of payload unpack payload_ok word_ok pack frames_words ncs_rx read_frames frame_step read_frame piece_frame reply_end is_member accept widened widened_at own_cell put_of cells.accept shows_of settle grow store await seek next slide_of mark_of stop events_in handed_in book_frames book_frame cover also_handed all_below next_of next_refusal read_refusal cell_refusal reading_of free_of
 piece_run g = record { full = refl; freed = refl; book = refl; read = refl }
 
 pub piece_ok : (g : Settings) → CallsOk all_hi piece_calls (one_cell g) empty_book
-unfolding CallsOk step after result admit_of admit_refusal new_station seat_of find_call first lowest_free has_bit with_bit without_bit leads_to unpacked digit char trim_start trim_end receive_of receive_refusal parse head_ok frames_of item_at frame_of payload unpack payload_ok word_ok pack framesWords ncs_rx read_frames frame_step read_frame piece_frame reply_end is_member accept widened widened_at own_cell put_of cells.accept shows_of settle grow store await seek next slide_of mark_of stop events_in handed_in book_frames book_frame cover also_handed all_below next_of next_refusal read_refusal cell_refusal reading_of free_of
+unfolding CallsOk step after result admit_of admit_refusal new_station seat_of find_call first lowest_free has_bit with_bit without_bit leads_to unpacked digit char trim_start trim_end receive_of receive_refusal parse head_ok frames_of item_at frame_of payload unpack payload_ok word_ok pack frames_words ncs_rx read_frames frame_step read_frame piece_frame reply_end is_member accept widened widened_at own_cell put_of cells.accept shows_of settle grow store await seek next slide_of mark_of stop events_in handed_in book_frames book_frame cover also_handed all_below next_of next_refusal read_refusal cell_refusal reading_of free_of
 piece_ok g = (
   tt,
   (

@@ -9,8 +9,8 @@ use lib.Ieee.{Float}
 use lib.ListN.{length, take, drop, get_or, length-append, length-drop}
 use Rattle.bits.proofs.Lists.{cond_keeps}
 use Rattle.wire.specs.Kinds.{t_down, k_close, k_ack, k_pollack, c_acks, c_tree, c_rxlist}
-use Rattle.out.specs.Encode.{headWord, waveWord, word12, pack, frameWords, ctrlWords, chunks_of, chunkSize, chunkWords}
-use Rattle.out.proofs.Pack.{length-pack, length-take-most}
+use Rattle.out.specs.Encode.{head_word, wave_word, word12, pack, frame_words, ctrl_words, chunks_of, chunk_size, chunk_words}
+use Rattle.out.proofs.Pack.{length_pack, length_take_most}
 use Rattle.roster.specs.declared.Member.{Member}
 use Rattle.net.specs.declared.Station.{Station}
 use Rattle.net.specs.declared.Settings.{Settings}
@@ -71,12 +71,12 @@ quiet_pack (a ∷ b ∷ []) = event_other (word12 a b 0) [] (λ e. omega arith) 
 quiet_pack (a ∷ b ∷ c ∷ l) = event_other (word12 a b c) (pack l) (λ e. omega arith) ∙ quiet_pack l
 
 -- a frame
-pub short_frame : (flags field : ℕ) (p : List ℕ) → length p ≤ 255 → Short 87 (frameWords flags field p)
+pub short_frame : (flags field : ℕ) (p : List ℕ) → length p ≤ 255 → Short 87 (frame_words flags field p)
 short_frame flags field p h =
     short_word (0xa0000000 + flags * 256 + length p) (λ e. omega arith)
-    (short_word {n = 85} (0xb0000000 + field) (λ e. omega arith) (record { most = omega (arith, length-pack p); quiet = quiet_pack p }))
+    (short_word {n = 85} (0xb0000000 + field) (λ e. omega arith) (record { most = omega (arith, length_pack p); quiet = quiet_pack p }))
 
-short_ctrl : (p : List ℕ) → length p ≤ 255 → Short 87 (ctrlWords p)
+short_ctrl : (p : List ℕ) → length p ≤ 255 → Short 87 (ctrl_words p)
 short_ctrl p h = short_frame 0xbf 0 p h
 
 module _ (kind size : ℕ) (few : size ≤ 31) where
@@ -88,14 +88,14 @@ module _ (kind size : ℕ) (few : size ≤ 31) where
   short_chunks (suc k) (suc n) (b ∷ l) e =
       let c : length (drop size (b ∷ l)) ≤ n * size = omega (arith, length-drop size (b ∷ l), e) in
       short_less (omega arith)
-      (short_both (short_ctrl (kind ∷ take size (b ∷ l)) (omega (arith, length-take-most size (b ∷ l)))) (short_chunks k n (drop size (b ∷ l)) c))
+      (short_both (short_ctrl (kind ∷ take size (b ∷ l)) (omega (arith, length_take_most size (b ∷ l)))) (short_chunks k n (drop size (b ∷ l)) c))
 
 -- n frames of rows
-short_rows : (kind size n : ℕ) (l : List ℕ) → chunkSize size ≤ 31 → length l ≤ n * chunkSize size → Short (n * 87) (chunkWords kind size l)
-short_rows kind size n l h e = short_chunks kind (chunkSize size) h (length l) n l e
+short_rows : (kind size n : ℕ) (l : List ℕ) → chunk_size size ≤ 31 → length l ≤ n * chunk_size size → Short (n * 87) (chunk_words kind size l)
+short_rows kind size n l h e = short_chunks kind (chunk_size size) h (length l) n l e
 
 pub short_burst : (code hi extra level : ℕ) (fs : List ℕ) → Short (64 * 87) fs → Short burst_room (head_words code hi extra level ++ fs)
-short_burst code hi extra level fs s = short_word (headWord code hi extra) (λ e. omega arith) (short_word (waveWord level) (λ e. omega arith) s)
+short_burst code hi extra level fs s = short_word (head_word code hi extra) (λ e. omega arith) (short_word (wave_word level) (λ e. omega arith) s)
 
 -- without frames
 pub short_tiny : (kind extra level : ℕ) → Short burst_room (tiny_words kind extra level)
@@ -110,7 +110,7 @@ unfolding acks_burst
 short_acks s =
     let a = ack_rows s (acked s) 62 in
     let t = tree_rows s (acked_or_moved s) (moved_in s) in
-    short_burst 0 0 0 (acks_level s) (chunkWords c_acks 18 a ++ chunkWords c_tree 20 t)
+    short_burst 0 0 0 (acks_level s) (chunk_words c_acks 18 a ++ chunk_words c_tree 20 t)
     (short_less (omega arith) (short_both
     (short_rows c_acks 18 21 a (omega arith) (omega (arith, rows_most (ack_at (acked s) 62) (ack_row s) 6 (λ i. refl) [])))
     (short_rows c_tree 20 7 t (omega arith) (omega (arith, rows_most (tree_at s (acked_or_moved s) (moved_in s)) (tree_row s) 2 (λ i. refl) [])))))
@@ -123,12 +123,12 @@ short_beacon : (s : Station) (now : Float) → Short burst_room (beacon_of s now
 unfolding beacon_of
 short_beacon s now =
     let p = beacon_payload s.settings (beacon_acks s) in
-    short_burst 0 0 0 s.settings.beaconlevel (ctrlWords p ++ chunkWords c_acks 18 (beacon_rows s))
+    short_burst 0 0 0 s.settings.beaconlevel (ctrl_words p ++ chunk_words c_acks 18 (beacon_rows s))
     (short_less (omega arith) (short_both (short_ctrl p (payload_most s.settings (beacon_acks s))) (short_rows c_acks 18 42 (beacon_rows s) (omega arith) (omega (arith, beacon_most s)))))
 
 short_list : (s : Station) → Short burst_room (list_words s)
 short_list s =
-    short_burst 0 0 0 (least_direct s) (chunkWords c_rxlist 21 (list_rows s))
+    short_burst 0 0 0 (least_direct s) (chunk_words c_rxlist 21 (list_rows s))
     (short_less (omega arith) (short_rows c_rxlist 21 9 (list_rows s) (omega arith) (omega (arith, rows_most (list_at s) (list_row s) 3 (λ i. refl) []))))
 
 -- word back: 64 frames at most of 255 bytes each

@@ -16,7 +16,7 @@ use Rattle.level.specs.declared.Clock.TheVariants.{At}
 use Rattle.wire.specs.Call.{digit, char, trim_start, trim_end, unpacked, pack_call}
 use Rattle.wire.specs.Numbers.{widened, widened_at}
 use Rattle.words.specs.Words.{heard, word_ok, payload_ok, unpack, payload, frame_of, item_at, frames_of, head_ok, parse}
-use Rattle.out.specs.Encode.{pack, framesWords}
+use Rattle.out.specs.Encode.{pack, frames_words}
 use Rattle.inbox.specs.Cells.{seek, next, grow, settle}
 use Rattle.inbox.specs.Cells as cells
 use Rattle.inbox.specs.Messages.{framed, shows_of, Cut}
@@ -73,7 +73,7 @@ pub record StayRun (g : Settings) : Type 0 where
   pub read : reading_of (after stay_calls (one_cell g)).station (after stay_calls (one_cell g)).store 0 ≡ 104 ∷ 111 ∷ []
 
 pub stay_run : (g : Settings) → StayRun g
-unfolding step after result admit_of admit_refusal new_station seat_of find_call first fold lowest_free has_bit with_bit without_bit leads_to unpacked digit char trim_start trim_end receive_of receive_refusal parse head_ok frames_of item_at frame_of payload unpack payload_ok word_ok pack framesWords ncs_rx read_frames frame_step read_frame piece_frame reply_end is_member accept widened widened_at own_cell put_of cells.accept shows_of settle grow seek next slide_of stop events_in handed_in book_frames book_frame cover also_handed all_below read_refusal cell_refusal reading_of sign_off_of sign_off_refusal sign_off bereave_all bereave_at clear_all clear_at unhear_all unhear_at book_ends tally
+unfolding step after result admit_of admit_refusal new_station seat_of find_call first fold lowest_free has_bit with_bit without_bit leads_to unpacked digit char trim_start trim_end receive_of receive_refusal parse head_ok frames_of item_at frame_of payload unpack payload_ok word_ok pack frames_words ncs_rx read_frames frame_step read_frame piece_frame reply_end is_member accept widened widened_at own_cell put_of cells.accept shows_of settle grow seek next slide_of stop events_in handed_in book_frames book_frame cover also_handed all_below read_refusal cell_refusal reading_of sign_off_of sign_off_refusal sign_off bereave_all bereave_at clear_all clear_at unhear_all unhear_at book_ends tally
 stay_run g = record { taken = refl; freed = refl; gone = refl; silent = refl; nobody = refl; no_slot = refl; unread = refl; events = refl; book = refl; read = refl }
 
 -- the premises hold of it
@@ -88,7 +88,7 @@ whole M l s a b e f =
     }
 
 pub stay_ok : (g : Settings) → CallsOk hi_then_ho stay_calls (one_cell g) empty_book
-unfolding CallsOk step after result admit_of admit_refusal new_station seat_of find_call first fold lowest_free has_bit with_bit without_bit leads_to unpacked digit char trim_start trim_end receive_of receive_refusal parse head_ok frames_of item_at frame_of payload unpack payload_ok word_ok pack framesWords ncs_rx read_frames frame_step read_frame piece_frame reply_end is_member accept widened widened_at own_cell put_of cells.accept shows_of settle grow seek next slide_of stop events_in handed_in book_frames book_frame cover also_handed all_below read_refusal cell_refusal reading_of sign_off_of sign_off_refusal sign_off bereave_all bereave_at clear_all clear_at unhear_all unhear_at book_ends tally
+unfolding CallsOk step after result admit_of admit_refusal new_station seat_of find_call first fold lowest_free has_bit with_bit without_bit leads_to unpacked digit char trim_start trim_end receive_of receive_refusal parse head_ok frames_of item_at frame_of payload unpack payload_ok word_ok pack frames_words ncs_rx read_frames frame_step read_frame piece_frame reply_end is_member accept widened widened_at own_cell put_of cells.accept shows_of settle grow seek next slide_of stop events_in handed_in book_frames book_frame cover also_handed all_below read_refusal cell_refusal reading_of sign_off_of sign_off_refusal sign_off bereave_all bereave_at clear_all clear_at unhear_all unhear_at book_ends tally
 stay_ok g =
     (tt, ((tt, λ r. ((λ m. whole _ _ 0 104 105 refl refl), tt)), (tt, (tt, (tt, ((tt, λ r. ((λ m. whole _ _ 0 104 111 refl refl), tt)), (tt, tt)))))))
 
@@ -108,7 +108,7 @@ abbrev pub former : List Call
 former = joins ∷ signing 0 ∷ joins_too ∷ hi ∷ reading 0 handed ∷ []
 
 pub former_broken : (g : Settings) → Holds hi_then_ho 1 former (one_cell g) empty_book → ⊥
-unfolding Holds step after result admit_of admit_refusal new_station seat_of find_call first fold lowest_free has_bit with_bit without_bit leads_to unpacked digit char trim_start trim_end receive_of receive_refusal parse head_ok frames_of item_at frame_of payload unpack payload_ok word_ok pack framesWords ncs_rx read_frames frame_step read_frame piece_frame reply_end is_member accept widened widened_at own_cell put_of cells.accept shows_of settle grow seek next slide_of stop events_in handed_in book_frames book_frame cover also_handed all_below read_refusal cell_refusal reading_of sign_off_of sign_off_refusal sign_off bereave_all bereave_at clear_all clear_at unhear_all unhear_at book_ends tally
+unfolding Holds step after result admit_of admit_refusal new_station seat_of find_call first fold lowest_free has_bit with_bit without_bit leads_to unpacked digit char trim_start trim_end receive_of receive_refusal parse head_ok frames_of item_at frame_of payload unpack payload_ok word_ok pack frames_words ncs_rx read_frames frame_step read_frame piece_frame reply_end is_member accept widened widened_at own_cell put_of cells.accept shows_of settle grow seek next slide_of stop events_in handed_in book_frames book_frame cover also_handed all_below read_refusal cell_refusal reading_of sign_off_of sign_off_refusal sign_off bereave_all bereave_at clear_all clear_at unhear_all unhear_at book_ends tally
 former_broken g h = let z : ◌≡◌ {A = ℕ} 105 111 = ap (λ (l : List ℕ). get_or l 1 0) ((h.1.1.1.1.0.1 (omega arith)).1 refl) in omega arith
 
 -- ---- its cells, and the boats that are left
@@ -141,13 +141,13 @@ pub record LeftRun (g : Settings) : Type 0 where
   pub gone : ((one_left g).used ≡ 14) × (member_at (one_left g) 0 ≡ vacant)
 
 pub left_run : (g : Settings) → LeftRun g
-unfolding step after result admit_of admit_refusal new_station seat_of find_call first fold lowest_free has_bit with_bit without_bit leads_to unpacked digit char trim_start trim_end receive_of receive_refusal parse head_ok frames_of item_at frame_of payload unpack payload_ok word_ok pack framesWords ncs_rx read_frames frame_step read_frame piece_frame reply_end is_member accept widened widened_at own_cell put_of cells.accept shows_of settle grow seek next slide_of stop sign_off_of sign_off_refusal sign_off bereave_all bereave_at clear_all clear_at unhear_all unhear_at tally
+unfolding step after result admit_of admit_refusal new_station seat_of find_call first fold lowest_free has_bit with_bit without_bit leads_to unpacked digit char trim_start trim_end receive_of receive_refusal parse head_ok frames_of item_at frame_of payload unpack payload_ok word_ok pack frames_words ncs_rx read_frames frame_step read_frame piece_frame reply_end is_member accept widened widened_at own_cell put_of cells.accept shows_of settle grow seek next slide_of stop sign_off_of sign_off_refusal sign_off bereave_all bereave_at clear_all clear_at unhear_all unhear_at tally
 left_run g =
     record { cells = (refl, refl); freed = (refl, refl); relays = (refl, refl, refl); none = (refl, refl, refl); level = (refl, refl); missed = (refl, refl); waits = refl; gone = (refl, refl) }
 
 -- the total of silent boats, with a miss limit of 1
 pub three_silent : ((all_here (settings_of plain)).totals.silent ≡ 0) × ((one_left (settings_of plain)).totals.silent ≡ 3)
-unfolding step after result admit_of admit_refusal new_station seat_of find_call first fold lowest_free has_bit with_bit without_bit leads_to unpacked digit char trim_start trim_end receive_of receive_refusal parse head_ok frames_of item_at frame_of payload unpack payload_ok word_ok pack framesWords ncs_rx read_frames frame_step read_frame piece_frame reply_end is_member accept widened widened_at own_cell put_of cells.accept shows_of settle grow seek next slide_of stop sign_off_of sign_off_refusal sign_off bereave_all bereave_at clear_all clear_at unhear_all unhear_at tally
+unfolding step after result admit_of admit_refusal new_station seat_of find_call first fold lowest_free has_bit with_bit without_bit leads_to unpacked digit char trim_start trim_end receive_of receive_refusal parse head_ok frames_of item_at frame_of payload unpack payload_ok word_ok pack frames_words ncs_rx read_frames frame_step read_frame piece_frame reply_end is_member accept widened widened_at own_cell put_of cells.accept shows_of settle grow seek next slide_of stop sign_off_of sign_off_refusal sign_off bereave_all bereave_at clear_all clear_at unhear_all unhear_at tally
 three_silent = (refl, refl)
 
 -- its own turn ends with no deadline, and one that relays for it goes on with no source

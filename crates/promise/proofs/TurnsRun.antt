@@ -13,7 +13,7 @@ use Rattle.level.specs.Levels.{level_below}
 use Rattle.level.specs.Order.{total_lt}
 use Rattle.wire.specs.Call.{digit, char, trim_start, trim_end, unpacked, shifted}
 use Rattle.words.specs.Words.{item_at, frames_of, head_ok, parse}
-use Rattle.out.specs.Encode.{pack, framesWords, chunks_of}
+use Rattle.out.specs.Encode.{pack, frames_words, chunks_of}
 use Rattle.roster.specs.Relays.{heard_at, relay_src_for, turn_over}
 use Rattle.net.specs.declared.Settings.{Settings}
 use Rattle.net.specs.Net.{is_member, new_station, on_tx_done}
@@ -61,5 +61,5 @@ run = begin ++ (next ∷ sent ∷ next ∷ more ∷ sent ∷ next ∷ more ∷ s
 
 longest : trace run (net (new_station settings 1) (replicate 6400 7))
     ≡ drew (0 ∷ 1 ∷ []) ∷ poll 0 ∷ poll 0 ∷ ack 0 ∷ poll 0 ∷ ack 0 ∷ poll 0 ∷ ack 0 ∷ poll 0 ∷ ack 0 ∷ over 0 ∷ poll 1 ∷ []
-unfolding size units round sum add mul lt le of_int of_bits first fold every any has_bit with_bit without_bit both_of either_of minus_of lowest_bit lowest_free slots_of stop level_below total_lt digit char trim_start trim_end unpacked shifted item_at frames_of head_ok parse pack framesWords chunks_of heard_at relay_src_for turn_over is_member new_station on_tx_done seat_of find_call leads_to poll_burst acks_burst beacon_rows beacon_payload beyond beacon_of tell_all list_sent rx_list_burst tried_of source_for promote_at promote_all move_at move_all reroute_of mask_where rows_on least_reach least_direct poll_stage directed_to is_due list_for draw_stage reroute_stage round_end act_of window_stage again_stage due_of ncs_next read_frames reply_end ncs_rx admit_refusal admit_of receive_refusal receive_of next_refusal next_of sent_of result step bursts_in turn_events trace
+unfolding size units round sum add mul lt le of_int of_bits first fold every any has_bit with_bit without_bit both_of either_of minus_of lowest_bit lowest_free slots_of stop level_below total_lt digit char trim_start trim_end unpacked shifted item_at frames_of head_ok parse pack frames_words chunks_of heard_at relay_src_for turn_over is_member new_station on_tx_done seat_of find_call leads_to poll_burst acks_burst beacon_rows beacon_payload beyond beacon_of tell_all list_sent rx_list_burst tried_of source_for promote_at promote_all move_at move_all reroute_of mask_where rows_on least_reach least_direct poll_stage directed_to is_due list_for draw_stage reroute_stage round_end act_of window_stage again_stage due_of ncs_next read_frames reply_end ncs_rx admit_refusal admit_of receive_refusal receive_of next_refusal next_of sent_of result step bursts_in turn_events trace
 longest = refl

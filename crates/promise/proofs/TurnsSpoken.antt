@@ -11,7 +11,7 @@ use Rattle.bits.specs.declared.Found.TheVariants as found
 use Rattle.bits.proofs.Lists.{cond_keeps}
 use Rattle.level.specs.declared.Clock.TheVariants.{Never}
 use Rattle.wire.specs.Kinds.{c_acks, c_tree, c_rxlist}
-use Rattle.out.specs.Encode.{ctrlWords, chunkWords}
+use Rattle.out.specs.Encode.{ctrl_words, chunk_words}
 use Rattle.net.specs.declared.Station.{Station}
 use Rattle.net.specs.declared.Reply.{Reply}
 use Rattle.net.specs.declared.Turn.{Turn}
@@ -75,20 +75,20 @@ sending (turn x p a) e = absurd e
 pub acks_other : (s : Station) → bursts_in (acks_burst s).words ≡ []
 unfolding acks_burst
 acks_other s =
-    w.other-burst (acks_level s) (chunkWords c_acks 18 (ack_rows s (acked s) 62) ++ chunkWords c_tree 20 (tree_rows s (acked_or_moved s) (moved_in s)))
-    (w.quiet-both (chunkWords c_acks 18 (ack_rows s (acked s) 62)) (chunkWords c_tree 20 (tree_rows s (acked_or_moved s) (moved_in s)))
+    w.other-burst (acks_level s) (chunk_words c_acks 18 (ack_rows s (acked s) 62) ++ chunk_words c_tree 20 (tree_rows s (acked_or_moved s) (moved_in s)))
+    (w.quiet-both (chunk_words c_acks 18 (ack_rows s (acked s) 62)) (chunk_words c_tree 20 (tree_rows s (acked_or_moved s) (moved_in s)))
     (w.quiet-chunk-words c_acks 18 (ack_rows s (acked s) 62)) (w.quiet-chunk-words c_tree 20 (tree_rows s (acked_or_moved s) (moved_in s))))
 
 pub beacon_other : (s : Station) (now : Float) → bursts_in (beacon_of s now).words ≡ []
 unfolding beacon_of
 beacon_other s now =
-    w.other-burst s.settings.beaconlevel (ctrlWords (beacon_payload s.settings (beacon_acks s)) ++ chunkWords c_acks 18 (beacon_rows s))
-    (w.quiet-both (ctrlWords (beacon_payload s.settings (beacon_acks s))) (chunkWords c_acks 18 (beacon_rows s))
+    w.other-burst s.settings.beaconlevel (ctrl_words (beacon_payload s.settings (beacon_acks s)) ++ chunk_words c_acks 18 (beacon_rows s))
+    (w.quiet-both (ctrl_words (beacon_payload s.settings (beacon_acks s))) (chunk_words c_acks 18 (beacon_rows s))
     (w.quiet-ctrl (beacon_payload s.settings (beacon_acks s)))
     (w.quiet-chunk-words c_acks 18 (beacon_rows s)))
 
 pub list_other : (s : Station) → bursts_in (list_words s) ≡ []
-list_other s = w.other-burst (least_direct s) (chunkWords c_rxlist 21 (list_rows s)) (w.quiet-chunk-words c_rxlist 21 (list_rows s))
+list_other s = w.other-burst (least_direct s) (chunk_words c_rxlist 21 (list_rows s)) (w.quiet-chunk-words c_rxlist 21 (list_rows s))
 
 pub word_other : (s : Station) (lent : List ℕ) (slot : ℕ) → bursts_in (direct_burst s lent slot).words ≡ []
 unfolding direct_burst

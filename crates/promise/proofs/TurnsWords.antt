@@ -9,7 +9,7 @@ use lib.ListN.{length, take, drop}
 use borrow.Author.Tests.{ne_eqb, lt-leb}
 use Rattle.wire.specs.Kinds.{t_down, k_pollack, k_ack, k_close}
 use Rattle.words.specs.Words.{head_of, least}
-use Rattle.out.specs.Encode.{headWord, waveWord, word12, pack, ctrlWords, chunks_of, chunkSize, chunkWords, frameWords}
+use Rattle.out.specs.Encode.{head_word, wave_word, word12, pack, ctrl_words, chunks_of, chunk_size, chunk_words, frame_words}
 use Rattle.roster.specs.declared.Member.{Member}
 use Rattle.net.specs.declared.Station.{Station}
 use Rattle.net.specs.declared.Settings.{Settings}
@@ -93,12 +93,12 @@ quiet_pack (a ∷ []) = above_head (word12 a 0 0) [] (omega arith) ∙ quiet_non
 quiet_pack (a ∷ b ∷ []) = above_head (word12 a b 0) [] (omega arith) ∙ quiet_none
 quiet_pack (a ∷ b ∷ c ∷ l) = above_head (word12 a b c) (pack l) (omega arith) ∙ quiet_pack l
 
-pub quiet_frame : (flags field : ℕ) (p : List ℕ) → Quiet (frameWords flags field p)
+pub quiet_frame : (flags field : ℕ) (p : List ℕ) → Quiet (frame_words flags field p)
 quiet_frame flags field p =
     above_head (0xa0000000 + flags * 256 + length p) ((0xb0000000 + field) ∷ pack p) (omega arith)
     ∙ above_head (0xb0000000 + field) (pack p) (omega arith) ∙ quiet_pack p
 
-pub quiet_ctrl : (p : List ℕ) → Quiet (ctrlWords p)
+pub quiet_ctrl : (p : List ℕ) → Quiet (ctrl_words p)
 quiet_ctrl p = quiet_frame 0xbf 0 p
 
 -- the frames of word back
@@ -115,27 +115,27 @@ unfolding chunks_of
 quiet_chunks zero kind size l = quiet_none
 quiet_chunks (suc k) kind size [] = quiet_none
 quiet_chunks (suc k) kind size (b ∷ l) =
-    quiet_both (ctrlWords (kind ∷ take size (b ∷ l))) (chunks_of k kind size (drop size (b ∷ l))) (quiet_ctrl (kind ∷ take size (b ∷ l)))
+    quiet_both (ctrl_words (kind ∷ take size (b ∷ l))) (chunks_of k kind size (drop size (b ∷ l))) (quiet_ctrl (kind ∷ take size (b ∷ l)))
     (quiet_chunks k kind size (drop size (b ∷ l)))
 
-pub quiet_chunk_words : (kind size : ℕ) (l : List ℕ) → Quiet (chunkWords kind size l)
-quiet_chunk_words kind size l = quiet_chunks (length l) kind (chunkSize size) l
+pub quiet_chunk_words : (kind size : ℕ) (l : List ℕ) → Quiet (chunk_words kind size l)
+quiet_chunk_words kind size l = quiet_chunks (length l) kind (chunk_size size) l
 
 -- ### Heads
 
 -- a burst with frames
 pub other_burst : (level : ℕ) (ws : List ℕ) → Quiet ws → bursts_in (head_words 0 0 0 level ++ ws) ≡ []
 unfolding bursts_in
-other_burst level ws h = above_head (waveWord level) ws (omega arith) ∙ h
+other_burst level ws h = above_head (wave_word level) ws (omega arith) ∙ h
 
 -- a burst whose code is a level of the ladder
 level_head : (level : ℕ) (ws : List ℕ) → level < 17 → Quiet ws → bursts_in (head_words level 0 0 level ++ ws) ≡ []
 unfolding bursts_in
 level_head level ws l h =
-    let w = headWord level 0 0 in
+    let w = head_word level 0 0 in
     let k : w / 268435456 ≡ 8 = omega arith in
     let c : w / 2097152 % 128 ≡ level = omega arith in
-    rw (k, c, ne_eqb level 62 (λ e. omega arith)) (above_head (waveWord level) ws (omega arith) ∙ h)
+    rw (k, c, ne_eqb level 62 (λ e. omega arith)) (above_head (wave_word level) ws (omega arith) ∙ h)
 
 -- word back is no poll and no acknowledgement
 pub down_burst_lem : (g : Settings) (queue : List ℕ) (slot : ℕ) (q : Queue) (level : ℕ) → level < 17 → bursts_in (down_burst g queue slot q level) ≡ []
@@ -151,12 +151,12 @@ pub tiny_head : (kind extra level : ℕ) → kind < 16
     → bursts_in (tiny_words kind extra level) ≡ tiny_burst kind (extra % 64) ++ []
 unfolding bursts_in
 tiny_head kind extra level h =
-    let w = headWord 62 kind extra in
+    let w = head_word 62 kind extra in
     let k : w / 268435456 ≡ 8 = omega arith in
     let c : w / 2097152 % 128 ≡ 62 = omega arith in
     let n : w / 131072 % 16 ≡ kind = omega arith in
     let x : w % 65536 % 64 ≡ extra % 64 = omega arith in
-    rw (k, c, n, x) (ap (λ (t : List TurnEvent). tiny_burst kind (extra % 64) ++ t) (above_head (waveWord level) [] (omega arith) ∙ quiet_none))
+    rw (k, c, n, x) (ap (λ (t : List TurnEvent). tiny_burst kind (extra % 64) ++ t) (above_head (wave_word level) [] (omega arith) ∙ quiet_none))
 
 pub close_burst : (level : ℕ) → bursts_in (tiny_words k_close 0 level) ≡ []
 close_burst level = tiny_head k_close 0 level (omega arith)

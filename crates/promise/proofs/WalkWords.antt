@@ -14,7 +14,7 @@ use Rattle.bits.proofs.Lists.{cond_keeps}
 use Rattle.level.specs.declared.Level.{Level}
 use Rattle.level.specs.declared.Level.TheVariants.{Unheard, Decibels}
 use Rattle.words.specs.Words.{Heard, lost, heard}
-use Rattle.out.specs.Encode.{eventWord, messageWord, missedWord}
+use Rattle.out.specs.Encode.{event_word, message_word, missed_word}
 use Rattle.stream.specs.Table.{has_landed}
 use Rattle.roster.specs.Relays.{promotable_at}
 use Rattle.net.specs.declared.Station.{Station}
@@ -65,8 +65,8 @@ module _ (M : Type 0) where
   one : (w : ℕ) → w < 2147483648 → (w / 268435456 ≡ 2 → M) → Events M 1 (w ∷ [])
   one w l m = event w 1 {n = 0} l m (omega arith) none
 
-  pub missed_event_lem : (slot : ℕ) → Events M 1 (missedWord slot ∷ [])
-  missed_event_lem slot = one (missedWord slot) (omega arith) (λ e. absurd (omega arith))
+  pub missed_event_lem : (slot : ℕ) → Events M 1 (missed_word slot ∷ [])
+  missed_event_lem slot = one (missed_word slot) (omega arith) (λ e. absurd (omega arith))
 
   abbrev Says : ℕ → Said → Type 0
   Says n x = Events M n x.words
@@ -81,7 +81,7 @@ module _ (M : Type 0) where
 
   promote_with_lem : (l : Level) (i n : ℕ) (x : Said) → Says n x → Says (n + 1) (promote_with l i x)
   promote_with_lem Unheard i n x e = events_less (omega arith) e
-  promote_with_lem (Decibels snr) i n x e = events_both e (one (eventWord 5 i 63) (omega arith) (λ q. absurd (omega arith)))
+  promote_with_lem (Decibels snr) i n x e = events_both e (one (event_word 5 i 63) (omega arith) (λ q. absurd (omega arith)))
 
   promote_events : (floor : Float) (i n : ℕ) (x : Said) → Says n x → Says (n + 1) (promote_at floor i x)
   unfolding promote_at
@@ -93,7 +93,7 @@ module _ (M : Type 0) where
       let r = new_relay x.station c in
       cond_keeps (Says (n + 1)) (must_move leaves x.station c) _ x
       (λ _. cond_keeps (Says (n + 1)) (eqb r 63) x _ (λ _. events_less (omega arith) e)
-      (λ _. events_both e (one (eventWord 5 c r) (omega arith) (λ q. absurd (omega arith)))))
+      (λ _. events_both e (one (event_word 5 c r) (omega arith) (λ q. absurd (omega arith)))))
       (λ _. events_less (omega arith) e)
 
   pub reroute_events : (s : Station) → Events M 124 (reroute_of s).words
@@ -107,9 +107,9 @@ module _ (M : Type 0) where
   pub admit_events_lem : (seat : Seat) (s : Station) (call : List ℕ) (v : ℕ) (now : Float) → Events M 2 (admit_by seat s call v now).words
   admit_events_lem (Known i) s call v now = none
   admit_events_lem (Free i) s call v now =
-      let e : Events M 1 (eventWord 1 i v ∷ []) = one (eventWord 1 i v) (omega arith) (λ q. absurd (omega arith)) in
-      cond_keeps (Events M 2) (eqb v 63) (eventWord 1 i v ∷ []) (eventWord 4 i v ∷ eventWord 1 i v ∷ []) (λ _. events_less (omega arith) e)
-      (λ _. event (eventWord 4 i v) 2 (omega arith) (λ q. absurd (omega arith)) (omega arith) e)
+      let e : Events M 1 (event_word 1 i v ∷ []) = one (event_word 1 i v) (omega arith) (λ q. absurd (omega arith)) in
+      cond_keeps (Events M 2) (eqb v 63) (event_word 1 i v ∷ []) (event_word 4 i v ∷ event_word 1 i v ∷ []) (λ _. events_less (omega arith) e)
+      (λ _. event (event_word 4 i v) 2 (omega arith) (λ q. absurd (omega arith)) (omega arith) e)
   admit_events_lem Full s call v now = none
 
   -- ---- control frames
@@ -146,7 +146,7 @@ module _ (M : Type 0) where
         let c = get_or p e 0 in
         let b = get_or p (e + 1) 0 in
         cond_keeps (Says (n + 1)) (is_kid x.station c slot) _ x
-        (λ _. events_both h (cond_keeps (Events M 1) (leb 128 b) [] (missedWord c ∷ []) (λ _. none) (λ _. missed_event_lem c)))
+        (λ _. events_both h (cond_keeps (Events M 1) (leb 128 b) [] (missed_word c ∷ []) (λ _. none) (λ _. missed_event_lem c)))
         (λ _. events_less (omega arith) h)
 
     pub kids_events : (len : ℕ) (p : List ℕ) (slot : ℕ) (s : Station) → Events M (len / 2) (kids_frame a len p slot s).words
@@ -160,10 +160,10 @@ module _ (M : Type 0) where
       Reads n x = Events M n x.words
 
       piece_one : (b c : Bool) (slot polled cell number : ℕ)
-          → Events M 2 (cond b (cond c (eventWord 4 slot polled ∷ messageWord slot cell number ∷ []) (messageWord slot cell number ∷ [])) [])
+          → Events M 2 (cond b (cond c (event_word 4 slot polled ∷ message_word slot cell number ∷ []) (message_word slot cell number ∷ [])) [])
       piece_one true true slot polled cell number =
-          event (eventWord 4 slot polled) 2 (omega arith) (λ q. m) (omega arith) (one (messageWord slot cell number) (omega arith) (λ q. m))
-      piece_one true false slot polled cell number = events_less (omega arith) (one (messageWord slot cell number) (omega arith) (λ q. m))
+          event (event_word 4 slot polled) 2 (omega arith) (λ q. m) (omega arith) (one (message_word slot cell number) (omega arith) (λ q. m))
+      piece_one true false slot polled cell number = events_less (omega arith) (one (message_word slot cell number) (omega arith) (λ q. m))
       piece_one false c slot polled cell number = none
 
       frame_events : (f : Heard) (n : ℕ) (x : Reading) → Reads n x → Reads (n + most_of f) (read_frame a f x)

@@ -5,7 +5,7 @@ use Rattle.level.specs.declared.Clock.TheVariants.{Never, At}
 use Rattle.wire.specs.Fields.{snr_from_q}
 use Rattle.wire.specs.Kinds.{tiny, k_pollack, k_ack, k_idle, k_subpoll, k_suback}
 use Rattle.words.specs.declared.Head.{Head}
-use Rattle.out.specs.Encode.{headWord, waveWord}
+use Rattle.out.specs.Encode.{head_word, wave_word}
 use Rattle.roster.specs.declared.Member.{Member}
 use Rattle.roster.specs.Members.{received_at, with_missed, with_burst, with_direct}
 use Rattle.roster.specs.Relays.{turn_over}
@@ -94,7 +94,7 @@ abbrev pub ack_level : Station → ℕ → ℕ
 ack_level s slot = cond (is_member s.used slot) (tiny_wave s.settings (member_at s slot).snrdown) 0
 
 abbrev pub ack_words : ℕ → Station → ℕ → ℕ → ℕ → List ℕ
-ack_words kind s slot burst heard = headWord tiny kind (ack_extra slot burst heard) ∷ waveWord (ack_level s slot) ∷ []
+ack_words kind s slot burst heard = head_word tiny kind (ack_extra slot burst heard) ∷ wave_word (ack_level s slot) ∷ []
 
 -- more is pending and the turn has bursts left: polled again with the acknowledgement; otherwise the turn ends with it
 abbrev pub answer_by : Bool → Reply → ℕ → ℕ → Station → Ended

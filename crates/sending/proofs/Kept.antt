@@ -16,7 +16,7 @@ use Rattle.bits.proofs.Lists.{cond_keeps, cond_true, cond_false, and_true, cases
 use Rattle.wire.specs.Kinds.{tiny, k_poll, k_relay, k_pollack, k_ack, k_idle, t_up, t_ctrl, c_checkin, c_report, c_overheard, c_kids}
 use Rattle.words.specs.Words.{Heard, lost, heard, Burst, Parsed, malformed, parsed, parse, head_of}
 use Rattle.words.specs.declared.Head.{Head}
-use Rattle.out.specs.Encode.{headWord, waveWord}
+use Rattle.out.specs.Encode.{head_word, wave_word}
 use Rattle.stream.specs.Table.{accept}
 use Rattle.net.specs.declared.Station.{Station}
 use Rattle.net.specs.declared.Reply.{Reply}
@@ -242,7 +242,7 @@ module _ (slot : ℕ) where
       let z : bits ≡ bits % 64 + 2 ^ 6 * (bits / 64) = omega arith in
       sym (ap (λ (m : ℕ). has_bit m i) z ∙ has_below 6 (bits % 64) (bits / 64) i l)
 
-  word_ends : (r : Reply) (kind n bits level w : ℕ) → n < 4 → Among w (headWord tiny kind (ack_extra r.slot n bits) ∷ waveWord level ∷ []) → is_ack_to slot w ≡ true
+  word_ends : (r : Reply) (kind n bits level w : ℕ) → n < 4 → Among w (head_word tiny kind (ack_extra r.slot n bits) ∷ wave_word level ∷ []) → is_ack_to slot w ≡ true
       → (r.slot % 64 ≡ slot) × ((i : ℕ) → i < 6 → has_bit (bits_of w) i ≡ true → has_bit bits i ≡ true)
   word_ends r kind n bits level w low (inl e) h =
       let p = ack_parts w h in
@@ -251,7 +251,7 @@ module _ (slot : ℕ) where
       let b : bits_of w ≡ bits % 64 = (omega arith) in
       (s, λ i l t. sym (low_bits bits i l) ∙ ap (λ (m : ℕ). has_bit m i) (sym b) ∙ t)
     where
-      extra_is : (kind extra : ℕ) → extra < 65536 → headWord tiny kind extra % 65536 ≡ extra
+      extra_is : (kind extra : ℕ) → extra < 65536 → head_word tiny kind extra % 65536 ≡ extra
       extra_is kind extra l = omega arith
   word_ends r kind n bits level w low (inr (inl e)) h =
       let p = ack_parts w h in

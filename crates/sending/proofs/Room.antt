@@ -9,10 +9,10 @@ use lib.ListN.{length, take, drop, length-append}
 use borrow.Author.Tests.{ltb-false}
 use Rattle.bits.proofs.Lists.{cond_keeps}
 use Rattle.words.specs.Words.{least}
-use Rattle.out.specs.Encode.{frameWords}
-use Rattle.out.proofs.Pack.{length-pack}
+use Rattle.out.specs.Encode.{frame_words}
+use Rattle.out.proofs.Pack.{length_pack}
 use Rattle.outbox.specs.Outbox.{Piece, OutMsg, Outbox, Sent, sent_piece_of, cut_up, recut, recut_one, recut_in, same, picked, swept, sweep, sweep_out, new_pieces, fresh, fresh_out, Burst, pass_sweep, pass_new, take_out}
-use Rattle.outbox.specs.Bursts.{msg_field, burst_words}
+use Rattle.outbox.specs.Bursts.{msg_field, sent_words}
 use Rattle.outbox.proofs.Passes.{least_right}
 use Rattle.sending.specs.Runs.{All}
 use Rattle.sending.specs.Room.{EachShort, whole_words, TakeFits}
@@ -179,8 +179,8 @@ pub take_short : (max room : ℕ) (o : Outbox) → EachShort max (take_out max r
 take_short max room o = (tight_take max room o).short
 
 -- ### the words
-frame_most : (flags field : ℕ) (p : List ℕ) → length p ≤ 255 → length (frameWords flags field p) ≤ 87
-frame_most flags field p h = let l = length-pack p in omega arith
+frame_most : (flags field : ℕ) (p : List ℕ) → length p ≤ 255 → length (frame_words flags field p) ≤ 87
+frame_most flags field p h = let l = length_pack p in omega arith
 
 take_all : (n : ℕ) (l : List ℕ) → length l ≤ n → take n l ≡ l
 take_all n [] h = at n
@@ -191,24 +191,24 @@ take_all n [] h = at n
 take_all zero (x ∷ l) h = absurd (omega arith)
 take_all (suc n) (x ∷ l) h = ap (λ (r : List ℕ). x ∷ r) (take_all n l (omega arith))
 
-words_most : (max : ℕ) (ps : List Sent) → max ≤ 255 → EachShort max ps → length (burst_words ps) ≤ 87 * length ps
-unfolding burst_words
+words_most : (max : ℕ) (ps : List Sent) → max ≤ 255 → EachShort max ps → length (sent_words ps) ≤ 87 * length ps
+unfolding sent_words
 words_most max [] h s = omega arith
 words_most max (p ∷ ps) h s =
     let q = s.0 in
     let t = take_most 255 p.bytes in
     let w = frame_most 0 (msg_field p.seq p.off) (take 255 p.bytes) t in
     let i = words_most max ps h s.1 in
-    let a = length-append (frameWords 0 (msg_field p.seq p.off) (take 255 p.bytes)) (burst_words ps) in
+    let a = length-append (frame_words 0 (msg_field p.seq p.off) (take 255 p.bytes)) (sent_words ps) in
     omega arith
 
-words_whole : (max : ℕ) (ps : List Sent) → max ≤ 255 → EachShort max ps → burst_words ps ≡ whole_words ps
-unfolding burst_words whole_words
+words_whole : (max : ℕ) (ps : List Sent) → max ≤ 255 → EachShort max ps → sent_words ps ≡ whole_words ps
+unfolding sent_words whole_words
 words_whole max [] h s = refl
 words_whole max (p ∷ ps) h s =
     let q = s.0 in
-    ap (λ (l : List ℕ). frameWords 0 (msg_field p.seq p.off) l ++ burst_words ps) (take_all 255 p.bytes (omega arith))
-    ∙ ap (λ (l : List ℕ). frameWords 0 (msg_field p.seq p.off) p.bytes ++ l) (words_whole max ps h s.1)
+    ap (λ (l : List ℕ). frame_words 0 (msg_field p.seq p.off) l ++ sent_words ps) (take_all 255 p.bytes (omega arith))
+    ∙ ap (λ (l : List ℕ). frame_words 0 (msg_field p.seq p.off) p.bytes ++ l) (words_whole max ps h s.1)
 
 pub take_fits : TakeFits
 take_fits max room o h r =

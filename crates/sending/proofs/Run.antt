@@ -19,7 +19,7 @@ use Rattle.wire.specs.Kinds.{tiny, k_pollack, k_ack}
 use Rattle.wire.specs.Call.{digit, char, trim_start, trim_end, unpacked, shifted, pack_call}
 use Rattle.wire.specs.Numbers.{widened, widened_at}
 use Rattle.words.specs.Words.{Heard, lost, heard, word_ok, payload_ok, unpack, payload, frame_of, item_at, frames_of, head_ok, parse}
-use Rattle.out.specs.Encode.{headWord, pack, framesWords, burstWords, chunks_of}
+use Rattle.out.specs.Encode.{head_word, pack, frames_words, burst_words, chunks_of}
 use Rattle.inbox.specs.Cells.{seek, next, grow, settle, store, await}
 use Rattle.inbox.specs.Cells as cells
 use Rattle.inbox.specs.Messages.{shows_of}
@@ -88,7 +88,7 @@ abbrev sent_call : Call
 sent_call = sending nil
 
 abbrev hears : ℕ → List Heard → List ℕ → Call
-hears hi fs numbers = reception (burstWords (record { head = record { code = 0; hi = hi; extra = 0 }; frames = fs })) nil nil handed 8192 numbers
+hears hi fs numbers = reception (burst_words (record { head = record { code = 0; hi = hi; extra = 0 }; frames = fs })) nil nil handed 8192 numbers
 
 -- boat A is admitted to slot 0, posts a message and is polled; its first burst has two pieces of two bytes, of which the first is lost, and more is to come
 abbrev opening : List Step → List Step
@@ -107,11 +107,11 @@ opening es =
 abbrev steps : List Step
 steps =
     opening
-    (answer (headWord tiny k_pollack (ack_extra 0 0 2)) 0 (some 0 ∷ some 1 ∷ []) 0 16384 16384
+    (answer (head_word tiny k_pollack (ack_extra 0 0 2)) 0 (some 0 ∷ some 1 ∷ []) 0 16384 16384
     ∷ shore sent_call
     ∷ take 255 64 8192 16384 16384
     ∷ shore (hears 1 (heard 0 0 (2 ∷ 0 ∷ []) ∷ []) (0 ∷ []))
-    ∷ answer (headWord tiny k_ack (ack_extra 0 1 1)) 1 (some 0 ∷ []) 1 16384 16384
+    ∷ answer (head_word tiny k_ack (ack_extra 0 1 1)) 1 (some 0 ∷ []) 1 16384 16384
     ∷ [])
 
 abbrev M : Stays
@@ -132,7 +132,7 @@ pub record HiRun : Type 0 where
       ≡ record { message = record { slot = 0; number = 0 }; event = record { slot = 0; cell = 0; number = 0 }; bytes = 104 ∷ 105 ∷ [] } ∷ []
 
 pub hi_run : HiRun
-unfolding after size units round sum add mul lt le of_int of_bits first fold every any has_bit with_bit without_bit both_of either_of minus_of lowest_bit lowest_free slots_of stop level_below total_lt digit char trim_start trim_end unpacked shifted widened widened_at word_ok payload_ok unpack payload frame_of item_at frames_of head_ok parse pack framesWords chunks_of seek next grow settle store await cells.accept shows_of slide_of mark_of own_cell put_of accept heard_at relay_src_for turn_over is_member new_station on_tx_done seat_of find_call leads_to poll_burst acks_burst beacon_rows beacon_payload beyond beacon_of tell_all list_sent rx_list_burst tried_of source_for promote_at promote_all move_at move_all reroute_of mask_where rows_on least_reach least_direct poll_stage directed_to is_due list_for draw_stage reroute_stage round_end act_of window_stage again_stage due_of ncs_next piece_frame read_frame frame_step read_frames reply_end ncs_rx admit_refusal admit_of receive_refusal receive_of next_refusal next_of sent_of read_refusal cell_refusal reading_of cut_up recut picked swept sweep sweep_out fresh fresh_out lens take_out retain remove acked result item3.step cover also_handed all_below book_frame book_frames events_in acks_from done_by run_after bodies_in posted stepped runs.step
+unfolding after size units round sum add mul lt le of_int of_bits first fold every any has_bit with_bit without_bit both_of either_of minus_of lowest_bit lowest_free slots_of stop level_below total_lt digit char trim_start trim_end unpacked shifted widened widened_at word_ok payload_ok unpack payload frame_of item_at frames_of head_ok parse pack frames_words chunks_of seek next grow settle store await cells.accept shows_of slide_of mark_of own_cell put_of accept heard_at relay_src_for turn_over is_member new_station on_tx_done seat_of find_call leads_to poll_burst acks_burst beacon_rows beacon_payload beyond beacon_of tell_all list_sent rx_list_burst tried_of source_for promote_at promote_all move_at move_all reroute_of mask_where rows_on least_reach least_direct poll_stage directed_to is_due list_for draw_stage reroute_stage round_end act_of window_stage again_stage due_of ncs_next piece_frame read_frame frame_step read_frames reply_end ncs_rx admit_refusal admit_of receive_refusal receive_of next_refusal next_of sent_of read_refusal cell_refusal reading_of cut_up recut picked swept sweep sweep_out fresh fresh_out lens take_out retain remove acked result item3.step cover also_handed all_below book_frame book_frames events_in acks_from done_by run_after bodies_in posted stepped runs.step
 hi_run = record { posts = refl; holds = refl; lands = refl }
 
 -- ---- premises that are needed
@@ -141,8 +141,8 @@ hi_run = record { posts = refl; holds = refl; lands = refl }
 abbrev mistaken : List Step
 mistaken =
     opening
-    (answer (headWord tiny k_pollack (ack_extra 0 0 2)) 0 (none ∷ some 0 ∷ []) 0 16384 16384
-    ∷ answer (headWord tiny k_pollack (ack_extra 0 0 2)) 0 (none ∷ some 1 ∷ []) 0 16384 16384
+    (answer (head_word tiny k_pollack (ack_extra 0 0 2)) 0 (none ∷ some 0 ∷ []) 0 16384 16384
+    ∷ answer (head_word tiny k_pollack (ack_extra 0 0 2)) 0 (none ∷ some 1 ∷ []) 0 16384 16384
     ∷ [])
 
 pub record Mistaken : Type 0 where
@@ -151,19 +151,19 @@ pub record Mistaken : Type 0 where
 
 -- so an acknowledgement has to be taken for the burst it was made for
 pub mistaken_run : Mistaken
-unfolding after size units round sum add mul lt le of_int of_bits first fold every any has_bit with_bit without_bit both_of either_of minus_of lowest_bit lowest_free slots_of stop level_below total_lt digit char trim_start trim_end unpacked shifted widened widened_at word_ok payload_ok unpack payload frame_of item_at frames_of head_ok parse pack framesWords chunks_of seek next grow settle store await cells.accept shows_of slide_of mark_of own_cell put_of accept heard_at relay_src_for turn_over is_member new_station on_tx_done seat_of find_call leads_to poll_burst acks_burst beacon_rows beacon_payload beyond beacon_of tell_all list_sent rx_list_burst tried_of source_for promote_at promote_all move_at move_all reroute_of mask_where rows_on least_reach least_direct poll_stage directed_to is_due list_for draw_stage reroute_stage round_end act_of window_stage again_stage due_of ncs_next piece_frame read_frame frame_step read_frames reply_end ncs_rx admit_refusal admit_of receive_refusal receive_of next_refusal next_of sent_of read_refusal cell_refusal reading_of cut_up recut picked swept sweep sweep_out fresh fresh_out lens take_out retain remove acked result item3.step cover also_handed all_below book_frame book_frames events_in acks_from done_by run_after bodies_in posted stepped runs.step
+unfolding after size units round sum add mul lt le of_int of_bits first fold every any has_bit with_bit without_bit both_of either_of minus_of lowest_bit lowest_free slots_of stop level_below total_lt digit char trim_start trim_end unpacked shifted widened widened_at word_ok payload_ok unpack payload frame_of item_at frames_of head_ok parse pack frames_words chunks_of seek next grow settle store await cells.accept shows_of slide_of mark_of own_cell put_of accept heard_at relay_src_for turn_over is_member new_station on_tx_done seat_of find_call leads_to poll_burst acks_burst beacon_rows beacon_payload beyond beacon_of tell_all list_sent rx_list_burst tried_of source_for promote_at promote_all move_at move_all reroute_of mask_where rows_on least_reach least_direct poll_stage directed_to is_due list_for draw_stage reroute_stage round_end act_of window_stage again_stage due_of ncs_next piece_frame read_frame frame_step read_frames reply_end ncs_rx admit_refusal admit_of receive_refusal receive_of next_refusal next_of sent_of read_refusal cell_refusal reading_of cut_up recut picked swept sweep sweep_out fresh fresh_out lens take_out retain remove acked result item3.step cover also_handed all_below book_frame book_frames events_in acks_from done_by run_after bodies_in posted stepped runs.step
 mistaken_run = record { holds = refl; handed = refl }
 
 -- the boat signs off as its message has landed: the book forgets it, and then the sending end lets it go
 abbrev gone : List Step
 gone =
     opening
-    (answer (headWord tiny k_pollack (ack_extra 0 0 2)) 0 (some 0 ∷ some 1 ∷ []) 0 16384 16384
+    (answer (head_word tiny k_pollack (ack_extra 0 0 2)) 0 (some 0 ∷ some 1 ∷ []) 0 16384 16384
     ∷ shore sent_call
     ∷ take 255 64 8192 16384 16384
     ∷ shore (hears 1 (heard 0 0 (2 ∷ 0 ∷ []) ∷ []) (0 ∷ []))
     ∷ shore (signing 0)
-    ∷ answer (headWord tiny k_ack (ack_extra 0 1 1)) 1 (some 0 ∷ []) 1 16384 16384
+    ∷ answer (head_word tiny k_ack (ack_extra 0 1 1)) 1 (some 0 ∷ []) 1 16384 16384
     ∷ [])
 
 pub record Gone : Type 0 where
@@ -172,7 +172,7 @@ pub record Gone : Type 0 where
 
 -- so the boat may not sign off
 pub gone_run : Gone
-unfolding after sign_off_refusal sign_off_of sign_off bereave_at bereave_all clear_all clear_at unhear_all unhear_at book_ends size units round sum add mul lt le of_int of_bits first fold every any has_bit with_bit without_bit both_of either_of minus_of lowest_bit lowest_free slots_of stop level_below total_lt digit char trim_start trim_end unpacked shifted widened widened_at word_ok payload_ok unpack payload frame_of item_at frames_of head_ok parse pack framesWords chunks_of seek next grow settle store await cells.accept shows_of slide_of mark_of own_cell put_of accept heard_at relay_src_for turn_over is_member new_station on_tx_done seat_of find_call leads_to poll_burst acks_burst beacon_rows beacon_payload beyond beacon_of tell_all list_sent rx_list_burst tried_of source_for promote_at promote_all move_at move_all reroute_of mask_where rows_on least_reach least_direct poll_stage directed_to is_due list_for draw_stage reroute_stage round_end act_of window_stage again_stage due_of ncs_next piece_frame read_frame frame_step read_frames reply_end ncs_rx admit_refusal admit_of receive_refusal receive_of next_refusal next_of sent_of read_refusal cell_refusal reading_of cut_up recut picked swept sweep sweep_out fresh fresh_out lens take_out retain remove acked result item3.step cover also_handed all_below book_frame book_frames events_in acks_from done_by run_after bodies_in posted stepped runs.step
+unfolding after sign_off_refusal sign_off_of sign_off bereave_at bereave_all clear_all clear_at unhear_all unhear_at book_ends size units round sum add mul lt le of_int of_bits first fold every any has_bit with_bit without_bit both_of either_of minus_of lowest_bit lowest_free slots_of stop level_below total_lt digit char trim_start trim_end unpacked shifted widened widened_at word_ok payload_ok unpack payload frame_of item_at frames_of head_ok parse pack frames_words chunks_of seek next grow settle store await cells.accept shows_of slide_of mark_of own_cell put_of accept heard_at relay_src_for turn_over is_member new_station on_tx_done seat_of find_call leads_to poll_burst acks_burst beacon_rows beacon_payload beyond beacon_of tell_all list_sent rx_list_burst tried_of source_for promote_at promote_all move_at move_all reroute_of mask_where rows_on least_reach least_direct poll_stage directed_to is_due list_for draw_stage reroute_stage round_end act_of window_stage again_stage due_of ncs_next piece_frame read_frame frame_step read_frames reply_end ncs_rx admit_refusal admit_of receive_refusal receive_of next_refusal next_of sent_of read_refusal cell_refusal reading_of cut_up recut picked swept sweep sweep_out fresh fresh_out lens take_out retain remove acked result item3.step cover also_handed all_below book_frame book_frames events_in acks_from done_by run_after bodies_in posted stepped runs.step
 gone_run = record { holds = refl; handed = refl }
 
 some_is : (a b : ℕ) → some a ≡ some b → a ≡ b
@@ -193,7 +193,7 @@ one_case P a (suc i) j q = not_some j q
 
 -- the premises hold: the frames of each reception are pieces sent before, and each acknowledgement is taken for the burst of that reception
 pub hi_ok : StepsOk 0 M steps begin
-unfolding StepsOk size units round sum add mul lt le of_int of_bits first fold every any has_bit with_bit without_bit both_of either_of minus_of lowest_bit lowest_free slots_of stop level_below total_lt digit char trim_start trim_end unpacked shifted widened widened_at word_ok payload_ok unpack payload frame_of item_at frames_of head_ok parse pack framesWords chunks_of seek next grow settle store await cells.accept shows_of slide_of mark_of own_cell put_of accept heard_at relay_src_for turn_over is_member new_station on_tx_done seat_of find_call leads_to poll_burst acks_burst beacon_rows beacon_payload beyond beacon_of tell_all list_sent rx_list_burst tried_of source_for promote_at promote_all move_at move_all reroute_of mask_where rows_on least_reach least_direct poll_stage directed_to is_due list_for draw_stage reroute_stage round_end act_of window_stage again_stage due_of ncs_next piece_frame read_frame frame_step read_frames reply_end ncs_rx admit_refusal admit_of receive_refusal receive_of next_refusal next_of sent_of read_refusal cell_refusal reading_of cut_up recut picked swept sweep sweep_out fresh fresh_out lens take_out retain remove acked result item3.step cover also_handed all_below book_frame book_frames events_in acks_from done_by run_after bodies_in posted stepped runs.step
+unfolding StepsOk size units round sum add mul lt le of_int of_bits first fold every any has_bit with_bit without_bit both_of either_of minus_of lowest_bit lowest_free slots_of stop level_below total_lt digit char trim_start trim_end unpacked shifted widened widened_at word_ok payload_ok unpack payload frame_of item_at frames_of head_ok parse pack frames_words chunks_of seek next grow settle store await cells.accept shows_of slide_of mark_of own_cell put_of accept heard_at relay_src_for turn_over is_member new_station on_tx_done seat_of find_call leads_to poll_burst acks_burst beacon_rows beacon_payload beyond beacon_of tell_all list_sent rx_list_burst tried_of source_for promote_at promote_all move_at move_all reroute_of mask_where rows_on least_reach least_direct poll_stage directed_to is_due list_for draw_stage reroute_stage round_end act_of window_stage again_stage due_of ncs_next piece_frame read_frame frame_step read_frames reply_end ncs_rx admit_refusal admit_of receive_refusal receive_of next_refusal next_of sent_of read_refusal cell_refusal reading_of cut_up recut picked swept sweep sweep_out fresh fresh_out lens take_out retain remove acked result item3.step cover also_handed all_below book_frame book_frames events_in acks_from done_by run_after bodies_in posted stepped runs.step
 hi_ok = (
   tt,
   (
@@ -253,11 +253,11 @@ noisy =
     ∷ shore (admission (pack_call (66 ∷ 32 ∷ 32 ∷ 32 ∷ 32 ∷ 32 ∷ 32 ∷ [])) 63 nil 8192)
     ∷ take 2 64 8192 16384 16384
     ∷ shore (hears 4 (lost ∷ heard 0 2 (104 ∷ 105 ∷ []) ∷ heard 1 0 (2 ∷ 0 ∷ 104 ∷ []) ∷ heard 1 2 (111 ∷ 105 ∷ []) ∷ []) (0 ∷ 0 ∷ 0 ∷ 0 ∷ []))
-    ∷ answer (headWord tiny k_pollack (ack_extra 0 0 14)) 0 (some 0 ∷ some 1 ∷ []) 0 16384 16384
+    ∷ answer (head_word tiny k_pollack (ack_extra 0 0 14)) 0 (some 0 ∷ some 1 ∷ []) 0 16384 16384
     ∷ shore sent_call
     ∷ take 255 64 8192 16384 16384
     ∷ shore (hears 1 (heard 0 0 (2 ∷ 0 ∷ []) ∷ []) (0 ∷ []))
-    ∷ answer (headWord tiny k_ack (ack_extra 0 1 1)) 1 (some 0 ∷ []) 1 16384 16384
+    ∷ answer (head_word tiny k_ack (ack_extra 0 1 1)) 1 (some 0 ∷ []) 1 16384 16384
     ∷ []
 
 abbrev room : Ends
@@ -273,12 +273,12 @@ pub record NoisyRun : Type 0 where
       ∷ []
 
 pub noisy_run : NoisyRun
-unfolding after size units round sum add mul lt le of_int of_bits first fold every any has_bit with_bit without_bit both_of either_of minus_of lowest_bit lowest_free slots_of stop level_below total_lt digit char trim_start trim_end unpacked shifted widened widened_at word_ok payload_ok unpack payload frame_of item_at frames_of head_ok parse pack framesWords chunks_of seek next grow settle store await cells.accept shows_of slide_of mark_of own_cell put_of accept heard_at relay_src_for turn_over is_member new_station on_tx_done seat_of find_call leads_to poll_burst acks_burst beacon_rows beacon_payload beyond beacon_of tell_all list_sent rx_list_burst tried_of source_for promote_at promote_all move_at move_all reroute_of mask_where rows_on least_reach least_direct poll_stage directed_to is_due list_for draw_stage reroute_stage round_end act_of window_stage again_stage due_of ncs_next piece_frame read_frame frame_step read_frames reply_end ncs_rx admit_refusal admit_of receive_refusal receive_of next_refusal next_of sent_of read_refusal cell_refusal reading_of cut_up recut picked swept sweep sweep_out fresh fresh_out lens take_out retain remove acked result item3.step cover also_handed all_below book_frame book_frames events_in acks_from done_by run_after bodies_in posted stepped runs.step
+unfolding after size units round sum add mul lt le of_int of_bits first fold every any has_bit with_bit without_bit both_of either_of minus_of lowest_bit lowest_free slots_of stop level_below total_lt digit char trim_start trim_end unpacked shifted widened widened_at word_ok payload_ok unpack payload frame_of item_at frames_of head_ok parse pack frames_words chunks_of seek next grow settle store await cells.accept shows_of slide_of mark_of own_cell put_of accept heard_at relay_src_for turn_over is_member new_station on_tx_done seat_of find_call leads_to poll_burst acks_burst beacon_rows beacon_payload beyond beacon_of tell_all list_sent rx_list_burst tried_of source_for promote_at promote_all move_at move_all reroute_of mask_where rows_on least_reach least_direct poll_stage directed_to is_due list_for draw_stage reroute_stage round_end act_of window_stage again_stage due_of ncs_next piece_frame read_frame frame_step read_frames reply_end ncs_rx admit_refusal admit_of receive_refusal receive_of next_refusal next_of sent_of read_refusal cell_refusal reading_of cut_up recut picked swept sweep sweep_out fresh fresh_out lens take_out retain remove acked result item3.step cover also_handed all_below book_frame book_frames events_in acks_from done_by run_after bodies_in posted stepped runs.step
 noisy_run = record { posts = refl; holds = refl; lands = refl }
 
 -- and the premises hold, which ask nothing of B's pieces
 pub noisy_ok : StepsOk 0 M noisy room
-unfolding StepsOk size units round sum add mul lt le of_int of_bits first fold every any has_bit with_bit without_bit both_of either_of minus_of lowest_bit lowest_free slots_of stop level_below total_lt digit char trim_start trim_end unpacked shifted widened widened_at word_ok payload_ok unpack payload frame_of item_at frames_of head_ok parse pack framesWords chunks_of seek next grow settle store await cells.accept shows_of slide_of mark_of own_cell put_of accept heard_at relay_src_for turn_over is_member new_station on_tx_done seat_of find_call leads_to poll_burst acks_burst beacon_rows beacon_payload beyond beacon_of tell_all list_sent rx_list_burst tried_of source_for promote_at promote_all move_at move_all reroute_of mask_where rows_on least_reach least_direct poll_stage directed_to is_due list_for draw_stage reroute_stage round_end act_of window_stage again_stage due_of ncs_next piece_frame read_frame frame_step read_frames reply_end ncs_rx admit_refusal admit_of receive_refusal receive_of next_refusal next_of sent_of read_refusal cell_refusal reading_of cut_up recut picked swept sweep sweep_out fresh fresh_out lens take_out retain remove acked result item3.step cover also_handed all_below book_frame book_frames events_in acks_from done_by run_after bodies_in posted stepped runs.step
+unfolding StepsOk size units round sum add mul lt le of_int of_bits first fold every any has_bit with_bit without_bit both_of either_of minus_of lowest_bit lowest_free slots_of stop level_below total_lt digit char trim_start trim_end unpacked shifted widened widened_at word_ok payload_ok unpack payload frame_of item_at frames_of head_ok parse pack frames_words chunks_of seek next grow settle store await cells.accept shows_of slide_of mark_of own_cell put_of accept heard_at relay_src_for turn_over is_member new_station on_tx_done seat_of find_call leads_to poll_burst acks_burst beacon_rows beacon_payload beyond beacon_of tell_all list_sent rx_list_burst tried_of source_for promote_at promote_all move_at move_all reroute_of mask_where rows_on least_reach least_direct poll_stage directed_to is_due list_for draw_stage reroute_stage round_end act_of window_stage again_stage due_of ncs_next piece_frame read_frame frame_step read_frames reply_end ncs_rx admit_refusal admit_of receive_refusal receive_of next_refusal next_of sent_of read_refusal cell_refusal reading_of cut_up recut picked swept sweep sweep_out fresh fresh_out lens take_out retain remove acked result item3.step cover also_handed all_below book_frame book_frames events_in acks_from done_by run_after bodies_in posted stepped runs.step
 noisy_ok = (
   tt,
   (

@@ -2,7 +2,7 @@
 ghost use Rattle.std.specs.Prelude.{◌≡◌, cond, List, [], ℕ, ◌≤◌, length, eqb};
 ghost use Rattle.out.specs.Encode.{Wrote};
 ghost use Rattle.outbox.specs.Outbox.{push_msg, ack, held, stale, has_new, with_msgs, take_out};
-ghost use Rattle.outbox.specs.Bursts.{burst_words};
+ghost use Rattle.outbox.specs.Bursts.{sent_words};
 ghost use Rattle.outbox.specs.Senders.{outbox, unless, none, post_refusal, take_refusal, both_refusal, memory_refusal, pending_of};
 ghost use Rattle.shore.specs.Blocks.{flag_of};
 ghost use Rattle.shore.specs.Sending.{sender_of, outgoing_of, left_of, taken_of, waiting_of};
@@ -140,7 +140,7 @@ pub extern "C" fn shore_sender_take(
         ≡ unless result.refusal (outbox (sender_of o) bytes.now marks.old)
         (with_msgs (outbox (sender_of o) bytes.now marks.old) (take_out max room (outbox (sender_of o) bytes.now marks.old)).msgs) }
     ensures words { Wrote out.old 0 (cond (eqb result.refusal 0)
-        (burst_words (take_out max room (outbox (sender_of o) bytes.now marks.old)).out) []) out.new result.words }
+        (sent_words (take_out max room (outbox (sender_of o) bytes.now marks.old)).out) []) out.new result.words }
     ensures untouched { (result.refusal ≡ 0 → ⊥) → (sender_of result.sender ≡ sender_of o) × (marks.new ≡ marks.old) }
 {
     let s = sender_of(o);

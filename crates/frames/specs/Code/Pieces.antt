@@ -5,7 +5,7 @@ use Rattle.bits.specs.Stop.{stop}
 use Rattle.wire.specs.declared.number.Number.{Number}
 use Rattle.wire.specs.declared.number.Number.TheVariants.{Is, Before}
 use Rattle.wire.specs.Numbers.{widened}
-use Rattle.out.specs.Encode.{eventWord, messageWord}
+use Rattle.out.specs.Encode.{event_word, message_word}
 use Rattle.inbox.specs.declared.cell.Cell.{Cell}
 use Rattle.inbox.specs.declared.keep.Kept.TheVariants.{Needless}
 use Rattle.inbox.specs.Sizes.{cell_size}
@@ -100,7 +100,7 @@ totals_after t relayed = cond relayed (with_relays t (stop (t.relays + 1))) t
 abbrev pub landed_events : Taken → Piece → ℕ → Bool → ℕ → List ℕ
 landed_events d p c relayed polled =
     cond (has_landed d.landed)
-    (cond relayed (eventWord 4 p.slot polled ∷ messageWord p.slot c p.number ∷ []) (messageWord p.slot c p.number ∷ [])) []
+    (cond relayed (event_word 4 p.slot polled ∷ message_word p.slot c p.number ∷ []) (message_word p.slot c p.number ∷ [])) []
 
 -- the station after the stores of a piece of the boat at i, offered to cell c
 abbrev pub stored_station : Air → Piece → Taken → ℕ → ℕ → Bool → Station → Station

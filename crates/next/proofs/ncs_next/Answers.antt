@@ -1,5 +1,5 @@
 use Rattle.std.proofs.Common.{◌≡◌, ◌-◌, sym, ◌∙◌, ⊎_elim, arith, rules}
-use Rattle.out.proofs.Laws.{wrote-length}
+use Rattle.out.proofs.Laws.{wrote_length}
 use Rattle.net.specs.Net.{Did}
 use Rattle.net.proofs.Laws.{index_lt}
 use Rattle.bursts.proofs.Saying.{did_as}
@@ -127,4 +127,4 @@ returns c =
     c.if-is_draw.branch))
 
 pub shape_of-o : goal.shape_of-o
-shape_of-o c = wrote-length (returns c).wrote
+shape_of-o c = wrote_length (returns c).wrote

@@ -2,7 +2,7 @@
 -- round the choice of a source do. Assumes nothing.
 
 use Rattle.std.proofs.Common.{◌≡◌, ◌-◌, sym, ◌∙◌, ⊎_elim, arith, rules}
-use Rattle.out.proofs.Laws.{wrote-length}
+use Rattle.out.proofs.Laws.{wrote_length}
 use Rattle.net.specs.Net.{Did}
 use Rattle.net.proofs.Laws.{index_lt}
 use Rattle.bursts.proofs.Saying.{did_as}

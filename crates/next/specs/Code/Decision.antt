@@ -11,7 +11,7 @@ use Rattle.level.specs.declared.Clock.TheVariants.{Never}
 use Rattle.level.specs.Levels.{is_heard}
 use Rattle.level.specs.Order.{least}
 use Rattle.wire.specs.Kinds.{k_close}
-use Rattle.out.specs.Encode.{missedWord}
+use Rattle.out.specs.Encode.{missed_word}
 use Rattle.roster.specs.declared.Member.{Member}
 use Rattle.stream.specs.Window.{holes_of}
 use Rattle.roster.specs.Members.{no_member, missed_one, silent_at, tally}
@@ -72,7 +72,7 @@ late_of d ok = cond ok (late_by d) (no_late true false)
 abbrev pub late_words : Late → ℕ → Settings → Member → Bool → List ℕ
 late_words l left g m here =
     cond (l.closing && nat_lt 0 left) (tiny_words k_close 0 g.beaconlevel)
-    (cond l.again (poll_burst g here m l.slot l.relayfor true) (cond (l.missed && here) (missedWord l.slot ∷ []) []))
+    (cond l.again (poll_burst g here m l.slot l.relayfor true) (cond (l.missed && here) (missed_word l.slot ∷ []) []))
 
 abbrev pub late_member : Member → Late → Bool → Member
 late_member m l here = cond (l.missed && here) (missed_one m) m

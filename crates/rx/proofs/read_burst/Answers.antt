@@ -1,6 +1,6 @@
 use mathlib.Core.Path.{refl, sym, ap, ◌∙◌}
 use mathlib.Core.Logic.{⊎_elim}
-use Rattle.out.proofs.Laws.{wrote-length}
+use Rattle.out.proofs.Laws.{wrote_length}
 use Rattle.frames.specs.declared.Rx.{Rx}
 use Rattle.frames.specs.Code.Kinds.{Piece, Checkin, Overheard, Kids}
 use Rattle.frames.proofs.ByKind.{kind_up, kind_byte, is_checkin, short_checkin, is_report_lem, short_report, is_overheard, is_kids, is_none}
@@ -162,7 +162,7 @@ pub shape_of-lent : goal.shape_of-lent
 shape_of-lent c = c.loop-x.invariant.size
 
 pub shape_of-o : goal.shape_of-o
-shape_of-o c = wrote-length c.put_end.ensures ∙ wrote-length c.loop-x.invariant.wrote
+shape_of-o c = wrote_length c.put_end.ensures ∙ wrote_length c.loop-x.invariant.wrote
 
 pub returns : goal.returns
 returns c =

@@ -2,7 +2,7 @@
 
 use mathlib.Core.Path.{refl, sym, ap, ◌∙◌}
 use mathlib.Core.Logic.{⊎_elim}
-use Rattle.out.proofs.Laws.{wrote-length}
+use Rattle.out.proofs.Laws.{wrote_length}
 use Rattle.frames.specs.declared.Rx.{Rx}
 use Rattle.frames.specs.Code.Kinds.{Piece, Checkin, Overheard, Kids}
 use Rattle.frames.proofs.ByKind.{kind_up, kind_byte, is_checkin, short_checkin, is_report_lem, short_report, is_overheard, is_kids, is_none}

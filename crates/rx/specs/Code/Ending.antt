@@ -5,7 +5,7 @@ use Rattle.bits.specs.Stop.{stop}
 use Rattle.level.specs.declared.Clock.TheVariants.{Never}
 use Rattle.wire.specs.Kinds.{tiny, k_pollack, k_ack, k_idle}
 use Rattle.words.specs.declared.Head.{Head}
-use Rattle.out.specs.Encode.{headWord, waveWord}
+use Rattle.out.specs.Encode.{head_word, wave_word}
 use Rattle.recent.specs.declared.Recent.{Recent}
 use Rattle.recent.specs.Readings.{noted}
 use Rattle.roster.specs.declared.Member.{Member}
@@ -86,7 +86,7 @@ end_level g m here = cond here (tiny_wave g m.snrdown) 0
 
 abbrev pub end_words : Ending → Head → ℕ → ℕ → List ℕ
 end_words e h heard level =
-    cond (eqb e.kind 2) (headWord tiny (cond e.more k_pollack k_ack) (ack_extra e.slot (h.hi % 4) heard) ∷ waveWord level ∷ []) []
+    cond (eqb e.kind 2) (head_word tiny (cond e.more k_pollack k_ack) (ack_extra e.slot (h.hi % 4) heard) ∷ wave_word level ∷ []) []
 
 -- ---- together
 

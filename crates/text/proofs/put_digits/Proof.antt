@@ -1,6 +1,6 @@
 -- The invariant: the last k digits are still to be written. Assumes nothing.
 use Rattle.text.specs.Digits.{digits_of}
-use Rattle.out.proofs.Laws.{Still, still-start, still-on, still-end}
+use Rattle.out.proofs.Laws.{Still, still_start, still_on, still_end}
 use Rattle.text.proofs.Turns.{digits_turn, digits_end}
 use borrow.Author.Rules.{rules}
 use Rattle.text.proofs.put_digits.Statement.{statement}
@@ -13,7 +13,7 @@ abbrev decreases-loop : tie.decreases-loop
 decreases-loop t₀ at v digits small e₀ k₀ t e k = k
 
 loop-holds : tie.Need-loop-init invariant-loop decreases-loop
-loop-holds c = still-start _ _ _
+loop-holds c = still_start _ _ _
 
 sub-k : tie.Need-overflow-sub-k invariant-loop decreases-loop
 sub-k c = search rules
@@ -34,10 +34,10 @@ loop-again : tie.Need-loop-preserved invariant-loop decreases-loop
 loop-again c =
     let l = c.before.before.before.before.before in
     let a = l.before.args in
-    still-on l.loop.invariant (digits_turn a.small a.v l.loop.k _ _ c.before.before.before.before.loop-test.true c.before.before.digit-of.ensures c.before.glyph.ensures) c.put.ensures
+    still_on l.loop.invariant (digits_turn a.small a.v l.loop.k _ _ c.before.before.before.before.loop-test.true c.before.before.digit-of.ensures c.before.glyph.ensures) c.put.ensures
 
 returns : tie.Need-returns invariant-loop decreases-loop
-returns c = let l = c.before in still-end l.loop.invariant (digits_end _ _ l.loop.k c.loop-test.false)
+returns c = let l = c.before in still_end l.loop.invariant (digits_end _ _ l.loop.k c.loop-test.false)
 
 pub put_digits_spec : {M : Type 1} → statement M
 put_digits_spec =

@@ -1,5 +1,5 @@
 -- Assumes nothing.
-use Rattle.out.proofs.Laws.{word_in, word-past}
+use Rattle.out.proofs.Laws.{word_in, word_past}
 use borrow.Author.Rules.{rules}
 use Rattle.text.proofs.put_in.Statement.{statement}
 use Rattle.text.proofs.put_in.Tie as tie
@@ -17,7 +17,7 @@ returns : tie.Need-returns
 returns c = let a = c.before.args in word_in a.t.now a.at a.b c.if1.true
 
 returns-2 : tie.Need-returns-2
-returns-2 c = let a = c.before.args in word-past a.t.now a.at a.b c.if1.false
+returns-2 c = let a = c.before.args in word_past a.t.now a.at a.b c.if1.false
 
 pub put_in_spec : {M : Type 1} → statement M
 put_in_spec =

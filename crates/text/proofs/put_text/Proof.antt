@@ -2,7 +2,7 @@
 use Prim.Native.Nat.{◌-◌}
 use native.Mathlib.Omega.{arith}
 use lib.ListN.{length, drop}
-use Rattle.out.proofs.Laws.{Still, still-start, still-on, still-end}
+use Rattle.out.proofs.Laws.{Still, still_start, still_on, still_end}
 use Rattle.text.proofs.Turns.{text_turn, text_end}
 use borrow.Author.Rules.{rules}
 use Rattle.text.proofs.put_text.Statement.{statement}
@@ -15,7 +15,7 @@ abbrev decreases-loop : tie.decreases-loop
 decreases-loop t₀ at s e₀ i₀ t e i = length s - i
 
 loop-holds : tie.Need-loop-init invariant-loop decreases-loop
-loop-holds c = still-start _ _ _
+loop-holds c = still_start _ _ _
 
 shared-slice-read-put : tie.Need-shared-slice-read-put invariant-loop decreases-loop
 shared-slice-read-put c = search rules
@@ -33,10 +33,10 @@ loop-again : tie.Need-loop-preserved invariant-loop decreases-loop
 loop-again c =
     let l = c.before.before.before.before in
     let a = l.before.before.args in
-    still-on l.loop.invariant (text_turn a.s.now l.loop.i c.before.before.before.loop-test.true) c.put.ensures
+    still_on l.loop.invariant (text_turn a.s.now l.loop.i c.before.before.before.loop-test.true) c.put.ensures
 
 returns : tie.Need-returns invariant-loop decreases-loop
-returns c = let l = c.before in still-end l.loop.invariant (text_end _ l.loop.i c.loop-test.false)
+returns c = let l = c.before in still_end l.loop.invariant (text_end _ l.loop.i c.loop-test.false)
 
 pub put_text_spec : {M : Type 1} → statement M
 put_text_spec =

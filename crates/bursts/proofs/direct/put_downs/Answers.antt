@@ -1,7 +1,7 @@
 use mathlib.Core.Path.{◌≡◌, refl, sym, ap, ◌∙◌}
 use Prim.Native.Nat.{◌-◌, ◌<◌}
 use native.Mathlib.Omega.{arith}
-use Rattle.out.proofs.Laws.{Still, still-start, still-on, still-end, wrote-length}
+use Rattle.out.proofs.Laws.{Still, still_start, still_on, still_end, wrote_length}
 use Rattle.bursts.specs.Direct.{down_frames}
 use Rattle.bursts.proofs.Directing.{least_fst, down_more, down_last, down_full}
 use Rattle.bursts.proofs.direct.put_downs.Goals as goal
@@ -10,13 +10,13 @@ pub loop-n-init : goal.loop-n-init
 loop-n-init c =
     let a = c.args in
     let e : a.room - 0 ≡ a.room = omega arith in
-    (omega arith, rw e (still-start a.o.now a.at (down_frames a.room a.queue.now a.slot a.max a.last a.from)))
+    (omega arith, rw e (still_start a.o.now a.at (down_frames a.room a.queue.now a.slot a.max a.last a.from)))
 
 pub returns-then-end-k : goal.returns-then-end-k
-returns-then-end-k c = still-end c.loop-n.invariant.1 (down_last _ _ _ _ _ _ (omega arith))
+returns-then-end-k c = still_end c.loop-n.invariant.1 (down_last _ _ _ _ _ _ (omega arith))
 
 pub shape_of-o-then-end-k : goal.shape_of-o-then-end-k
-shape_of-o-then-end-k c = wrote-length (returns-then-end-k c)
+shape_of-o-then-end-k c = wrote_length (returns-then-end-k c)
 
 pub overflow_sub-end : goal.overflow_sub-end
 overflow_sub-end c = omega arith
@@ -36,10 +36,10 @@ loop-n-smaller c = omega arith
 pub loop-n-preserved : goal.loop-n-preserved
 loop-n-preserved c =
     let a = c.args in
-    (omega arith, still-on c.loop-n.invariant.1 (down_more a.queue.now a.slot a.max a.last a.room c.loop-n.n c.loop-n.k (omega arith) (omega arith)) (rw c.least.ensures at c.put_down-put.ensures))
+    (omega arith, still_on c.loop-n.invariant.1 (down_more a.queue.now a.slot a.max a.last a.room c.loop-n.n c.loop-n.k (omega arith) (omega arith)) (rw c.least.ensures at c.put_down-put.ensures))
 
 pub returns : goal.returns
-returns c = still-end c.loop-n.invariant.1 (down_full _ _ _ _ _ _ _ (omega arith))
+returns c = still_end c.loop-n.invariant.1 (down_full _ _ _ _ _ _ _ (omega arith))
 
 pub shape_of-o : goal.shape_of-o
-shape_of-o c = wrote-length (returns c)
+shape_of-o c = wrote_length (returns c)

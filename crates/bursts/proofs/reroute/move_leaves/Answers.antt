@@ -4,7 +4,7 @@ use native.Mathlib.Omega.{arith}
 use Rattle.net.proofs.Laws.{index_lt}
 use mathlib.Core.List.{[]}
 use Rattle.bits.specs.Loop.{fold}
-use Rattle.out.proofs.Laws.{wrote-length}
+use Rattle.out.proofs.Laws.{wrote_length}
 use Rattle.net.specs.Net.{said}
 use Rattle.bursts.specs.Reroute.{able_of, move_at, move_all}
 use Rattle.bursts.specs.Rows.{member_in}
@@ -90,7 +90,7 @@ loop-c-preserved c =
     )
 
 pub shape_of-o : goal.shape_of-o
-shape_of-o c = wrote-length c.loop-c.invariant.2.wrote
+shape_of-o c = wrote_length c.loop-c.invariant.2.wrote
 
 pub returns : goal.returns
 returns c = going_end _ _ _ _ c.loop-c-test.false c.loop-c.invariant.2

@@ -6,7 +6,7 @@ use native.Mathlib.Omega.{arith}
 use Rattle.net.proofs.Laws.{index_lt}
 use mathlib.Core.List.{[]}
 use Rattle.bits.specs.Loop.{fold}
-use Rattle.out.proofs.Laws.{wrote-length}
+use Rattle.out.proofs.Laws.{wrote_length}
 use Rattle.net.specs.Net.{said}
 use Rattle.bursts.specs.Reroute.{able_of, move_at, move_all}
 use Rattle.bursts.specs.Rows.{member_in}

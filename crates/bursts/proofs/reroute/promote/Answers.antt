@@ -1,7 +1,7 @@
 use mathlib.Core.Path.{refl}
 use Prim.Native.Nat.{◌≤◌, ◌-◌}
 use native.Mathlib.Omega.{arith}
-use Rattle.out.proofs.Laws.{wrote-length}
+use Rattle.out.proofs.Laws.{wrote_length}
 use Rattle.bursts.specs.Reroute.{promote_at, promote_all}
 use Rattle.bursts.proofs.Saying.{Going, going_start, going_turn, going_end}
 use Rattle.bursts.proofs.Moves.{promote_turn}
@@ -78,7 +78,7 @@ loop-i-preserved c =
     )
 
 pub shape_of-o : goal.shape_of-o
-shape_of-o c = wrote-length c.loop-i.invariant.1.wrote
+shape_of-o c = wrote_length c.loop-i.invariant.1.wrote
 
 pub returns : goal.returns
 returns c = going_end _ _ _ _ c.loop-i-test.false c.loop-i.invariant.1

@@ -1,7 +1,7 @@
 -- Assumes nothing.
 
 use mathlib.Core.Path.{sym, ap, ◌∙◌}
-use Rattle.out.proofs.Laws.{wrote-length}
+use Rattle.out.proofs.Laws.{wrote_length}
 use Rattle.bursts.specs.declared.reroute.Surveyed.{Surveyed}
 use Rattle.net.specs.declared.Station.{Station}
 use Rattle.bursts.specs.Reroute.{leaves_of, reroute_of}
@@ -16,7 +16,7 @@ pub leaves_of-leaves-requires : goal.leaves_of-leaves-requires
 leaves_of-leaves-requires c = tt
 
 pub shape_of-o-then-leaves-eq0 : goal.shape_of-o-then-leaves-eq0
-shape_of-o-then-leaves-eq0 c = wrote-length c.promote-t.ensures.wrote
+shape_of-o-then-leaves-eq0 c = wrote_length c.promote-t.ensures.wrote
 
 pub returns-then-leaves-eq0 : goal.returns-then-leaves-eq0
 unfolding reroute_of
@@ -31,7 +31,7 @@ pub move_leaves-requires : goal.move_leaves-requires
 move_leaves-requires c = (c.leaves_of-leaves.ensures, ap (λ (v : Surveyed). v.able) c.survey-v.ensures)
 
 pub shape_of-o : goal.shape_of-o
-shape_of-o c = wrote-length c.move_leaves.ensures.wrote ∙ wrote-length c.promote-t.ensures.wrote
+shape_of-o c = wrote_length c.move_leaves.ensures.wrote ∙ wrote_length c.promote-t.ensures.wrote
 
 pub returns : goal.returns
 unfolding reroute_of

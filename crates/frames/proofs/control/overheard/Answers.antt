@@ -4,7 +4,7 @@ use Prim.Native.Nat.{◌≤◌, ◌-◌}
 use native.Mathlib.Omega.{arith}
 use Rattle.net.specs.Net.{said}
 use Rattle.net.proofs.Laws.{index_lt}
-use Rattle.out.proofs.Laws.{wrote-length}
+use Rattle.out.proofs.Laws.{wrote_length}
 use Rattle.frames.specs.Control.{payload_in, each_entry, overheard_entry, overheard_frame}
 use Rattle.frames.proofs.Entries.{Going, rest_on, going_end, over_turn, over_stored, relay_is, did_none}
 use Rattle.frames.proofs.control.overheard.Goals as goal
@@ -99,7 +99,7 @@ loop-e-preserved c =
     )
 
 pub shape_of-o : goal.shape_of-o
-shape_of-o c = wrote-length c.loop-e.invariant.1.did.wrote
+shape_of-o c = wrote_length c.loop-e.invariant.1.did.wrote
 
 pub returns : goal.returns
 unfolding overheard_frame

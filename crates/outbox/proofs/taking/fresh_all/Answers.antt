@@ -11,7 +11,7 @@ use Rattle.outbox.proofs.Places as L
 use Rattle.outbox.proofs.Sending as W
 use lib.ListN.{length-map}
 use Rattle.out.proofs.Laws.{wrote_as}
-use Rattle.outbox.specs.Bursts.{burst_words}
+use Rattle.outbox.specs.Bursts.{sent_words}
 use Rattle.outbox.proofs.Bursting as B
 use borrow.Author.Rules.{rules}
 use Rattle.outbox.proofs.taking.fresh_all.Goals as goal
@@ -86,7 +86,7 @@ returns c =
       ap (λ (k : ℕ). S.msgs l.t a.bytes.now l.marks k 0) (sym i.1) ∙ L.msgs-end l.t a.bytes.now l.marks (O.fresh a.max l.left) n l.i (omega arith) (B.fresh-nil a.max l.left) ∙ i.7
           ∙ ap (λ (k : ℕ). O.fresh a.max a.w.left (S.msgs a.s a.bytes.now a.marks.now k 0)) i.1,
       (
-        wrote_as (B.passing-words i.8 e) (ap (λ (k : ℕ). burst_words (O.fresh-out a.max a.w.left (S.msgs a.s a.bytes.now a.marks.now k 0))) i.1),
+        wrote_as (B.passing-words i.8 e) (ap (λ (k : ℕ). sent_words (O.fresh-out a.max a.w.left (S.msgs a.s a.bytes.now a.marks.now k 0))) i.1),
         (B.passing-left i.8 e ∙ ap (λ (k : ℕ). a.w.left - length (O.fresh-out a.max a.w.left (S.msgs a.s a.bytes.now a.marks.now k 0))) i.1, (i.5, i.6)),
       ),
     )

@@ -13,7 +13,7 @@ use Rattle.outbox.proofs.Places as L
 use Rattle.outbox.proofs.Sending as W
 use lib.ListN.{length-map}
 use Rattle.out.proofs.Laws.{wrote_as}
-use Rattle.outbox.specs.Bursts.{burst_words}
+use Rattle.outbox.specs.Bursts.{sent_words}
 use Rattle.outbox.proofs.Bursting as B
 use Rattle.outbox.proofs.taking.fresh_all.Given as goal
 

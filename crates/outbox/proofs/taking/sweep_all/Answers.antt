@@ -9,7 +9,7 @@ use Rattle.outbox.specs.Senders as S
 use Rattle.outbox.proofs.Places as L
 use lib.ListN.{length-map}
 use Rattle.out.proofs.Laws.{wrote_as}
-use Rattle.outbox.specs.Bursts.{burst_words, pass_pieces}
+use Rattle.outbox.specs.Bursts.{sent_words, pass_pieces}
 use Rattle.outbox.proofs.Bursting as B
 use borrow.Author.Rules.{rules}
 use Rattle.outbox.proofs.taking.sweep_all.Goals as goal
@@ -71,7 +71,7 @@ returns c =
       ap (λ (k : ℕ). S.msgs a.s a.bytes.now l.marks k 0) (sym i.1) ∙ L.msgs-end a.s a.bytes.now l.marks (O.sweep (eqb a.mark 2) l.v.left) n l.i (omega arith) (B.sweep-nil (eqb a.mark 2) l.v.left) ∙ i.5
           ∙ ap (λ (k : ℕ). O.sweep (eqb a.mark 2) a.w.left (S.msgs a.s a.bytes.now a.marks.now k 0)) i.1,
       (
-        wrote_as (B.passing-words i.6 e) (ap (λ (k : ℕ). burst_words (O.sweep-out (eqb a.mark 2) a.w.left (S.msgs a.s a.bytes.now a.marks.now k 0))) i.1),
+        wrote_as (B.passing-words i.6 e) (ap (λ (k : ℕ). sent_words (O.sweep-out (eqb a.mark 2) a.w.left (S.msgs a.s a.bytes.now a.marks.now k 0))) i.1),
         B.passing-left i.6 e ∙ ap (λ (k : ℕ). a.w.left - length (O.sweep-out (eqb a.mark 2) a.w.left (S.msgs a.s a.bytes.now a.marks.now k 0))) i.1,
       ),
     )

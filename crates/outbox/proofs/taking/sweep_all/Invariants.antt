@@ -11,7 +11,7 @@ use Rattle.outbox.specs.Senders as S
 use Rattle.outbox.proofs.Places as L
 use lib.ListN.{length-map}
 use Rattle.out.proofs.Laws.{wrote_as}
-use Rattle.outbox.specs.Bursts.{burst_words, pass_pieces}
+use Rattle.outbox.specs.Bursts.{sent_words, pass_pieces}
 use Rattle.outbox.proofs.Bursting as B
 use Rattle.outbox.proofs.taking.sweep_all.Given as goal
 

@@ -12,7 +12,7 @@ use Rattle.words.specs.Words.{least}
 use Rattle.outbox.specs.Outbox as O
 use Rattle.outbox.specs.Senders as S
 use Rattle.out.proofs.Laws.{wrote_as}
-use Rattle.outbox.specs.Bursts.{burst_words}
+use Rattle.outbox.specs.Bursts.{sent_words}
 use Rattle.outbox.proofs.Bursting as B
 use Rattle.out.proofs.Laws.{wrote_none}
 use Rattle.outbox.proofs.taking.take.Goals as goal
@@ -26,7 +26,7 @@ returns-then-no-ne0 c =
       p.ensures,
       (
         sym (cond_false (eqb p.result 0) (O.with-msgs o (O.take_out a.max a.room o).msgs) o e),
-        (wrote_as (wrote_none a.out.now 0) (sym (cond_false (eqb p.result 0) (burst_words (O.take_out a.max a.room o).out) [] e)), λ z. (refl, refl)),
+        (wrote_as (wrote_none a.out.now 0) (sym (cond_false (eqb p.result 0) (sent_words (O.take_out a.max a.room o).out) [] e)), λ z. (refl, refl)),
       ),
     )
 
@@ -65,7 +65,7 @@ returns c =
     let B4 = S.msgs f.result.sender a.bytes.now v.new.1.1.0 (S.count_of f.result.sender) 0 in
     let e3 = ap (λ (k : ℕ). S.msgs f.result.sender a.bytes.now f.new.1.1.0 k 0) en in
     let e4 = v.ensures.msgs ∙ ap (O.sweep true f.result.left) e3 in
-    let w3 = wrote_as v.ensures.words.0 (ap (λ (x : List O.OutMsg). burst_words (O.sweep-out true f.result.left x)) e3) in (
+    let w3 = wrote_as v.ensures.words.0 (ap (λ (x : List O.OutMsg). sent_words (O.sweep-out true f.result.left x)) e3) in (
       sym (sym c.take_refusal-no.ensures ∙ c.if-no-ne0.false),
       (
         ap (λ (x : List O.OutMsg). record { msgs = x; next_seq = f.result.sender.next })
