@@ -87,6 +87,7 @@ least_keeps low (x ∷ xs) z f h k b = least_keeps (lower low x) xs z (lower_fin
 
 least_all : (low : Level) (xs : List Float) → FiniteLevel low → Finite xs → (z : Float) → Memᴰ z xs → NotBelow (least_from low xs) z
 unfolding least_from
+least_all low [] f h z m = elim m [ ]
 least_all low (x ∷ xs) f h z (Memᴰ.head e) =
     subst (λ (w : Float). NotBelow (least_from (lower low x) xs) w) (sym e)
     (least_keeps (lower low x) xs x (lower_finite low x f h.0) h.1 h.0 (lower_new low x h.0))

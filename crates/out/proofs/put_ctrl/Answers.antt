@@ -10,4 +10,4 @@ use Rattle.out.proofs.put_ctrl.Goals as goal
 pub returns : goal.returns
 returns c =
     let a = c.args in
-    wrote_as c.put_frame.ensures (ap ctrl_words (take_short a.n 255 a.p.now (omega (arith, c.put_frame-arg-2-1.given.0))))
+    wrote_as c.put_frame.ensures (ap ctrl_words (take_short a.n 255 a.p.now (omega (arith, c.put_frame-arg-2-1.given))))

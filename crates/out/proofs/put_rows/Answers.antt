@@ -22,7 +22,7 @@ overflow_add-i c =
     let m = c.least-m in
     let s = c.chunk_size-s in
     let r = chunks_next a.kind a.size a.n a.rows.now c.loop-i.i m.result s.result 0 m.ensures s.ensures in
-    omega (arith, c.loop-i-test.true, c.well-formed)
+    omega (arith, c.loop-i-test.true, c.well_formed)
 
 pub loop-i-smaller : goal.loop-i-smaller
 loop-i-smaller c =

@@ -14,45 +14,48 @@ castable : (n : ℕ) → n < 65535 → T (in_float binary64 (pos n))
 unfolding in_float
 castable n h = le→leb n 9007199254740992 (omega arith)
 
--- past the first two tests: x is in the middle, and its whole part is small
-middle_at : (c : tie.After-row-known) → Mid c.before.before.before.before.args.x
-middle_at c = middle c.before.before.before.before.args.x c.before.before.if2.true c.before.before.before.if1.true
-
-small_at : (c : tie.After-row-known) → c.before.truncating-f64-to-u64.result < 65535
-small_at c = subst (λ (n : ℕ). n < 65535) (sym c.before.truncating-f64-to-u64.ensures) (small c.before.before.before.before.args.x (middle_at c))
-
 -- the third test is on the result of the call, which is the whole part
 abbrev tested : ℕ → Float → Bool
 tested t x = le (add binary64 (of_int binary64 (pos t)) (of_bits binary64 0x3fe0_0000_0000_0000)) x
 
 pub truncating_f64_to_u64-t-requires : goal.truncating_f64_to_u64-t-requires
-truncating_f64_to_u64-t-requires c = in_range c.args.x (middle c.args.x c.if-x-2.true c.if-x.true)
+truncating_f64_to_u64-t-requires c =
+    let m = in_range c.args.x (middle c.args.x c.if-x-2.true c.if-x.true) in
+    record { lower_bound = m.0; upper_bound = m.1 }
 
 pub int_to_float-t : goal.int_to_float-t
-int_to_float-t c = castable c.truncating_f64_to_u64-t.result (small_at c)
+int_to_float-t c =
+    let s : c.truncating_f64_to_u64-t.result < 65535 = subst (λ (n : ℕ). n < 65535) (sym c.truncating_f64_to_u64-t.ensures) (small c.args.x (middle c.args.x c.if-x-2.true c.if-x.true)) in
+    castable c.truncating_f64_to_u64-t.result s
 
 pub overflow_add-result : goal.overflow_add-result
-overflow_add-result c = omega (arith, small_at c)
+overflow_add-result c =
+    let s : c.truncating_f64_to_u64-t.result < 65535 = subst (λ (n : ℕ). n < 65535) (sym c.truncating_f64_to_u64-t.ensures) (small c.args.x (middle c.args.x c.if-x-2.true c.if-x.true)) in
+    omega arith
 
 pub overflow_cast-result : goal.overflow_cast-result
-overflow_cast-result c = omega (arith, small_at c)
+overflow_cast-result c =
+    let s : c.truncating_f64_to_u64-t.result < 65535 = subst (λ (n : ℕ). n < 65535) (sym c.truncating_f64_to_u64-t.ensures) (small c.args.x (middle c.args.x c.if-x-2.true c.if-x.true)) in
+    omega arith
 
 pub returns-then-x-t : goal.returns-then-x-t
 unfolding of_bits
 returns-then-x-t c =
     let x = c.args.x in
     let e = c.truncating_f64_to_u64-t.ensures in
-    ap (λ (t : ℕ). t + 1) e ∙ rounds_up x (middle_at c) (ap (λ (t : ℕ). tested t x) (sym e) ∙ c.if-x-t.true)
+    ap (λ (t : ℕ). t + 1) e ∙ rounds_up x (middle x c.if-x-2.true c.if-x.true) (ap (λ (t : ℕ). tested t x) (sym e) ∙ c.if-x-t.true)
 
 pub overflow_cast-result-then-x-2 : goal.overflow_cast-result-then-x-2
-overflow_cast-result-then-x-2 c = omega (arith, small_at c)
+overflow_cast-result-then-x-2 c =
+    let s : c.truncating_f64_to_u64-t.result < 65535 = subst (λ (n : ℕ). n < 65535) (sym c.truncating_f64_to_u64-t.ensures) (small c.args.x (middle c.args.x c.if-x-2.true c.if-x.true)) in
+    omega arith
 
 pub returns-then-x-2 : goal.returns-then-x-2
 unfolding of_bits
 returns-then-x-2 c =
     let x = c.args.x in
     let e = c.truncating_f64_to_u64-t.ensures in
-    e ∙ rounds_down x (middle_at c) (ap (λ (t : ℕ). tested t x) (sym e) ∙ c.if-x-t.false)
+    e ∙ rounds_down x (middle x c.if-x-2.true c.if-x.true) (ap (λ (t : ℕ). tested t x) (sym e) ∙ c.if-x-t.false)
 
 pub returns-then-x : goal.returns-then-x
 unfolding of_bits

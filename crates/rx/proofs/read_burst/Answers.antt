@@ -76,7 +76,7 @@ pub bounds-s-i-then-f-eq-T_UP : goal.bounds-s-i-then-f-eq-T_UP
 bounds-s-i-then-f-eq-T_UP c = omega (arith, rw (← c.index-i.ensures) at (index_lt c.frame_at-f.result.slot))
 
 pub next_piece-x-requires : goal.next_piece-x-requires
-next_piece-x-requires c = fits c.loop-x.invariant c.loop-x-test.true c.frame_at-f.result c.frame_at-f.ensures c.well-formed.1.1.1.0.0
+next_piece-x-requires c = fits c.loop-x.invariant c.loop-x-test.true c.frame_at-f.result c.frame_at-f.ensures c.well_formed.1.1.1.0.0
 
 pub loop-x-smaller-then-f-eq-T_UP : goal.loop-x-smaller-then-f-eq-T_UP
 loop-x-smaller-then-f-eq-T_UP c = fewer (ap (λ (k : Rx). k.frame) c.next_piece-x.ensures) c.loop-x-test.true
@@ -115,7 +115,7 @@ bounds-s-i-then-f-ge12-4 c = omega (arith, rw (← c.index-i-then-f-ge12.ensures
 pub next_frame-x-requires : goal.next_frame-x-requires
 next_frame-x-requires c =
     let r = went c
-    rw (r.word, r.frame) (fits c.loop-x.invariant c.loop-x-test.true c.frame_at-f.result c.frame_at-f.ensures c.well-formed.1.1.1.0.0)
+    rw (r.word, r.frame) (fits c.loop-x.invariant c.loop-x-test.true c.frame_at-f.result c.frame_at-f.ensures c.well_formed.1.1.1.0.0)
 
 pub loop-x-smaller : goal.loop-x-smaller
 loop-x-smaller c = fewer (ap (λ (k : Rx). k.frame) c.next_frame-x.ensures ∙ (rw (went c).frame)) c.loop-x-test.true

@@ -41,4 +41,4 @@ pub loop-i-preserved : goal.loop-i-preserved
 loop-i-preserved c = (omega arith, (length-set c.loop-i.out c.loop-i.i c.line_of-y.result ∙ c.loop-i.invariant.1.0, one_more line_of empty_queue c.args.queues c.loop-i.out c.loop-i.i c.line_of-y.result (omega arith) c.line_of-y.ensures c.loop-i.invariant.1.1))
 
 pub returns : goal.returns
-returns c = whole line_of empty_queue c.args.queues c.loop-i.out 62 c.well-formed.0.1.0.1 c.loop-i.invariant.1.0 (λ j q. c.loop-i.invariant.1.1 j (omega arith))
+returns c = whole line_of empty_queue c.args.queues c.loop-i.out 62 c.well_formed.0.1.0.1 c.loop-i.invariant.1.0 (λ j q. c.loop-i.invariant.1.1 j (omega arith))

@@ -45,4 +45,4 @@ pub loop-i-preserved : goal.loop-i-preserved
 loop-i-preserved c = (omega arith, (length-set c.loop-i.out c.loop-i.i c.member_of-y.result ∙ c.loop-i.invariant.1.0, one_more member_of no_boat c.args.boats c.loop-i.out c.loop-i.i c.member_of-y.result (omega arith) c.member_of-y.ensures c.loop-i.invariant.1.1))
 
 pub returns : goal.returns
-returns c = whole member_of no_boat c.args.boats c.loop-i.out 62 c.well-formed.0.1.0.1 c.loop-i.invariant.1.0 (λ j q. c.loop-i.invariant.1.1 j (omega arith))
+returns c = whole member_of no_boat c.args.boats c.loop-i.out 62 c.well_formed.0.1.0.1 c.loop-i.invariant.1.0 (λ j q. c.loop-i.invariant.1.1 j (omega arith))

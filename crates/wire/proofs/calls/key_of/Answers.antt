@@ -8,7 +8,7 @@ pub returns : goal.returns
 returns c =
     omega (
       arith,
-      key_seven c.args.c c.well-formed.0.1.0.1,
+      key_seven c.args.c c.well_formed.0.1.0.1,
       c.wide.ensures.0,
       c.wide-2.ensures.0,
       c.wide-3.ensures.0,

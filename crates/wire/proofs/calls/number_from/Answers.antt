@@ -8,7 +8,7 @@ pub returns : goal.returns
 returns c =
     omega (
       arith,
-      number_five c.args.b c.well-formed.0.1.0.1,
+      number_five c.args.b c.well_formed.0.1.0.1,
       c.wide.ensures.0,
       c.wide-2.ensures.0,
       c.wide-3.ensures.0,

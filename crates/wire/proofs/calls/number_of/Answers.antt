@@ -14,4 +14,4 @@ returns c =
       c.digit_of-4.ensures.0,
       c.digit_of-5.ensures.0,
       c.digit_of-6.ensures.0,
-    ) (sym (packed_seven c.args.call c.well-formed.0.1.0.1))
+    ) (sym (packed_seven c.args.call c.well_formed.0.1.0.1))
