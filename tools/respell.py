@@ -17,8 +17,8 @@ NAME = re.compile(r"[^\s(){}.;,@\"«»]+")
 # Of Rust and edits only words in lower camel case are turned: no function, field or local of src/ is spelled so.
 CAMEL = re.compile(r"(?<![\w'])[a-z][a-z0-9]*[A-Z][A-Za-z0-9]*(?![\w'])")
 STRING = re.compile(r'"(?:[^"\\]|\\.)*"')
-# Facts, whose names are a type's; and of two definitions that would fall together the one that gives way.
-GIVEN = {"filling": "Filling", "sent-of": "sent_piece_of", "burst-words": "sent_words", "boxOf": "box_at_slot"}
+# Of two definitions that would fall together the one that gives way.
+GIVEN = {"sent-of": "sent_piece_of", "burst-words": "sent_words", "boxOf": "box_at_slot"}
 
 
 def files(ending):

@@ -72,7 +72,7 @@ module _ (t : Table) (w : Window) (store : List ℕ) (slot field : ℕ) (p : Lis
     open_cell = go (table_room t slot k) (table_room_lem t store tidy slot k) kept_is.celled
       where
         go : (r : Room) → RoomIs t.owners t.busy t.landed (owner_of slot k) (cell_count t.count) r → has_room r ≡ true → has_bit t.landed (place_of r) ≡ false
-        go (Own c) q h = q.Filling.open_yet
+        go (Own c) q h = q.filling.open_yet
         go (Free c) q h = ⊎_elim (λ e. absurd (never_both (has_bit t.busy c) (tidy.taken c e) q.unused)) (λ e. e) (cases (has_bit t.landed c))
         go Full q h = absurd (never_both false h refl)
 
@@ -117,7 +117,7 @@ module _ (t : Table) (w : Window) (store : List ℕ) (slot field : ℕ) (p : Lis
       go : (r : Room) → RoomIs t.owners t.busy t.landed (owner_of slot k) (cell_count t.count) r → (c : ℕ) → has_bit t.landed c ≡ true
           → (has_bit (barred_table t r).landed c ≡ true) × (get_or (barred_table t r).owners c 0 ≡ get_or t.owners c 0)
       go (Own d) q c h =
-          ((freed_other t store tidy d c (λ e. never_both (has_bit t.landed c) h (ap (has_bit t.landed) e ∙ q.Filling.open_yet))).1 ∙ h, refl)
+          ((freed_other t store tidy d c (λ e. never_both (has_bit t.landed c) h (ap (has_bit t.landed) e ∙ q.filling.open_yet))).1 ∙ h, refl)
       go (Free d) q c h = (h, refl)
       go Full q c h = (h, refl)
 

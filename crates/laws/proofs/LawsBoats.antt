@@ -36,7 +36,7 @@ use Rattle.stream.specs.declared.table.Room.TheVariants.{Own, Free, Full}
 use Rattle.stream.specs.Window.{handed_of, barred_of, fresh_of, land_of}
 use Rattle.stream.specs.Table.{Table, Accepted, accept, no_cell, is_own, cell_at, cell_count, cell_for, held_for, place_of, has_room, owner_of, room_for, table_room, is_over, changes, bars, has_landed, put_in, barred_table}
 use Rattle.stream.proofs.Rooms.{RoomIs, room_is, own_filling, filling_own, owner_same, cells_are}
-use Rattle.stream.proofs.Tables.{Tidy, Filling, kept_other, filling_other, freed_other, place_in}
+use Rattle.stream.proofs.Tables.{Tidy, filling, kept_other, filling_other, freed_other, place_in}
 use Rattle.stream.proofs.Windows.{Sound, sound_next}
 use Rattle.stream.proofs.Accepts.{left_as, barred_as, answer_of, cell_in, held_after, put_as, accept_cases, accept_tidy, after_length, after_fits, open_window}
 use Rattle.roster.specs.Members.{barred_one}
@@ -134,54 +134,54 @@ module _ (t : Table) (store : List ℕ) (tidy : Tidy t store) (o : ℕ) where
   here : Here (room_at t o)
   here = room_is t.owners t.busy t.landed o (cell_count t.count)
 
-  -- a cell that is Filling with the message is found by the search
-  found : (c : ℕ) → Filling t c o
+  -- a cell that is filling with the message is found by the search
+  found : (c : ℕ) → filling t c o
       → ((d : ℕ) → d < cell_count t.count → is_own t.busy t.landed d (get_or t.owners d 0) o ≡ false) → ⊥
   found c f none =
       let l = tidy.within c f.taken in
       let e = cells_are t.count tidy.most in
       never_both _ (filling_own t.owners t.busy t.landed o c f) (none c (omega arith))
 
-  own_room : (c : ℕ) → Filling t c o → room_at t o ≡ Own c
+  own_room : (c : ℕ) → filling t c o → room_at t o ≡ Own c
   own_room c f = go (room_at t o) here
     where
       go : (r : Room) → Here r → r ≡ Own c
-      go (Own d) w = ap Own (tidy.one d c o w.Filling f)
+      go (Own d) w = ap Own (tidy.one d c o w.filling f)
       go (Free d) w = absurd (found c f w.none)
       go Full w = absurd (found c f w.none)
 
-  not_own : ((d : ℕ) → Filling t d o → ⊥) → NotOwn (room_at t o)
+  not_own : ((d : ℕ) → filling t d o → ⊥) → NotOwn (room_at t o)
   not_own none = go (room_at t o) here
     where
       go : (r : Room) → Here r → NotOwn r
-      go (Own d) w = none d w.Filling
+      go (Own d) w = none d w.filling
       go (Free d) w = tt
       go Full w = tt
 
-  -- held in a cell, or Filling none
-  by_room : ((c : ℕ) × Filling t c o) ⊎ ((d : ℕ) → Filling t d o → ⊥)
+  -- held in a cell, or filling none
+  by_room : ((c : ℕ) × filling t c o) ⊎ ((d : ℕ) → filling t d o → ⊥)
   by_room = go (room_at t o) here
     where
-      go : (r : Room) → Here r → ((c : ℕ) × Filling t c o) ⊎ ((d : ℕ) → Filling t d o → ⊥)
-      go (Own d) w = inl (d, w.Filling)
+      go : (r : Room) → Here r → ((c : ℕ) × filling t c o) ⊎ ((d : ℕ) → filling t d o → ⊥)
+      go (Own d) w = inl (d, w.filling)
       go (Free d) w = inr (λ c f. found c f w.none)
       go Full w = inr (λ c f. found c f w.none)
 
-  -- where there is room: the cell is not landed, and is Filling with no other message
+  -- where there is room: the cell is not landed, and is filling with no other message
   open_here : has_room (room_at t o) ≡ true → has_bit t.landed (place_of (room_at t o)) ≡ false
   open_here = go (room_at t o) here
     where
       go : (r : Room) → Here r → has_room r ≡ true → has_bit t.landed (place_of r) ≡ false
-      go (Own d) w h = w.Filling.open_yet
+      go (Own d) w h = w.filling.open_yet
       go (Free d) w h =
           ⊎_elim (λ e. absurd (never_both (has_bit t.busy d) (tidy.taken d e) w.unused)) (λ e. e) (cases (has_bit t.landed d))
       go Full w h = absurd (never_both false h refl)
 
-  only_here : has_room (room_at t o) ≡ true → (a : ℕ) → Filling t (place_of (room_at t o)) a → a ≡ o
+  only_here : has_room (room_at t o) ≡ true → (a : ℕ) → filling t (place_of (room_at t o)) a → a ≡ o
   only_here = go (room_at t o) here
     where
-      go : (r : Room) → Here r → has_room r ≡ true → (a : ℕ) → Filling t (place_of r) a → a ≡ o
-      go (Own d) w h a f = sym f.holds ∙ w.Filling.holds
+      go : (r : Room) → Here r → has_room r ≡ true → (a : ℕ) → filling t (place_of r) a → a ≡ o
+      go (Own d) w h a f = sym f.holds ∙ w.filling.holds
       go (Free d) w h a f = absurd (never_both (has_bit t.busy d) f.taken w.unused)
       go Full w h a f = absurd (never_both false h refl)
 
@@ -311,9 +311,9 @@ module _ (t : Table) (w : Window) (store : List ℕ) (slot field : ℕ) (p : Lis
     other_put : Tidy t' store' → (o : ℕ) → (o ≡ owner_of slot k → ⊥) → SameAt t store t' store' o
     other_put tidy' o z = ⊎_elim (λ f. held_in f.0 f.1) (λ none. inr (not_own t store tidy o none, not_own t' store' tidy' o (still none))) (by_room t store tidy o)
       where
-        held_in : (d : ℕ) → Filling t d o → SameAt t store t' store' o
+        held_in : (d : ℕ) → filling t d o → SameAt t store t' store' o
         held_in d f =
-            let n : d ≡ c → ⊥ = λ e. z (only_here t store tidy (owner_of slot k) celled o (subst (λ (y : ℕ). Filling t y o) e f)) in
+            let n : d ≡ c → ⊥ = λ e. z (only_here t store tidy (owner_of slot k) celled o (subst (λ (y : ℕ). filling t y o) e f)) in
             let q = kept_other t c (owner_of slot k) (put_in store c h).taken d n in
             let l = tidy.within d f.taken in
             let m = tidy.room in
@@ -327,7 +327,7 @@ module _ (t : Table) (w : Window) (store : List ℕ) (slot field : ℕ) (p : Lis
               },
             )
 
-        still : ((d : ℕ) → Filling t d o → ⊥) → (d : ℕ) → Filling t' d o → ⊥
+        still : ((d : ℕ) → filling t d o → ⊥) → (d : ℕ) → filling t' d o → ⊥
         still none d f =
             ⊎_elim (λ e. z (sym f.holds ∙ ap (λ (y : ℕ). get_or t'.owners y 0) e ∙ owner_here))
             (λ n. none d (filling_other t c (owner_of slot k) (put_in store c h).taken d o n f)) (eq_or_not d c)
@@ -356,17 +356,17 @@ module _ (t : Table) (w : Window) (store : List ℕ) (slot field : ℕ) (p : Lis
     barred_now = barred_table t (table_room t slot k)
 
     -- a cell that fills after it filled before, and with another message
-    barred_filling : (r : Room) → RoomIs t.owners t.busy t.landed (owner_of slot k) (cell_count t.count) r → (d o : ℕ) → Filling (barred_table t r) d o
-        → Filling t d o × (o ≡ owner_of slot k → ⊥)
+    barred_filling : (r : Room) → RoomIs t.owners t.busy t.landed (owner_of slot k) (cell_count t.count) r → (d o : ℕ) → filling (barred_table t r) d o
+        → filling t d o × (o ≡ owner_of slot k → ⊥)
     barred_filling (Own c) q d o f =
         let n : d ≡ c → ⊥ = λ e. never_both (has_bit (without_bit t.busy c) d) f.taken (ap (has_bit (without_bit t.busy c)) e ∙ without_same t.busy c) in
         let r = freed_other t store tidy c d n in
-        let g : Filling t d o = record { taken = sym r.0 ∙ f.taken; open_yet = sym r.1 ∙ f.open_yet; holds = f.holds } in
-        (g, λ e. n (tidy.one d c (owner_of slot k) (subst (Filling t d) e g) q.Filling))
-    barred_filling (Free c) q d o f = (f, λ e. found t store tidy (owner_of slot k) d (subst (Filling t d) e f) q.none)
-    barred_filling Full q d o f = (f, λ e. found t store tidy (owner_of slot k) d (subst (Filling t d) e f) q.none)
+        let g : filling t d o = record { taken = sym r.0 ∙ f.taken; open_yet = sym r.1 ∙ f.open_yet; holds = f.holds } in
+        (g, λ e. n (tidy.one d c (owner_of slot k) (subst (filling t d) e g) q.filling))
+    barred_filling (Free c) q d o f = (f, λ e. found t store tidy (owner_of slot k) d (subst (filling t d) e f) q.none)
+    barred_filling Full q d o f = (f, λ e. found t store tidy (owner_of slot k) d (subst (filling t d) e f) q.none)
 
-    was_filling : (d o : ℕ) → Filling barred_now d o → Filling t d o × (o ≡ owner_of slot k → ⊥)
+    was_filling : (d o : ℕ) → filling barred_now d o → filling t d o × (o ≡ owner_of slot k → ⊥)
     was_filling = barred_filling (table_room t slot k) (here t store tidy (owner_of slot k))
 
     own_barred : Tidy barred_now store → box_at barred_now store (owner_of slot k) ≡ none_yet
@@ -374,10 +374,10 @@ module _ (t : Table) (w : Window) (store : List ℕ) (slot field : ℕ) (p : Lis
         none_box (room_at barred_now (owner_of slot k)) barred_now store
         (not_own barred_now store tidy' (owner_of slot k) (λ d f. (was_filling d (owner_of slot k) f).1 refl))
 
-    still_filling : (r : Room) → RoomIs t.owners t.busy t.landed (owner_of slot k) (cell_count t.count) r → (d o : ℕ) → (o ≡ owner_of slot k → ⊥) → Filling t d o
-        → Filling (barred_table t r) d o
+    still_filling : (r : Room) → RoomIs t.owners t.busy t.landed (owner_of slot k) (cell_count t.count) r → (d o : ℕ) → (o ≡ owner_of slot k → ⊥) → filling t d o
+        → filling (barred_table t r) d o
     still_filling (Own c) q d o z f =
-        let r = freed_other t store tidy c d (λ e. z (sym f.holds ∙ ap (λ (y : ℕ). get_or t.owners y 0) e ∙ q.Filling.holds)) in
+        let r = freed_other t store tidy c d (λ e. z (sym f.holds ∙ ap (λ (y : ℕ). get_or t.owners y 0) e ∙ q.filling.holds)) in
         record { taken = r.0 ∙ f.taken; open_yet = r.1 ∙ f.open_yet; holds = f.holds }
     still_filling (Free c) q d o z f = f
     still_filling Full q d o z f = f

@@ -125,7 +125,7 @@ module _ (t : Table) (w : Window) (store : List ℕ) (slot field : ℕ) (p : Lis
             → Made (joined_of store (place_of r) (cell_for r (cell_at t (place_of r))) o p) (also_in r (from o p) f (place_of r))
         go (Own d) q y l =
             subst (λ (b : Bool). Made (accept (held (cell_at t d) (cell_of store d)) o p) (cond b (f d ++ (from o p ∷ [])) (f d))) (sym (eq-eqb d d refl))
-            (made_more (held (cell_at t d) (cell_of store d)) (f d) o p (old d q.Filling.taken) (yes_is k o (length p) (is_over (barred_of w k) store (Own d) (cell_at t d) o p) true (cell_at t d) y).fits
+            (made_more (held (cell_at t d) (cell_of store d)) (f d) o p (old d q.filling.taken) (yes_is k o (length p) (is_over (barred_of w k) store (Own d) (cell_at t d) o p) true (cell_at t d) y).fits
             (kept_room k o (is_over (barred_of w k) store (Own d) (cell_at t d) o p) true (cell_at t d) (cell_of store d) p (inl y)))
         go (Free d) q y l =
             let n = cell_length store d l in

@@ -83,7 +83,7 @@ Splits number whole h =
 abbrev pub InCells : Type 0
 InCells = ℕ → List Piece
 
--- one more, into the cell that is Filling with its message, or into a free one, of which it is the first
+-- one more, into the cell that is filling with its message, or into a free one, of which it is the first
 abbrev pub also_in : Room → Piece → InCells → InCells
 also_in (Own c) x f d = cond (eqb c d) (f d ++ (x ∷ [])) (f d)
 also_in (Free c) x f d = cond (eqb c d) (x ∷ []) (f d)
@@ -205,7 +205,7 @@ pub record IsUp (s : Station) (x : Up) : Type 0 where
 abbrev pub number_of : Station → Up → Number
 number_of s x = widened (x.field / 65536 % 256) (member_at s x.slot).up.next
 
--- cell c is for a piece of this number and slot: it is Filling with its message, or is free; a piece whose number is none needs no cell
+-- cell c is for a piece of this number and slot: it is filling with its message, or is free; a piece whose number is none needs no cell
 abbrev pub CellFor : Number → ℕ → Table → ℕ → Type 0
 CellFor Before slot t c = Unit {0}
 CellFor (Is k) slot t c =

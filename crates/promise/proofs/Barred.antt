@@ -119,7 +119,7 @@ module _ (M : Sent) (v : View) (l : Ledger) (e : ℕ → Option Message) (tie : 
             inr (
               ap (use_at (freed_table v.table c)) q
                   ∙ use_vacant (has_bit (freed_table v.table c).busy c) (has_bit (freed_table v.table c).landed c) (get_or v.table.owners c 0) (without_same v.table.busy c),
-              ap (use_at v.table) q ∙ filling_comes v.table c s k h.Filling low,
+              ap (use_at v.table) q ∙ filling_comes v.table c s k h.filling low,
             ))
             (λ z.
             let f = freed_other v.table v.store tie.tidy c d z in

@@ -156,7 +156,7 @@ module _ (t : Table) (w : Window) (store : List ℕ) (s field : ℕ) (p : List �
     use_was = go (table_room t s k) (table_room_lem t store tidy s k) kept.celled
       where
         go : (r : Room) → RoomHere k r → has_room r ≡ true → (use_at t (place_of r) ≡ Vacant) ⊎ (use_at t (place_of r) ≡ Comes s k)
-        go (Own d) h q = inr (filling_comes t d s k h.Filling low_k)
+        go (Own d) h q = inr (filling_comes t d s k h.filling low_k)
         go (Free d) h q = inl (use_vacant (has_bit t.busy d) (has_bit t.landed d) (get_or t.owners d 0) h.unused)
         go Full h q = absurd (never_both true refl (sym q))
 

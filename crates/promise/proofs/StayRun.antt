@@ -129,7 +129,7 @@ all_here g = (after all_come (net (new_station g 3) (replicate 19200 7))).statio
 abbrev one_left : Settings → Station
 one_left g = (after (all_come ++ (signing 0 ∷ [])) (net (new_station g 3) (replicate 19200 7))).station
 
--- A signs off: its cells, the landed and the Filling one, are free; the three have no relay, are unheard and silent, and the total says so
+-- A signs off: its cells, the landed and the filling one, are free; the three have no relay, are unheard and silent, and the total says so
 pub record LeftRun (g : Settings) : Type 0 where
   pub cells : ((all_here g).busy ≡ 7) × ((all_here g).landed ≡ 1)
   pub freed : ((one_left g).busy ≡ 4) × ((one_left g).landed ≡ 0)

@@ -23,7 +23,7 @@ use Rattle.stream.specs.declared.table.Room.TheVariants.{Own, Free, Full}
 use Rattle.stream.specs.Window.{handed_of, barred_of}
 use Rattle.stream.specs.Table.{Table, cell_at, owner_of, is_own, cell_count, place_of, has_room, cell_for, held_for, table_room}
 use Rattle.stream.proofs.Rooms.{filling_own, RoomIs, cells_are}
-use Rattle.stream.proofs.Tables.{Filling, Tidy, table_room_lem}
+use Rattle.stream.proofs.Tables.{filling, Tidy, table_room_lem}
 use Rattle.stream.proofs.Windows.{Sound}
 use Rattle.promise.specs.Promise.{Sent, Message, Ledger, same, all_below}
 use Rattle.promise.proofs.Ledgers.{Cov, part_of, part_room, same_true, same_self, empty_inv, needless_covered}
@@ -123,17 +123,17 @@ use_whole a b o s k p q r z =
 pub use_vacant : (a b : Bool) (o : ℕ) → a ≡ false → use_of a b o ≡ Vacant
 use_vacant a b o p = ap (λ (t : Bool). use_of t b o) p
 
-pub comes_filling : (t : Table) (c s k : ℕ) → use_at t c ≡ Comes s k → Filling t c (owner_of s k)
+pub comes_filling : (t : Table) (c s k : ℕ) → use_at t c ≡ Comes s k → filling t c (owner_of s k)
 comes_filling t c s k = go (has_bit t.busy c) (has_bit t.landed c) refl refl
   where
-    go : (a b : Bool) → has_bit t.busy c ≡ a → has_bit t.landed c ≡ b → use_of a b (get_or t.owners c 0) ≡ Comes s k → Filling t c (owner_of s k)
+    go : (a b : Bool) → has_bit t.busy c ≡ a → has_bit t.landed c ≡ b → use_of a b (get_or t.owners c 0) ≡ Comes s k → filling t c (owner_of s k)
     go false b p q r = not_vacant s k r
     go true true p q r = not_whole _ _ s k r
     go true false p q r =
         let w = comes_is _ _ s k r in
         record { taken = p; open_yet = q; holds = parts_owner (get_or t.owners c 0) s k w.0 w.1 }
 
-pub filling_comes : (t : Table) (c s k : ℕ) → Filling t c (owner_of s k) → k < 2 ^ 32 → use_at t c ≡ Comes s k
+pub filling_comes : (t : Table) (c s k : ℕ) → filling t c (owner_of s k) → k < 2 ^ 32 → use_at t c ≡ Comes s k
 filling_comes t c s k f z = use_comes _ _ _ s k f.taken f.open_yet f.holds z
 
 -- ---- the cell that a piece of message k of slot s would go into
@@ -147,7 +147,7 @@ pub record Aim (M : Sent) (v : View) (l : Ledger) (s k c : ℕ) (x : Cell) : Typ
 
 module _ (M : Sent) (v : View) (l : Ledger) (e : ℕ → Option Message) (tie : Tie M v l e)
     (s k : ℕ) (on : M.watched s ≡ true) (low : k < 2 ^ 32) where
-  aim_has : (c : ℕ) → c < v.table.count → Filling v.table c (owner_of s k) → Aim M v l s k c (cell_at v.table c)
+  aim_has : (c : ℕ) → c < v.table.count → filling v.table c (owner_of s k) → Aim M v l s k c (cell_at v.table c)
   aim_has c a f =
       let q = filling_comes v.table c s k f low in
       let g : Coming (M.text s k) (l.covered s k) (l.handed s k) (held_at v c) =
@@ -181,7 +181,7 @@ module _ (M : Sent) (v : View) (l : Ledger) (e : ℕ → Option Message) (tie : 
       go (Own c) w q =
           let m = cells_are v.table.count tie.tidy.most in
           let b = w.below in
-          needless_covered (part_of (M.text s k)) (l.covered s k) (cell_at v.table c) (cell_of v.store c) (aim_has c (omega arith) w.Filling).inv k o n over true q
+          needless_covered (part_of (M.text s k)) (l.covered s k) (cell_at v.table c) (cell_of v.store c) (aim_has c (omega arith) w.filling).inv k o n over true q
       go (Free c) w q = none_there true q
       go Full w q = none_there false q
 
@@ -194,7 +194,7 @@ module _ (M : Sent) (v : View) (l : Ledger) (e : ℕ → Option Message) (tie : 
       go (Own c) w =
           let n = cells_are v.table.count tie.tidy.most in
           let b = w.below in
-          shows_modest (M.text s k) small (Cov (l.covered s k)) (held_at v c) (aim_has c (omega arith) w.Filling).inv o p cut
+          shows_modest (M.text s k) small (Cov (l.covered s k)) (held_at v c) (aim_has c (omega arith) w.filling).inv o p cut
       go (Free c) w = empty_modest (M.text s k) small o p cut
       go Full w = empty_modest (M.text s k) small o p cut
 
@@ -223,7 +223,7 @@ module _ (M : Sent) (v : View) (l : Ledger) (e : ℕ → Option Message) (tie : 
 
     aim_by : (r : Room) → RoomHere r → has_room r ≡ true → Aim M v l s k (place_of r) (cell_for r (cell_at v.table (place_of r)))
     aim_by (Own c) w h =
-        let n = cells_are v.table.count tie.tidy.most in let b = w.below in aim_has c (omega arith) w.Filling
+        let n = cells_are v.table.count tie.tidy.most in let b = w.below in aim_has c (omega arith) w.filling
     aim_by (Free c) w h =
         let n = cells_are v.table.count tie.tidy.most in let b = w.below in aim_new c (omega arith) w.unused (no_cell_lem w.none)
     aim_by Full w h = absurd (never_both true refl (sym h))

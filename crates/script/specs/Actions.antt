@@ -36,7 +36,7 @@ abbrev pub slot_of : ℕ → ℕ
 slot_of w = w / 16 % 256
 
 -- a question of the panel's: the silent boats, the boat in a slot, at which level one boat hears another, the dues, the lowest of a boat's last levels; or the
--- Filling of a boat's directed queue
+-- filling of a boat's directed queue
 abbrev pub asked : ℕ → Bool
 asked rest =
     eqb rest 0

@@ -57,7 +57,7 @@ bereave_at slot i s =
 unfoldable pub bereave_all : ℕ → Station → Station
 bereave_all slot s = fold (bereave_at slot) 62 0 s
 
--- ---- 'its cells', those Filling and those landed
+-- ---- 'its cells', those filling and those landed
 
 abbrev pub is_cell_of : Table → ℕ → ℕ → Bool
 is_cell_of t slot c = has_bit t.busy c && eqb (get_or t.owners c 0 / 4294967296) slot

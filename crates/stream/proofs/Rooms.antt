@@ -1,4 +1,4 @@
--- What the room for a piece says: the cell is below the count, its own cell is Filling with the message, a free one is not taken.
+-- What the room for a piece says: the cell is below the count, its own cell is filling with the message, a free one is not taken.
 -- Assumes nothing.
 use mathlib.Core.Path.{◌≡◌, refl, ap, ◌∙◌}
 use mathlib.Core.Bool.{Bool, true, false, not, cond, ◌&&◌}
@@ -37,7 +37,7 @@ cells_are count h =
     (λ l. ap (λ (t : Bool). cond t count 64) (lt-ltb count 64 l))
     (le_or_lt 64 count)
 
--- what a cell that is Filling with a message is
+-- what a cell that is filling with a message is
 pub record Filling (owners : List ℕ) (busy landed c owner : ℕ) : Type 0 where
   pub taken : has_bit busy c ≡ true
   pub open_yet : has_bit landed c ≡ false
@@ -60,7 +60,7 @@ module _ (owners : List ℕ) (busy landed owner : ℕ) where
     -- by what the two searches found
     pub record OwnAt (c : ℕ) : Type 0 where
       pub below : c < n
-      pub Filling : Filling owners busy landed c owner
+      pub filling : Filling owners busy landed c owner
 
     pub record FreeAt (c : ℕ) : Type 0 where
       pub below : c < n
@@ -84,7 +84,7 @@ module _ (owners : List ℕ) (busy landed owner : ℕ) where
     unfolding own_cell
     own_some c e =
         let r = first_found (λ c. is_own busy landed c (get_or owners c 0) owner) n 0 c e in
-        record { below = omega arith; Filling = own_filling c r.1 }
+        record { below = omega arith; filling = own_filling c r.1 }
 
     pub room_is : RoomIs (room_of (own_cell owners busy landed n owner) (lowest_free busy n))
     room_is = go (own_cell owners busy landed n owner) (lowest_free busy n) refl refl

@@ -18,9 +18,9 @@ use Rattle.stream.specs.declared.table.Taken.{Taken}
 use Rattle.stream.specs.Table.{Table, no_cell, cell_at, owner_of, cell_count, place_of, has_room, has_landed, kept_table, freed_table, barred_table, start_table, table_room}
 use Rattle.stream.proofs.Rooms.{Filling, filling_own, RoomIs, room_is, cells_are}
 
--- cell c is Filling with the message `owner`
-abbrev pub Filling : Table → ℕ → ℕ → Type 0
-Filling t c owner = Filling t.owners t.busy t.landed c owner
+-- cell c is filling with the message `owner`
+abbrev pub filling : Table → ℕ → ℕ → Type 0
+filling t c owner = Filling t.owners t.busy t.landed c owner
 
 -- one to 64 cells, all in the store; only those are taken, and a landed message's cell is taken; a message fills one cell
 pub record Tidy (t : Table) (store : List ℕ) : Type 0 where
@@ -34,7 +34,7 @@ pub record Tidy (t : Table) (store : List ℕ) : Type 0 where
   pub within : (c : ℕ) → has_bit t.busy c ≡ true → c < t.count
   pub taken : (c : ℕ) → has_bit t.landed c ≡ true → has_bit t.busy c ≡ true
   pub fits : (c : ℕ) → c < 64 → Fits (cell_at t c)
-  pub one : (c d owner : ℕ) → Filling t c owner → Filling t d owner → c ≡ d
+  pub one : (c d owner : ℕ) → filling t c owner → filling t d owner → c ≡ d
 
 pub start_tidy : (count : ℕ) (store : List ℕ) → 1 ≤ count → count ≤ 64 → 6400 * count ≤ length store → Tidy (start_table count) store
 start_tidy count store a b h =
@@ -70,13 +70,13 @@ module _ (t : Table) (store : List ℕ) (tidy : Tidy t store) (slot k : ℕ) whe
   pub place_in : (place_of (table_room t slot k) < 64) × (6400 * place_of (table_room t slot k) + 6400 ≤ length store)
   place_in = let l = place_below in let m = tidy.most in let r = tidy.room in (omega arith, omega arith)
 
-  -- no other cell is Filling with the message
-  pub room_only : has_room (table_room t slot k) ≡ true → (d : ℕ) → Filling t d (owner_of slot k) → d ≡ place_of (table_room t slot k)
+  -- no other cell is filling with the message
+  pub room_only : has_room (table_room t slot k) ≡ true → (d : ℕ) → filling t d (owner_of slot k) → d ≡ place_of (table_room t slot k)
   room_only = go (table_room t slot k) table_room_lem (cells_are t.count tidy.most)
     where
       go : (r : Room) → RoomIs t.owners t.busy t.landed (owner_of slot k) (cell_count t.count) r → cell_count t.count ≡ t.count
-          → has_room r ≡ true → (d : ℕ) → Filling t d (owner_of slot k) → d ≡ place_of r
-      go (Own c) q e h d f = tidy.one d c (owner_of slot k) f q.Filling
+          → has_room r ≡ true → (d : ℕ) → filling t d (owner_of slot k) → d ≡ place_of r
+      go (Own c) q e h d f = tidy.one d c (owner_of slot k) f q.filling
       go (Free c) q e h d f =
           let l = tidy.within d f.taken in
           absurd
@@ -106,29 +106,29 @@ module _ (t : Table) (c owner : ℕ) (x : Taken) where
     get_or-set_other t.cells c j x.cell no_cell n,
   )
 
-  pub filling_other : (j o : ℕ) → (j ≡ c → ⊥) → Filling (kept_table t c owner x) j o → Filling t j o
+  pub filling_other : (j o : ℕ) → (j ≡ c → ⊥) → filling (kept_table t c owner x) j o → filling t j o
   filling_other j o n f =
       let r = kept_other j n in
       record { taken = sym r.0 ∙ f.taken; open_yet = sym r.1 ∙ f.open_yet; holds = sym r.2 ∙ f.holds }
 
   module _ (store store' : List ℕ) (tidy : Tidy t store) (below : c < t.count) (long : length store' ≡ length store)
-      (fit : Fits x.cell) (only : (d : ℕ) → Filling t d owner → d ≡ c) where
-    one_more : (j d o : ℕ) → Filling (kept_table t c owner x) j o → Filling (kept_table t c owner x) d o → j ≡ d
+      (fit : Fits x.cell) (only : (d : ℕ) → filling t d owner → d ≡ c) where
+    one_more : (j d o : ℕ) → filling (kept_table t c owner x) j o → filling (kept_table t c owner x) d o → j ≡ d
     one_more j d o f g =
         ⊎_elim
         (λ p.
         ⊎_elim
         (λ q. p ∙ sym q)
-        (λ q. p ∙ sym (only d (subst (Filling t d) (sym (owner_at j p f)) (filling_other d o q g))))
+        (λ q. p ∙ sym (only d (subst (filling t d) (sym (owner_at j p f)) (filling_other d o q g))))
         (eq_or_not d c))
         (λ p.
         ⊎_elim
-        (λ q. only j (subst (Filling t j) (sym (owner_at d q g)) (filling_other j o p f)) ∙ sym q)
+        (λ q. only j (subst (filling t j) (sym (owner_at d q g)) (filling_other j o p f)) ∙ sym q)
         (λ q. tidy.one j d o (filling_other j o p f) (filling_other d o q g))
         (eq_or_not d c))
         (eq_or_not j c)
       where
-        owner_at : (i : ℕ) → i ≡ c → Filling (kept_table t c owner x) i o → owner ≡ o
+        owner_at : (i : ℕ) → i ≡ c → filling (kept_table t c owner x) i o → owner ≡ o
         owner_at i e f =
             let l = tidy.owners in
             let m = tidy.most in
@@ -175,7 +175,7 @@ module _ (t : Table) (store : List ℕ) (tidy : Tidy t store) (c : ℕ) where
       let n : j ≡ c → ⊥ = λ q. never_both (has_bit (without_bit m c) j) e (ap (has_bit (without_bit m c)) q ∙ without_same m c) in
       (n, sym (without_other m c j (λ q. n (sym q))) ∙ e)
 
-  freed_filling : (j o : ℕ) → Filling (freed_table t c) j o → Filling t j o
+  freed_filling : (j o : ℕ) → filling (freed_table t c) j o → filling t j o
   freed_filling j o f =
       let r = kept_bit t.busy j f.taken in
       record { taken = r.1; open_yet = sym (without_other t.landed c j (λ q. r.0 (sym q))) ∙ f.open_yet; holds = f.holds }

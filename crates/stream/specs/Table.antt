@@ -30,7 +30,7 @@ use Rattle.stream.specs.Window.{handed_of, land_of, barred_of, bar_of}
 abbrev pub owner_of : ℕ → ℕ → ℕ
 owner_of slot number = slot * 2 ^ 32 + number
 
--- cell c, which holds the message `holds`, is Filling with the message `owner`
+-- cell c, which holds the message `holds`, is filling with the message `owner`
 abbrev pub is_own : ℕ → ℕ → ℕ → ℕ → ℕ → Bool
 is_own busy landed c holds owner = has_bit busy c && not (has_bit landed c) && eqb holds owner
 
@@ -46,7 +46,7 @@ room_of (At c) free = Own c
 room_of Nothing (At c) = Free c
 room_of Nothing Nothing = Full
 
--- the cell that is Filling with the message; a new number takes the lowest free cell
+-- the cell that is filling with the message; a new number takes the lowest free cell
 abbrev pub room_for : List ℕ → ℕ → ℕ → ℕ → ℕ → Room
 room_for owners busy landed count owner =
     room_of (own_cell owners busy landed (cell_count count) owner) (lowest_free busy (cell_count count))

@@ -4,8 +4,8 @@ use Rattle.stream.proofs.table.is_over.Goals as goal
 
 pub shows_in-requires : goal.shows_in-requires
 shows_in-requires c = let p = c.requires in record {
-  c_bound = rw c.in-Own.is at p.0;
-  piece_len_bound = p.1;
+  c_bound = rw c.in-Own.is at p.room_bound;
+  piece_len_bound = p.piece_len_bound;
 }
 
 pub returns-in-Own : goal.returns-in-Own
