@@ -12,7 +12,7 @@ use Rattle.config.specs.Checks.{span_ok, data_ok}
 use Rattle.config.proofs.data_ok.Given as goal
 
 abbrev pub invariant-loop-i : goal.invariant-loop-i
-invariant-loop-i l = (l.i ≤ 1088) × (every (λ l. span_ok (get_or l.d l nan)) (1088 - l.i) l.i ≡ data_ok l.d)
+invariant-loop-i l = (l.i ≤ 1088) × (every (λ k. span_ok (get_or l.d k nan)) (1088 - l.i) l.i ≡ data_ok l.d)
 
 abbrev pub decreases-loop-i : goal.decreases-loop-i
 decreases-loop-i l = 1088 - l.i

@@ -1,7 +1,7 @@
 -- Assumes nothing.
 
-use mathlib.Core.Logic.{⊎_elim}
 use Rattle.net.proofs.deadline_of.Goals as goal
+use Rattle.net.proofs.deadline_of.Goals.{then-sure, else-sure}
 
 pub returns : goal.returns
-returns c = ⊎_elim (λ w. rw (w.1, w.0.taken)) (λ w. rw (w.1, w.0.left)) c.if-sure.branch
+returns c = elim c.if-sure.branch [ then-sure w ↦ rw (w.reply-is, w.if-sure.true) | else-sure w ↦ rw (w.reply-is, w.if-sure.false) ]

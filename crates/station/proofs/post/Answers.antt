@@ -1,7 +1,6 @@
 -- `j` is where the ways round the storing of the message meet. Assumes nothing.
 
 use mathlib.Core.Path.{◌≡◌, sym, ap, ◌∙◌}
-use mathlib.Core.Logic.{⊎_elim}
 use mathlib.Core.List.{[]}
 use Prim.Native.Nat.{◌+◌}
 use native.Mathlib.Omega.{arith}
@@ -15,6 +14,7 @@ use Rattle.net.proofs.Laws.{index_lt}
 use Rattle.station.specs.Entries.{post_refusal, post_of}
 use Rattle.station.proofs.Laws.{answered_unless, post_ok, post_if, post_yes, post_no}
 use Rattle.station.proofs.post.Goals as goal
+use Rattle.station.proofs.post.Goals.{then-no-eq0, else-no-eq0}
 
 pub offset_bounds-s-i : goal.offset_bounds-s-i
 offset_bounds-s-i c = omega (arith, rw (← c.index-i.ensures) at (index_lt c.args.slot))
@@ -43,7 +43,10 @@ bounds-s-i-2 c = omega (arith, rw (← c.index-i.ensures) at (index_lt c.args.sl
 
 pub shape_of-lent : goal.shape_of-lent
 shape_of-lent c =
-    ⊎_elim (λ w. ap length w.5 ∙ ap length w.2.ensures ∙ length_put _ _ _ _) (λ w. ap length w.1) c.if-no-eq0.branch
+    elim c.if-no-eq0.branch [
+      then-no-eq0 w ↦ ap length w.lent-is ∙ ap length w.put.ensures ∙ length_put _ _ _ _
+      | else-no-eq0 w ↦ ap length w.lent-is
+    ]
 
 pub returns : goal.returns
 unfolding post_of after
@@ -58,8 +61,8 @@ returns c =
     let put = put_bytes queue a.slot q.posted (framed a.message.now) in
     let e : c.post_refusal-no.result ≡ no = rw c.index-i.ensures at c.post_refusal-no.ensures in (
       rw (c.answer_of.ensures, c.post_queue-k.ensures, e, c.index-i.ensures) (post_if no s a.slot (posted_to q (n + 2)) ∙ sym (answered_unless no s t queue put [] 0)),
-      ⊎_elim
-          (λ w. w.5 ∙ rw c.index-i.ensures at w.2.ensures ∙ post_yes no s t queue put (sym e ∙ w.0.taken))
-          (λ w. w.1 ∙ post_no no s t queue put (λ z. w.0.left (e ∙ z)))
-          c.if-no-eq0.branch,
+      elim c.if-no-eq0.branch [
+        then-no-eq0 w ↦ w.lent-is ∙ rw c.index-i.ensures at w.put.ensures ∙ post_yes no s t queue put (sym e ∙ w.if-no-eq0.true)
+        | else-no-eq0 w ↦ w.lent-is ∙ post_no no s t queue put (λ z. w.if-no-eq0.false (e ∙ z))
+      ],
     )

@@ -11,8 +11,7 @@ pub returns-then-relayed : goal.returns-then-relayed
 returns-then-relayed c =
     rw (
       ← c.has_landed.ensures,
-      not-false c.has_landed.result
-          c.if-not-has_landed.false,
+      c.if-not-has_landed.false,
       c.if-relayed.true,
     )
     (then c.put_event-next.ensures c.put_message.ensures)

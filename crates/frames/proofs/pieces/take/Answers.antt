@@ -8,7 +8,7 @@ use borrow.Author.Tests.{not-true, not-false}
 use Rattle.frames.proofs.pieces.take.Goals as goal
 
 pub returns-then-not-p : goal.returns-then-not-p
-returns-then-not-p c = rw (c.if-not-p.true, c.left.ensures)
+returns-then-not-p c = rw (not-true _ c.if-not-p.true, c.left.ensures)
 
 pub slice_bounds-offer-end : goal.slice_bounds-offer-end
 slice_bounds-offer-end c =
@@ -32,7 +32,7 @@ offer-requires c =
 pub returns : goal.returns
 returns c =
     rw (
-      c.if-not-p.false,
+      not-false _ c.if-not-p.false,
       ← bytes_read (drop c.args.at
           c.args.words.now) c.args.len c.payload-piece.result (omega (arith, c.ranges.len))
           c.payload-piece.ensures,
