@@ -104,13 +104,17 @@ def note_fields():
 
 
 def turn_antt(text, new, kept):
+    modules = set(re.findall(r"(?m)^use Rattle\.\S+ as (\w+)$", text))
+
     def one(m):
         name = m[0]
         if name not in new or name in kept:
             return name
-        # behind a dot stands a field of a record, or a step that is named after the code
+        # behind a dot stands a field of a record, a name of a module, or a step that is named after the code
         if "-" in name and m.start() and text[m.start() - 1] == "." and name not in FIELDS:
-            return name
+            module = re.search(r"([^\s(){},;@\"«»]+)\.$", text[: m.start()])
+            if not module or module[1] not in modules:
+                return name
         return new[name]
 
     return NAME.sub(one, text)

@@ -75,25 +75,25 @@ sending (turn x p a) e = absurd e
 pub acks_other : (s : Station) → bursts_in (acks_burst s).words ≡ []
 unfolding acks_burst
 acks_other s =
-    w.other-burst (acks_level s) (chunk_words c_acks 18 (ack_rows s (acked s) 62) ++ chunk_words c_tree 20 (tree_rows s (acked_or_moved s) (moved_in s)))
-    (w.quiet-both (chunk_words c_acks 18 (ack_rows s (acked s) 62)) (chunk_words c_tree 20 (tree_rows s (acked_or_moved s) (moved_in s)))
-    (w.quiet-chunk-words c_acks 18 (ack_rows s (acked s) 62)) (w.quiet-chunk-words c_tree 20 (tree_rows s (acked_or_moved s) (moved_in s))))
+    w.other_burst (acks_level s) (chunk_words c_acks 18 (ack_rows s (acked s) 62) ++ chunk_words c_tree 20 (tree_rows s (acked_or_moved s) (moved_in s)))
+    (w.quiet_both (chunk_words c_acks 18 (ack_rows s (acked s) 62)) (chunk_words c_tree 20 (tree_rows s (acked_or_moved s) (moved_in s)))
+    (w.quiet_chunk_words c_acks 18 (ack_rows s (acked s) 62)) (w.quiet_chunk_words c_tree 20 (tree_rows s (acked_or_moved s) (moved_in s))))
 
 pub beacon_other : (s : Station) (now : Float) → bursts_in (beacon_of s now).words ≡ []
 unfolding beacon_of
 beacon_other s now =
-    w.other-burst s.settings.beaconlevel (ctrl_words (beacon_payload s.settings (beacon_acks s)) ++ chunk_words c_acks 18 (beacon_rows s))
-    (w.quiet-both (ctrl_words (beacon_payload s.settings (beacon_acks s))) (chunk_words c_acks 18 (beacon_rows s))
-    (w.quiet-ctrl (beacon_payload s.settings (beacon_acks s)))
-    (w.quiet-chunk-words c_acks 18 (beacon_rows s)))
+    w.other_burst s.settings.beaconlevel (ctrl_words (beacon_payload s.settings (beacon_acks s)) ++ chunk_words c_acks 18 (beacon_rows s))
+    (w.quiet_both (ctrl_words (beacon_payload s.settings (beacon_acks s))) (chunk_words c_acks 18 (beacon_rows s))
+    (w.quiet_ctrl (beacon_payload s.settings (beacon_acks s)))
+    (w.quiet_chunk_words c_acks 18 (beacon_rows s)))
 
 pub list_other : (s : Station) → bursts_in (list_words s) ≡ []
-list_other s = w.other-burst (least_direct s) (chunk_words c_rxlist 21 (list_rows s)) (w.quiet-chunk-words c_rxlist 21 (list_rows s))
+list_other s = w.other_burst (least_direct s) (chunk_words c_rxlist 21 (list_rows s)) (w.quiet_chunk_words c_rxlist 21 (list_rows s))
 
 pub word_other : (s : Station) (lent : List ℕ) (slot : ℕ) → bursts_in (direct_burst s lent slot).words ≡ []
 unfolding direct_burst
 word_other s lent slot =
-    w.down-burst s.settings lent slot (queue_at s slot) (reach_level s slot)
+    w.down_burst_lem s.settings lent slot (queue_at s slot) (reach_level s slot)
     (reach_lt s.settings s.used (member_in s slot) (member_at s (member_in s slot).via))
 
 -- a turn begins
@@ -102,7 +102,7 @@ fine_poll : (s : Station) (slot : ℕ) (r : Run) → lowest_bit s.round.list ≡
 fine_poll s slot (turn x p a) e t l = absurd t
 fine_poll s slot rest e t l =
     let low = front_low s.round.list l slot e in
-    let b = w.poll-burst s.settings (is_member s.used slot) (member_at s slot) slot (source_for s slot) false low in
+    let b = w.poll_burst_lem s.settings (is_member s.used slot) (member_at s slot) slot (source_for s slot) false low in
     record {
       run = turn slot 1 0;
       rel = (refl, omega arith, omega arith, omega arith, omega arith, low);
@@ -116,7 +116,7 @@ fine_again : (q : Reply) (s : Station) (r : Run) → q.tries ≡ 0 → Rel r (Wa
     → Fine (slots_in s.round.list) r (again_of q s).station (bursts_in (again_of q s).words ++ [])
 fine_again q s rest z e l = absurd e
 fine_again q s (turn x p a) z e l =
-    let b = w.poll-burst s.settings (is_member s.used q.slot) (member_at s q.slot) q.slot q.relayfor true e.5 in
+    let b = w.poll_burst_lem s.settings (is_member s.used q.slot) (member_at s q.slot) q.slot q.relayfor true e.5 in
     record {
       run = turn x (suc p) a;
       rel = (e.0, omega arith, e.2, omega arith, e.4, e.5);
@@ -134,7 +134,7 @@ fine_pollack q n heard s (turn x p a) g e l =
       rel = (e.0, omega arith, omega arith, omega arith, omega arith, e.5);
       low = l;
       keeps = λ k h. subst (λ (es : List TurnEvent). Acc (slots_in s.round.list) (turn x p a) ((es ++ []) ++ k))
-          (sym (w.pollack-burst s q.slot n heard e.5)) (e.0, omega arith, h);
+          (sym (w.pollack_burst s q.slot n heard e.5)) (e.0, omega arith, h);
     }
 
 -- what came of a turn is noted
@@ -154,7 +154,7 @@ fine_ack q n heard s (turn x p a) e l =
       low = subst Low (sym o.1) l;
       keeps =
           λ k h. subst (λ (es : List TurnEvent). Acc (slots_in s.round.list) (turn x p a) ((es ++ (over q.slot ∷ [])) ++ k))
-          (sym (w.ack-burst s q.slot n heard e.5))
+          (sym (w.ack_burst s q.slot n heard e.5))
           (e.0, omega arith, (e.0, subst (λ (m : ℕ). Acc (slots_in m) rest k) o.1 h));
     }
 
@@ -192,7 +192,7 @@ module _ {F : Type 0} {now : Float} {lent : List ℕ} where
       → Fine (slots_in s.round.list) r x.station (bursts_in x.words ++ over_if o)
   unfolding acks_burst beacon_of direct_burst
   sends_fine A {s} Sends.nothing r t l = fine_other s [] r w.quiet_none t l
-  sends_fine A {s} Sends.closing r t l = fine_other _ _ r (w.close-burst s.settings.beaconlevel) t l
+  sends_fine A {s} Sends.closing r t l = fine_other _ _ r (w.close_burst s.settings.beaconlevel) t l
   sends_fine A {s} (Sends.again q e z) r t l = fine_again q s r z (subst (Rel r) e t) l
   sends_fine A {s} (Sends.beacon f e) r t l =
       fine_other (beacon_of s now).station (beacon_of s now).words r (beacon_other s now) (sending r (subst (Rel r) e t)) l
@@ -213,7 +213,7 @@ module _ {F : Type 0} {now : Float} {lent : List ℕ} where
   spoken_fine {A} (Spoken.burst k) r t l = sends_fine A k r t l
   spoken_fine {s} (Spoken.events {t = u} {x = x} {ws = ws} {m = m} {o = o} q h e k) r t l =
       subst (λ (es : List TurnEvent). Fine (slots_in s.round.list) r x.station (drew_if m ++ (es ++ over_if o)))
-      (sym (w.quiet-first ws x.words (events_mute e).0))
+      (sym (w.quiet_first ws x.words (events_mute e).0))
       (fine_from u.round.list s.round.list h.list (spoken_fine k r (subst (Rel r) (sym h.turn) t) (subst Low (sym h.list) l)))
   spoken_fine {s} (Spoken.draws e z k) (turn x p a) t l = absurd (subst (Rel (turn x p a)) e t)
   spoken_fine {s} (Spoken.draws e z k) rest t l = fine_drawn s.round.list (list_for s (next_number s)) z (spoken_fine k rest t (low_list s (next_number s)))

@@ -20,10 +20,10 @@ returns-then-no-ne0 c =
     (p.ensures, (sym (cond_false (eqb p.result 0) (O.ack o a.seq a.off) o (ne_eqb _ _ c.if-no-ne0.true)), λ z. (refl, (refl, refl))))
 
 pub mark_acked-requires : goal.mark_acked-requires
-mark_acked-requires c = let a = c.args in let o = T.both-open (length a.bytes.now) (length a.marks.now) (sym c.both_refusal-no.ensures ∙ c.if-no-ne0.false) in o.1
+mark_acked-requires c = let a = c.args in let o = T.both_open (length a.bytes.now) (length a.marks.now) (sym c.both_refusal-no.ensures ∙ c.if-no-ne0.false) in o.1
 
 pub drop_finished-t-requires : goal.drop_finished-t-requires
-drop_finished-t-requires c = let a = c.args in let o = T.both-open (length a.bytes.now) (length a.marks.now) (sym c.both_refusal-no.ensures ∙ c.if-no-ne0.false) in let k = c.mark_acked.auto.1.0 in (o.0, subst (λ (x : ℕ). 16384 ≤ x) (sym k) o.1)
+drop_finished-t-requires c = let a = c.args in let o = T.both_open (length a.bytes.now) (length a.marks.now) (sym c.both_refusal-no.ensures ∙ c.if-no-ne0.false) in let k = c.mark_acked.auto.1.0 in (o.0, subst (λ (x : ℕ). 16384 ≤ x) (sym k) o.1)
 
 pub returns : goal.returns
 returns c =

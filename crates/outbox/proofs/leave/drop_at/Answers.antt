@@ -12,7 +12,7 @@ pub loop-j-init : goal.loop-j-init
 loop-j-init c =
     let a = c.args in
     let n = c.count_of-n.ensures in
-    (leaving.moving-start a.s a.bytes.now a.marks.now c.count_of-n.result a.i (omega arith) n.1, n.0, c.requires.1.0, c.requires.1.1)
+    (leaving.moving_start a.s a.bytes.now a.marks.now c.count_of-n.result a.i (omega arith) n.1, n.0, c.requires.1.0, c.requires.1.1)
 
 pub overflow_add-j : goal.overflow_add-j
 overflow_add-j c = let l = c.loop-j.invariant.0 in omega (arith, l.below, l.few)
@@ -30,7 +30,7 @@ loop-j-preserved c =
     let i = l.invariant in
     let m = c.move_one-t in (
       subst (λ (x : Sender). leaving.Moving a.s a.bytes.now a.marks.now c.count_of-n.result a.i x m.new.1.0 m.new.1.1.0 (l.j + 1)) (sym m.ensures.sender.0)
-          (leaving.moving-turn a.s a.bytes.now a.marks.now c.count_of-n.result a.i i.0 (search rules) i.2 i.3 m.ensures.sender.1 m.ensures.bytes.0 m.ensures.bytes.1),
+          (leaving.moving_turn a.s a.bytes.now a.marks.now c.count_of-n.result a.i i.0 (search rules) i.2 i.3 m.ensures.sender.1 m.ensures.bytes.0 m.ensures.bytes.1),
       i.1,
       i.2,
       i.3,
@@ -47,4 +47,4 @@ returns c =
     let a = c.args in
     let l = c.loop-j in
     let i = l.invariant in
-    leaving.moving-end a.s a.bytes.now a.marks.now c.count_of-n.result a.i i.0 (omega arith) i.1
+    leaving.moving_end a.s a.bytes.now a.marks.now c.count_of-n.result a.i i.0 (omega arith) i.1

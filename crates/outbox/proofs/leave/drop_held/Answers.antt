@@ -11,7 +11,7 @@ use borrow.Author.Rules.{rules}
 use Rattle.outbox.proofs.leave.drop_held.Goals as goal
 
 pub loop-i-init : goal.loop-i-init
-loop-i-init c = let a = c.args in (search rules, refl, refl, refl, c.requires.0, c.requires.1, L.msgs-begin a.s a.bytes.now a.marks.now (O.retain (O.not-held a.next a.also.now)) (S.count_of a.s))
+loop-i-init c = let a = c.args in (search rules, refl, refl, refl, c.requires.0, c.requires.1, L.msgs_begin a.s a.bytes.now a.marks.now (O.retain (O.not_held a.next a.also.now)) (S.count_of a.s))
 
 pub not_held_at-requires : goal.not_held_at-requires
 not_held_at-requires c = let i = c.loop-i.invariant in let n = c.count_of.ensures in let f = c.loop-i-test.true in omega arith
@@ -26,7 +26,7 @@ loop-i-preserved-then-not_held_at c =
     let i = l.invariant in
     let n = c.count_of.ensures in
     let f = c.loop-i-test.true in
-    (omega arith, i.1, i.2, i.3, i.4, i.5, leaving.keep-turn (O.not-held a.next a.also.now) l.t l.bytes l.marks l.i (omega arith) (sym (c.not_held_at.ensures l.bytes l.marks) ∙ c.if-not_held_at.true) ∙ i.6)
+    (omega arith, i.1, i.2, i.3, i.4, i.5, leaving.keep_turn (O.not_held a.next a.also.now) l.t l.bytes l.marks l.i (omega arith) (sym (c.not_held_at.ensures l.bytes l.marks) ∙ c.if-not_held_at.true) ∙ i.6)
 
 pub drop_at-t-requires : goal.drop_at-t-requires
 drop_at-t-requires c = let i = c.loop-i.invariant in let n = c.count_of.ensures in let f = c.loop-i-test.true in (omega arith, (omega arith, omega arith))
@@ -37,7 +37,7 @@ loop-i-smaller c =
     let l = c.loop-i in
     let n = c.count_of.ensures in
     let f = c.loop-i-test.true in
-    let d = leaving.dropped-count (O.not-held a.next a.also.now) l.t l.bytes l.marks l.i (omega arith) c.drop_at-t.ensures in omega arith
+    let d = leaving.dropped_count (O.not_held a.next a.also.now) l.t l.bytes l.marks l.i (omega arith) c.drop_at-t.ensures in omega arith
 
 pub loop-i-preserved : goal.loop-i-preserved
 loop-i-preserved c =
@@ -47,14 +47,14 @@ loop-i-preserved c =
     let n = c.count_of.ensures in
     let f = c.loop-i-test.true in
     let k = c.drop_at-t in
-    let d = leaving.dropped-count (O.not-held a.next a.also.now) l.t l.bytes l.marks l.i (omega arith) k.ensures in (
+    let d = leaving.dropped_count (O.not_held a.next a.also.now) l.t l.bytes l.marks l.i (omega arith) k.ensures in (
       omega arith,
       k.ensures.next ∙ i.1,
       k.auto.1.0 ∙ i.2,
       k.auto.1.1.0 ∙ i.3,
       i.4,
       i.5,
-      leaving.drop-turn (O.not-held a.next a.also.now) l.t l.bytes l.marks l.i (omega arith) k.ensures (sym (c.not_held_at.ensures l.bytes l.marks) ∙ c.if-not_held_at.false) ∙ i.6,
+      leaving.drop_turn (O.not_held a.next a.also.now) l.t l.bytes l.marks l.i (omega arith) k.ensures (sym (c.not_held_at.ensures l.bytes l.marks) ∙ c.if-not_held_at.false) ∙ i.6,
     )
 
 pub shape_of-bytes : goal.shape_of-bytes
@@ -71,4 +71,4 @@ returns c =
     let n = c.count_of in
     let e = n.ensures in
     let f = c.loop-i-test.false in
-    (L.msgs-end l.t l.bytes l.marks (O.retain (O.not-held a.next a.also.now)) (S.count_of l.t) l.i (omega arith) (leaving.retain-none (O.not-held a.next a.also.now)) ∙ i.6, i.1)
+    (L.msgs_end l.t l.bytes l.marks (O.retain (O.not_held a.next a.also.now)) (S.count_of l.t) l.i (omega arith) (leaving.retain_none (O.not_held a.next a.also.now)) ∙ i.6, i.1)

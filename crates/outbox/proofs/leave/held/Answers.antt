@@ -20,7 +20,7 @@ returns-then-no-ne0 c =
     (p.ensures, (sym (cond_false (eqb p.result 0) (O.held o a.next a.also.now) o (ne_eqb _ _ c.if-no-ne0.true)), λ z. (refl, (refl, refl))))
 
 pub drop_held-t-requires : goal.drop_held-t-requires
-drop_held-t-requires c = let a = c.args in let o = T.both-open (length a.bytes.now) (length a.marks.now) (sym c.both_refusal-no.ensures ∙ c.if-no-ne0.false) in (o.0, o.1)
+drop_held-t-requires c = let a = c.args in let o = T.both_open (length a.bytes.now) (length a.marks.now) (sym c.both_refusal-no.ensures ∙ c.if-no-ne0.false) in (o.0, o.1)
 
 pub returns : goal.returns
 returns c =
@@ -29,7 +29,7 @@ returns c =
       sym (sym c.both_refusal-no.ensures ∙ c.if-no-ne0.false),
       (
         ap (λ (x : List O.OutMsg). record { msgs = x; next_seq = d.result.next }) d.ensures.0
-            ∙ ap (λ (x : ℕ). record { msgs = O.retain (O.not-held a.next a.also.now) (S.msgs a.s a.bytes.now a.marks.now (S.count_of a.s) 0); next_seq = x }) d.ensures.1,
+            ∙ ap (λ (x : ℕ). record { msgs = O.retain (O.not_held a.next a.also.now) (S.msgs a.s a.bytes.now a.marks.now (S.count_of a.s) 0); next_seq = x }) d.ensures.1,
         λ z. absurd (z refl),
       ),
     )

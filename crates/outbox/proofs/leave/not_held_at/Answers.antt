@@ -10,4 +10,4 @@ pub returns-then-q-next : goal.returns-then-q-next
 returns-then-q-next c = let a = c.args in λ bytes marks. sym (leaving.held_below a.s bytes marks a.also.now a.next a.i c.if-q-next.true)
 
 pub returns : goal.returns
-returns c = let a = c.args in λ bytes marks. ap not c.contains.ensures ∙ sym (leaving.held-above a.s bytes marks a.also.now a.next a.i c.if-q-next.false)
+returns c = let a = c.args in λ bytes marks. ap not c.contains.ensures ∙ sym (leaving.held_above a.s bytes marks a.also.now a.next a.i c.if-q-next.false)

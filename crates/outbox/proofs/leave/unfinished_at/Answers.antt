@@ -17,7 +17,7 @@ returns-then-cut-total_of c =
     let x = c.cut_of-cut.ensures in
     let y = c.total_of.ensures in
     let t = c.if-cut-total_of.true in
-    λ bytes r. sym (leaving.open-new a.s bytes a.marks.now a.i (search rules) r (omega arith))
+    λ bytes r. sym (leaving.open_new a.s bytes a.marks.now a.i (search rules) r (omega arith))
 
 pub returns : goal.returns
 returns c =
@@ -26,4 +26,4 @@ returns c =
     let y = c.total_of.ensures in
     let t = c.if-cut-total_of.false in
     let z : 2048 * a.i + c.cut_of-cut.result - 2048 * a.i ≡ S.cut_of a.s a.i = omega arith in
-    λ bytes r. c.any.ensures ∙ ap (λ (n : ℕ). O.some (M.pieces 0 (take n (drop (2048 * a.i) a.marks.now)))) z ∙ sym (leaving.open-some a.s bytes a.marks.now a.i (search rules) r (omega arith))
+    λ bytes r. c.any.ensures ∙ ap (λ (n : ℕ). O.some (M.pieces 0 (take n (drop (2048 * a.i) a.marks.now)))) z ∙ sym (leaving.open_some a.s bytes a.marks.now a.i (search rules) r (omega arith))

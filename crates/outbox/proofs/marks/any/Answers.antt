@@ -17,14 +17,14 @@ returns-then-flies c =
     let a = c.args in
     let l = c.loop-i in
     let e = sym c.flies.ensures ∙ c.if-flies.true in
-    sym (ap some (ap (M.pieces l.i) (drop_here a.marks.now l.i (search rules)) ∙ P.pieces-here l.i (get_or a.marks.now l.i 0) (drop (l.i + 1) a.marks.now) e)) ∙ l.invariant.1
+    sym (ap some (ap (M.pieces l.i) (drop_here a.marks.now l.i (search rules)) ∙ P.pieces_here l.i (get_or a.marks.now l.i 0) (drop (l.i + 1) a.marks.now) e)) ∙ l.invariant.1
 
 pub loop-i-preserved : goal.loop-i-preserved
 loop-i-preserved c =
     let a = c.args in
     let l = c.loop-i in
     let e = sym c.flies.ensures ∙ c.if-flies.false in
-    (search rules, sym (ap some (ap (M.pieces l.i) (drop_here a.marks.now l.i (search rules)) ∙ P.pieces-on l.i (get_or a.marks.now l.i 0) (drop (l.i + 1) a.marks.now) e)) ∙ l.invariant.1)
+    (search rules, sym (ap some (ap (M.pieces l.i) (drop_here a.marks.now l.i (search rules)) ∙ P.pieces_on l.i (get_or a.marks.now l.i 0) (drop (l.i + 1) a.marks.now) e)) ∙ l.invariant.1)
 
 pub returns : goal.returns
 returns c =

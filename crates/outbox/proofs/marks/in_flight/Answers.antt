@@ -10,7 +10,7 @@ use borrow.Author.Rules.{rules}
 use Rattle.outbox.proofs.marks.in_flight.Goals as goal
 
 pub loop-i-init : goal.loop-i-init
-loop-i-init c = let a = c.args in (search rules, search rules, omega (arith, P.flight-start a.marks.now))
+loop-i-init c = let a = c.args in (search rules, search rules, omega (arith, P.flight_start a.marks.now))
 
 pub loop-i-preserved : goal.loop-i-preserved
 loop-i-preserved c =
@@ -21,7 +21,7 @@ loop-i-preserved c =
     let ms = drop (l.i + 1) a.marks.now in
     let m = get_or a.marks.now l.i 0 in
     let e : P.flight l.s l.i (drop l.i a.marks.now) ≡ o.result + P.flight k.result (l.i + 1) ms =
-    ap (P.flight l.s l.i) (drop_here a.marks.now l.i (search rules)) ∙ P.flight-step l.s l.i m ms
+    ap (P.flight l.s l.i) (drop_here a.marks.now l.i (search rules)) ∙ P.flight_step l.s l.i m ms
     ∙ ap (λ (x : ℕ). M.one_of x + P.flight x (l.i + 1) ms) (sym k.ensures) ∙ ap (λ (x : ℕ). x + P.flight k.result (l.i + 1) ms) (sym o.ensures.0) in
     let w = l.invariant.2 in
     let h = o.ensures.1 in
@@ -31,6 +31,6 @@ pub returns : goal.returns
 returns c =
     let a = c.args in
     let l = c.loop-i in
-    let e = ap (P.flight l.s l.i) (drop_end a.marks.now l.i (search rules)) ∙ P.flight-end l.s l.i in
+    let e = ap (P.flight l.s l.i) (drop_end a.marks.now l.i (search rules)) ∙ P.flight_end l.s l.i in
     let w = l.invariant.2 in
     (omega arith, omega arith)

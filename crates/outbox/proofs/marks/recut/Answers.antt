@@ -23,7 +23,7 @@ loop-i-preserved c =
       length-set l.marks l.i v.result ∙ l.invariant.1,
       k.ensures.1,
       walk_turn (M.recut_marks a.max l.s l.k) (M.recut_marks a.max s.result k.result) l.marks l.i v.result (omega arith)
-          (P.recut-step a.max l.s l.k (get_or l.marks l.i 0) v.result s.result k.result (drop (l.i + 1) l.marks) v.ensures s.ensures k.ensures.0)
+          (P.recut_step a.max l.s l.k (get_or l.marks l.i 0) v.result s.result k.result (drop (l.i + 1) l.marks) v.ensures s.ensures k.ensures.0)
           ∙ l.invariant.3,
     )
 
@@ -31,4 +31,4 @@ pub returns : goal.returns
 returns c =
     let a = c.args in
     let l = c.loop-i in
-    walk_end (M.recut_marks a.max l.s l.k) l.marks l.i (omega arith) (P.recut-none a.max l.s l.k) ∙ l.invariant.3
+    walk_end (M.recut_marks a.max l.s l.k) l.marks l.i (omega arith) (P.recut_none a.max l.s l.k) ∙ l.invariant.3

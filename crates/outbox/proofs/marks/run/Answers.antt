@@ -16,7 +16,7 @@ pub returns-then-marks-k-ne-ON : goal.returns-then-marks-k-ne-ON
 returns-then-marks-k-ne-ON c =
     let a = c.args in
     let l = c.loop-k in
-    let e = ap M.run (drop_here a.marks.now l.k (search rules)) ∙ P.run-stops (get_or a.marks.now l.k 0) (drop (l.k + 1) a.marks.now) (ne_eqb _ _ c.if-marks-k-ne-ON.true) in
+    let e = ap M.run (drop_here a.marks.now l.k (search rules)) ∙ P.run_stops (get_or a.marks.now l.k 0) (drop (l.k + 1) a.marks.now) (ne_eqb _ _ c.if-marks-k-ne-ON.true) in
     let w = l.invariant.2 in
     (omega arith, omega arith)
 

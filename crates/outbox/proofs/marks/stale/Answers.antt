@@ -19,10 +19,10 @@ loop-i-preserved c =
     let n = c.stale_mark.result in (
       omega arith,
       length-set l.marks l.i n ∙ l.invariant.1,
-      walk_turn M.stale_marks M.stale_marks l.marks l.i n (omega arith) (P.stale-step (get_or l.marks l.i 0) n (drop (l.i + 1) l.marks) c.stale_mark.ensures) ∙ l.invariant.2,
+      walk_turn M.stale_marks M.stale_marks l.marks l.i n (omega arith) (P.stale_step (get_or l.marks l.i 0) n (drop (l.i + 1) l.marks) c.stale_mark.ensures) ∙ l.invariant.2,
     )
 
 pub returns : goal.returns
 returns c =
     let l = c.loop-i in
-    walk_end M.stale_marks l.marks l.i (omega arith) P.stale-none ∙ l.invariant.2
+    walk_end M.stale_marks l.marks l.i (omega arith) P.stale_none ∙ l.invariant.2

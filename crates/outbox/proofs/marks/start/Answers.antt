@@ -22,7 +22,7 @@ loop-k-preserved c =
       length-set l.marks (a.off + l.k) v.result ∙ l.invariant.1,
       ap (λ (x : List ℕ). set x (a.off + l.k) v.result) l.invariant.2
           ∙ ap (λ (x : ℕ). set (paste a.marks.now a.off (M.start_marks a.n) l.k) (a.off + l.k) x) v.ensures
-          ∙ P.start-turn a.marks.now a.off a.n p.0 p.1 l.k (search rules),
+          ∙ P.start_turn a.marks.now a.off a.n p.0 p.1 l.k (search rules),
     )
 
 pub returns : goal.returns

@@ -9,19 +9,19 @@ use borrow.Author.Rules.{rules}
 use Rattle.outbox.proofs.pieces.fresh.Goals as goal
 
 pub loop-c-init : goal.loop-c-init
-loop-c-init c = let a = c.args in P.cutting-start a.max a.seq a.whole.now a.out.now a.w.at a.w.left a.cut a.marks.now c.requires.1
+loop-c-init c = let a = c.args in P.cutting_start a.max a.seq a.whole.now a.out.now a.w.at a.w.left a.cut a.marks.now c.requires.1
 
 pub returns-then-left-eq0 : goal.returns-then-left-eq0
 returns-then-left-eq0 c =
     let a = c.args in
     let l = c.loop-c in
-    let z = ap (λ (k : ℕ). cut_up k a.max l.c (length a.whole.now) false) c.if-left-eq0.true ∙ P.cut-none a.max l.c (length a.whole.now) in (
-      P.cut-words a.max a.seq a.whole.now a.out.now a.w.at a.w.left a.cut a.marks.now l.invariant z,
+    let z = ap (λ (k : ℕ). cut_up k a.max l.c (length a.whole.now) false) c.if-left-eq0.true ∙ P.cut_none a.max l.c (length a.whole.now) in (
+      P.cut_words a.max a.seq a.whole.now a.out.now a.w.at a.w.left a.cut a.marks.now l.invariant z,
       (
         sym c.if-left-eq0.true ∙ P.cut_left a.max a.seq a.whole.now a.out.now a.w.at a.w.left a.cut a.marks.now l.invariant z,
         (
-          (P.cut-reached a.max a.seq a.whole.now a.out.now a.w.at a.w.left a.cut a.marks.now l.invariant z, l.invariant.within),
-          P.cut-marks a.max a.seq a.whole.now a.out.now a.w.at a.w.left a.cut a.marks.now l.invariant z,
+          (P.cut_reached a.max a.seq a.whole.now a.out.now a.w.at a.w.left a.cut a.marks.now l.invariant z, l.invariant.within),
+          P.cut_marks a.max a.seq a.whole.now a.out.now a.w.at a.w.left a.cut a.marks.now l.invariant z,
         ),
       ),
     )
@@ -31,8 +31,8 @@ start-requires c =
     let a = c.args in
     let l = c.loop-c in
     let n = c.least-n in
-    let p = P.least-pos (length a.whole.now - l.c) a.max (omega arith) c.requires.2 in
-    let q = P.least-left (length a.whole.now - l.c) a.max in
+    let p = P.least_pos (length a.whole.now - l.c) a.max (omega arith) c.requires.2 in
+    let q = P.least_left (length a.whole.now - l.c) a.max in
     let e = n.ensures in
     let i = l.invariant in
     (omega arith, omega (arith, l.invariant.same_marks))
@@ -45,7 +45,7 @@ overflow_add-c c =
     let a = c.args in
     let l = c.loop-c in
     let n = c.least-n in
-    let q = P.least-left (length a.whole.now - l.c) a.max in
+    let q = P.least_left (length a.whole.now - l.c) a.max in
     let e = n.ensures in omega arith
 
 pub loop-c-smaller : goal.loop-c-smaller
@@ -53,7 +53,7 @@ loop-c-smaller c =
     let a = c.args in
     let l = c.loop-c in
     let n = c.least-n in
-    let p = P.least-pos (length a.whole.now - l.c) a.max (omega arith) c.requires.2 in
+    let p = P.least_pos (length a.whole.now - l.c) a.max (omega arith) c.requires.2 in
     let e = n.ensures in omega arith
 
 pub loop-c-preserved : goal.loop-c-preserved
@@ -63,19 +63,19 @@ loop-c-preserved c =
     let n = c.least-n in
     let z = c.if-left-eq0.false in
     let t = c.loop-c-test in
-    P.cutting-turn a.max a.seq a.whole.now a.out.now a.w.at a.w.left a.cut a.marks.now (search rules) (omega arith) c.requires.2 c.requires.0 l.invariant n.ensures c.start.ensures c.put_piece-at.ensures
+    P.cutting_turn a.max a.seq a.whole.now a.out.now a.w.at a.w.left a.cut a.marks.now (search rules) (omega arith) c.requires.2 c.requires.0 l.invariant n.ensures c.start.ensures c.put_piece-at.ensures
 
 pub returns : goal.returns
 returns c =
     let a = c.args in
     let l = c.loop-c in
-    let z = P.cut-end l.left a.max l.c (length a.whole.now) (omega arith) in (
-      P.cut-words a.max a.seq a.whole.now a.out.now a.w.at a.w.left a.cut a.marks.now l.invariant z,
+    let z = P.cut_end l.left a.max l.c (length a.whole.now) (omega arith) in (
+      P.cut_words a.max a.seq a.whole.now a.out.now a.w.at a.w.left a.cut a.marks.now l.invariant z,
       (
         P.cut_left a.max a.seq a.whole.now a.out.now a.w.at a.w.left a.cut a.marks.now l.invariant z,
         (
-          (P.cut-reached a.max a.seq a.whole.now a.out.now a.w.at a.w.left a.cut a.marks.now l.invariant z, l.invariant.within),
-          P.cut-marks a.max a.seq a.whole.now a.out.now a.w.at a.w.left a.cut a.marks.now l.invariant z,
+          (P.cut_reached a.max a.seq a.whole.now a.out.now a.w.at a.w.left a.cut a.marks.now l.invariant z, l.invariant.within),
+          P.cut_marks a.max a.seq a.whole.now a.out.now a.w.at a.w.left a.cut a.marks.now l.invariant z,
         ),
       ),
     )

@@ -12,13 +12,13 @@ use Rattle.outbox.proofs.pieces.sweep_at.Goals as goal
 pub returns-then-left-eq0 : goal.returns-then-left-eq0
 returns-then-left-eq0 c =
     let a = c.args in
-    P.at-miss (hit a.mark a.w.left a.marks.now a.i) a.seq a.i a.w.left a.w.at a.whole.now a.marks.now a.out.now
-    (P.misses-full a.mark a.w.left (get_or a.marks.now a.i 0) c.if-left-eq0.true)
+    P.at_miss (hit a.mark a.w.left a.marks.now a.i) a.seq a.i a.w.left a.w.at a.whole.now a.marks.now a.out.now
+    (P.misses_full a.mark a.w.left (get_or a.marks.now a.i 0) c.if-left-eq0.true)
 
 pub returns-then-marks-i : goal.returns-then-marks-i
 returns-then-marks-i c =
     let a = c.args in
-    P.at-miss (hit a.mark a.w.left a.marks.now a.i) a.seq a.i a.w.left a.w.at a.whole.now a.marks.now a.out.now
+    P.at_miss (hit a.mark a.w.left a.marks.now a.i) a.seq a.i a.w.left a.w.at a.whole.now a.marks.now a.out.now
     (P.misses a.mark a.w.left (get_or a.marks.now a.i 0) c.if-marks-i.true)
 
 pub overflow_add-n : goal.overflow_add-n
@@ -30,5 +30,5 @@ returns c =
     let p = c.put_piece-at in
     let r = c.run-n in
     let z = c.if-left-eq0.false in
-    P.at-hit (hit a.mark a.w.left a.marks.now a.i) a.seq a.i a.w.left a.w.at a.whole.now a.marks.now a.out.now (1 + r.result)
+    P.at_hit (hit a.mark a.w.left a.marks.now a.i) a.seq a.i a.w.left a.w.at a.whole.now a.marks.now a.out.now (1 + r.result)
     (P.hits a.mark a.w.left (get_or a.marks.now a.i 0) (search rules) c.if-marks-i.false) (ap (λ (k : ℕ). 1 + k) r.ensures.0) p.ensures

@@ -16,6 +16,6 @@ returns c =
     let a = c.args in
     let e = c.least.ensures in
     let f : c.least.result ≡ S.cut_of a.s a.i = e ∙ ap (λ (x : ℕ). least x t.result) w.ensures ∙ ap (λ (x : ℕ). least (get_or a.s.cuts a.i 0) x) t.ensures.0 in
-    let b = P.least-right w.result t.result in
+    let b = P.least_right w.result t.result in
     let g = t.ensures in
     (f, omega arith, omega arith)

@@ -16,4 +16,4 @@ pub returns-then-k-eq1 : goal.returns-then-k-eq1
 returns-then-k-eq1 c = let b = c.args.body.now in sym (ap (λ (k : ℕ). get_or (framed b) k 0) c.if-k-eq1.true)
 
 pub returns : goal.returns
-returns c = let a = c.args in let x = c.if-k-eq0.false in let y = c.if-k-eq1.false in sym (T.framed-third (length a.body.now % 256) (length a.body.now / 256 % 256) a.k a.body.now (search rules))
+returns c = let a = c.args in let x = c.if-k-eq0.false in let y = c.if-k-eq1.false in sym (T.framed_third (length a.body.now % 256) (length a.body.now / 256 % 256) a.k a.body.now (search rules))

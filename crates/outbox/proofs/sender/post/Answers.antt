@@ -19,22 +19,22 @@ pub returns-then-no-ne0 : goal.returns-then-no-ne0
 returns-then-no-ne0 c =
     let a = c.args in
     let p = c.post_refusal-no in
-    (p.ensures, (λ marks. sym (cond_false (eqb p.result 0) (O.push-msg (S.outbox a.s a.bytes.now marks) a.body.now) (S.outbox a.s a.bytes.now marks) (ne_eqb _ _ c.if-no-ne0.true)), λ z. (refl, refl)))
+    (p.ensures, (λ marks. sym (cond_false (eqb p.result 0) (O.push_msg (S.outbox a.s a.bytes.now marks) a.body.now) (S.outbox a.s a.bytes.now marks) (ne_eqb _ _ c.if-no-ne0.true)), λ z. (refl, refl)))
 
 pub overflow_mul-i : goal.overflow_mul-i
-overflow_mul-i c = let a = c.args in let o = T.post-open a.s (length a.bytes.now) (length a.body.now) (sym c.post_refusal-no.ensures ∙ c.if-no-ne0.false) in omega arith
+overflow_mul-i c = let a = c.args in let o = T.post_open a.s (length a.bytes.now) (length a.body.now) (sym c.post_refusal-no.ensures ∙ c.if-no-ne0.false) in omega arith
 
 pub put_message-requires : goal.put_message-requires
-put_message-requires c = let a = c.args in let o = T.post-open a.s (length a.bytes.now) (length a.body.now) (sym c.post_refusal-no.ensures ∙ c.if-no-ne0.false) in (o.1, omega arith)
+put_message-requires c = let a = c.args in let o = T.post_open a.s (length a.bytes.now) (length a.body.now) (sym c.post_refusal-no.ensures ∙ c.if-no-ne0.false) in (o.1, omega arith)
 
 pub posted-requires : goal.posted-requires
-posted-requires c = let a = c.args in let o = T.post-open a.s (length a.bytes.now) (length a.body.now) (sym c.post_refusal-no.ensures ∙ c.if-no-ne0.false) in (o.2, o.1)
+posted-requires c = let a = c.args in let o = T.post_open a.s (length a.bytes.now) (length a.body.now) (sym c.post_refusal-no.ensures ∙ c.if-no-ne0.false) in (o.2, o.1)
 
 pub returns : goal.returns
 returns c =
     let a = c.args in
     let e = sym c.post_refusal-no.ensures ∙ c.if-no-ne0.false in
-    let o = T.post-open a.s (length a.bytes.now) (length a.body.now) e in
+    let o = T.post_open a.s (length a.bytes.now) (length a.body.now) e in
     let p = c.posted in
     let m = c.put_message in (
       sym e,

@@ -22,7 +22,7 @@ pub loop-i-init : goal.loop-i-init
 loop-i-init c =
     let n = c.count_of-n in
     let a = c.args in
-    (search rules, n.ensures.0, n.ensures.1, search rules, refl, λ bytes. L.msgs-begin a.s bytes a.marks.now (map O.stale-in) n.result)
+    (search rules, n.ensures.0, n.ensures.1, search rules, refl, λ bytes. L.msgs_begin a.s bytes a.marks.now (map O.stale_in) n.result)
 
 pub stale_at-requires : goal.stale_at-requires
 stale_at-requires c = let l = c.loop-i.invariant in (omega arith, omega arith)
@@ -37,8 +37,8 @@ loop-i-preserved c =
       i.1,
       i.2,
       i.3,
-      T.act-length M.stale_marks A.stale-length a.s [] l.marks t.new.1.0 c.count_of-n.result l.i (omega arith) i.2 (omega arith) t.ensures ∙ i.4,
-      λ bytes. T.stale-turn a.s bytes l.marks t.new.1.0 c.count_of-n.result l.i (omega arith) i.2 (omega arith) t.ensures ∙ i.5 bytes,
+      T.act_length M.stale_marks A.stale_length a.s [] l.marks t.new.1.0 c.count_of-n.result l.i (omega arith) i.2 (omega arith) t.ensures ∙ i.4,
+      λ bytes. T.stale_turn a.s bytes l.marks t.new.1.0 c.count_of-n.result l.i (omega arith) i.2 (omega arith) t.ensures ∙ i.5 bytes,
     )
 
 pub shape_of-marks : goal.shape_of-marks
@@ -53,8 +53,8 @@ returns c =
       sym (cond_false (ltb (length a.marks.now) 16384) 7 0 (le-ltb _ _ i.3)),
       (
         λ bytes. ap (λ (x : List O.OutMsg). record { msgs = x; next_seq = a.s.next })
-            (ap (λ (k : ℕ). S.msgs a.s bytes l.marks k 0) (sym i.1) ∙ L.msgs-end a.s bytes l.marks (map O.stale-in) n.result l.i (omega arith) refl ∙ i.5 bytes
-            ∙ ap (λ (k : ℕ). map O.stale-in (S.msgs a.s bytes a.marks.now k 0)) i.1),
+            (ap (λ (k : ℕ). S.msgs a.s bytes l.marks k 0) (sym i.1) ∙ L.msgs_end a.s bytes l.marks (map O.stale_in) n.result l.i (omega arith) refl ∙ i.5 bytes
+            ∙ ap (λ (k : ℕ). map O.stale_in (S.msgs a.s bytes a.marks.now k 0)) i.1),
         λ z. absurd (z refl),
       ),
     )

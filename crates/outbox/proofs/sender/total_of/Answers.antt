@@ -10,4 +10,4 @@ pub returns : goal.returns
 returns c =
     let a = c.args in
     let e = c.least.ensures ∙ ap (λ (x : ℕ). least x 2048) c.wide16.ensures in
-    (e, subst (λ (x : ℕ). x ≤ 2048) (sym c.least.ensures) (P.least-right c.wide16.result 2048))
+    (e, subst (λ (x : ℕ). x ≤ 2048) (sym c.least.ensures) (P.least_right c.wide16.result 2048))

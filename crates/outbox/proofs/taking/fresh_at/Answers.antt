@@ -43,9 +43,9 @@ returns c =
     let q : O.cut_up a.w.left a.max k.result (length (take (2048 * a.i + t.result - 2048 * a.i) (drop (2048 * a.i) a.bytes.now))) false ≡ O.cut_up a.w.left a.max (S.cut_of a.s a.i) (S.total_of a.s a.i) false =
     ap (λ (x : ℕ). O.cut_up a.w.left a.max k.result x false) y ∙ ap (λ (x : ℕ). O.cut_up a.w.left a.max x (S.total_of a.s a.i) false) ek.0 in
     let fc = f.ensures.left.1.0 in
-    let m = W.total-most a.s a.i in (
-      wrote_as f.ensures.words (ap (λ (x : List O.Piece). sent_words (map (O.sent-of (get_or a.s.seqs a.i 0) (take (2048 * a.i + t.result - 2048 * a.i) (drop (2048 * a.i) a.bytes.now))) x)) q
-          ∙ ap (λ (x : List ℕ). sent_words (map (O.sent-of (get_or a.s.seqs a.i 0) x) (O.cut_up a.w.left a.max (S.cut_of a.s a.i) (S.total_of a.s a.i) false))) pt),
+    let m = W.total_most a.s a.i in (
+      wrote_as f.ensures.words (ap (λ (x : List O.Piece). sent_words (map (O.sent_piece_of (get_or a.s.seqs a.i 0) (take (2048 * a.i + t.result - 2048 * a.i) (drop (2048 * a.i) a.bytes.now))) x)) q
+          ∙ ap (λ (x : List ℕ). sent_words (map (O.sent_piece_of (get_or a.s.seqs a.i 0) x) (O.cut_up a.w.left a.max (S.cut_of a.s a.i) (S.total_of a.s a.i) false))) pt),
       (
         f.ensures.left.0 ∙ ap (λ (x : List O.Piece). a.w.left - length x) q,
         (

@@ -25,8 +25,8 @@ loop-i-init c =
       n.ensures.1,
       p.1.0,
       refl,
-      L.msgs-begin a.s a.bytes.now a.marks.now (O.sweep (eqb a.mark 2) a.w.left) n.result,
-      B.passing-as (B.passing-start (O.sweep-out (eqb a.mark 2) a.w.left (S.msgs a.s a.bytes.now a.marks.now n.result 0)) a.out.now a.w.at a.w.left) (ap (λ (k : ℕ). O.sweep-out (eqb a.mark 2) a.w.left (S.msgs a.s a.bytes.now a.marks.now k 0)) (sym z)),
+      L.msgs_begin a.s a.bytes.now a.marks.now (O.sweep (eqb a.mark 2) a.w.left) n.result,
+      B.passing_as (B.passing_start (O.sweep_out (eqb a.mark 2) a.w.left (S.msgs a.s a.bytes.now a.marks.now n.result 0)) a.out.now a.w.at a.w.left) (ap (λ (k : ℕ). O.sweep_out (eqb a.mark 2) a.w.left (S.msgs a.s a.bytes.now a.marks.now k 0)) (sym z)),
     )
 
 pub sweep_at-v-requires : goal.sweep_at-v-requires
@@ -43,15 +43,15 @@ loop-i-preserved c =
     let m = t.new.1.1.0 in
     let h : l.i < n = omega arith in
     let r : 16384 ≤ length l.marks = omega arith in
-    let ps = map (O.sent-of (get_or a.s.seqs l.i 0) (S.part a.bytes.now l.i (S.total_of a.s l.i))) (pass_pieces a.mark l.v.left (S.part l.marks l.i (S.cut_of a.s l.i))) in (
+    let ps = map (O.sent_piece_of (get_or a.s.seqs l.i 0) (S.part a.bytes.now l.i (S.total_of a.s l.i))) (pass_pieces a.mark l.v.left (S.part l.marks l.i (S.cut_of a.s l.i))) in (
       omega arith,
       i.1,
       i.2,
       i.3,
-      B.sweep-same a.mark p.1.1 a.s [] l.marks m n l.i l.v.left t.result.left h i.2 r t.ensures.left.0 t.ensures.left.1 ∙ i.4,
-      B.sweep-turn a.mark p.1.1 a.s a.bytes.now l.marks m n l.i l.v.left t.result.left h i.2 r t.ensures.left.0 t.ensures.left.1 ∙ i.5,
-      B.passing-turn ps i.6 (B.sweep-rest a.mark p.1.1 a.s a.bytes.now l.marks m n l.i l.v.left t.result.left h i.2 r t.ensures.left.0 t.ensures.left.1) t.ensures.words
-          (t.ensures.left.0 ∙ ap (λ (x : ℕ). l.v.left - x) (sym (length-map (pass_pieces a.mark l.v.left (S.part l.marks l.i (S.cut_of a.s l.i))) (O.sent-of (get_or a.s.seqs l.i 0) (S.part a.bytes.now l.i (S.total_of a.s l.i)))))),
+      B.sweep_same a.mark p.1.1 a.s [] l.marks m n l.i l.v.left t.result.left h i.2 r t.ensures.left.0 t.ensures.left.1 ∙ i.4,
+      B.sweep_turn a.mark p.1.1 a.s a.bytes.now l.marks m n l.i l.v.left t.result.left h i.2 r t.ensures.left.0 t.ensures.left.1 ∙ i.5,
+      B.passing_turn ps i.6 (B.sweep_rest a.mark p.1.1 a.s a.bytes.now l.marks m n l.i l.v.left t.result.left h i.2 r t.ensures.left.0 t.ensures.left.1) t.ensures.words
+          (t.ensures.left.0 ∙ ap (λ (x : ℕ). l.v.left - x) (sym (length-map (pass_pieces a.mark l.v.left (S.part l.marks l.i (S.cut_of a.s l.i))) (O.sent_piece_of (get_or a.s.seqs l.i 0) (S.part a.bytes.now l.i (S.total_of a.s l.i)))))),
     )
 
 pub shape_of-marks : goal.shape_of-marks
@@ -67,11 +67,11 @@ returns c =
     let i = l.invariant in
     let n = c.count_of-n.result in
     let z : n - l.i ≡ 0 = omega arith in
-    let e = ap (λ (k : ℕ). O.sweep-out (eqb a.mark 2) l.v.left (S.msgs a.s a.bytes.now l.marks k l.i)) z ∙ ap (O.sweep-out (eqb a.mark 2) l.v.left) (L.msgs-none a.s a.bytes.now l.marks l.i) ∙ B.out-nil (eqb a.mark 2) l.v.left in (
-      ap (λ (k : ℕ). S.msgs a.s a.bytes.now l.marks k 0) (sym i.1) ∙ L.msgs-end a.s a.bytes.now l.marks (O.sweep (eqb a.mark 2) l.v.left) n l.i (omega arith) (B.sweep-nil (eqb a.mark 2) l.v.left) ∙ i.5
+    let e = ap (λ (k : ℕ). O.sweep_out (eqb a.mark 2) l.v.left (S.msgs a.s a.bytes.now l.marks k l.i)) z ∙ ap (O.sweep_out (eqb a.mark 2) l.v.left) (L.msgs_none a.s a.bytes.now l.marks l.i) ∙ B.out_nil (eqb a.mark 2) l.v.left in (
+      ap (λ (k : ℕ). S.msgs a.s a.bytes.now l.marks k 0) (sym i.1) ∙ L.msgs_end a.s a.bytes.now l.marks (O.sweep (eqb a.mark 2) l.v.left) n l.i (omega arith) (B.sweep_nil (eqb a.mark 2) l.v.left) ∙ i.5
           ∙ ap (λ (k : ℕ). O.sweep (eqb a.mark 2) a.w.left (S.msgs a.s a.bytes.now a.marks.now k 0)) i.1,
       (
-        wrote_as (B.passing-words i.6 e) (ap (λ (k : ℕ). sent_words (O.sweep-out (eqb a.mark 2) a.w.left (S.msgs a.s a.bytes.now a.marks.now k 0))) i.1),
-        B.passing-left i.6 e ∙ ap (λ (k : ℕ). a.w.left - length (O.sweep-out (eqb a.mark 2) a.w.left (S.msgs a.s a.bytes.now a.marks.now k 0))) i.1,
+        wrote_as (B.passing_words i.6 e) (ap (λ (k : ℕ). sent_words (O.sweep_out (eqb a.mark 2) a.w.left (S.msgs a.s a.bytes.now a.marks.now k 0))) i.1),
+        B.passing_left i.6 e ∙ ap (λ (k : ℕ). a.w.left - length (O.sweep_out (eqb a.mark 2) a.w.left (S.msgs a.s a.bytes.now a.marks.now k 0))) i.1,
       ),
     )

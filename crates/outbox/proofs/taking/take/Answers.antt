@@ -25,7 +25,7 @@ returns-then-no-ne0 c =
     let e = ne_eqb p.result 0 c.if-no-ne0.true in (
       p.ensures,
       (
-        sym (cond_false (eqb p.result 0) (O.with-msgs o (O.take_out a.max a.room o).msgs) o e),
+        sym (cond_false (eqb p.result 0) (O.with_msgs o (O.take_out a.max a.room o).msgs) o e),
         (wrote_as (wrote_none a.out.now 0) (sym (cond_false (eqb p.result 0) (sent_words (O.take_out a.max a.room o).out) [] e)), λ z. (refl, refl)),
       ),
     )
@@ -65,11 +65,11 @@ returns c =
     let B4 = S.msgs f.result.sender a.bytes.now v.new.1.1.0 (S.count_of f.result.sender) 0 in
     let e3 = ap (λ (k : ℕ). S.msgs f.result.sender a.bytes.now f.new.1.1.0 k 0) en in
     let e4 = v.ensures.msgs ∙ ap (O.sweep true f.result.left) e3 in
-    let w3 = wrote_as v.ensures.words.0 (ap (λ (x : List O.OutMsg). sent_words (O.sweep-out true f.result.left x)) e3) in (
+    let w3 = wrote_as v.ensures.words.0 (ap (λ (x : List O.OutMsg). sent_words (O.sweep_out true f.result.left x)) e3) in (
       sym (sym c.take_refusal-no.ensures ∙ c.if-no-ne0.false),
       (
         ap (λ (x : List O.OutMsg). record { msgs = x; next_seq = f.result.sender.next })
-            (B.take-msgs a.max a.room o B1 B2 B3 B4 w.result.left f.result.left (r.ensures a.bytes.now) w.ensures.msgs w.ensures.words.0 w.ensures.words.1 f.ensures.msgs f.ensures.words.0 f.ensures.words.1.0 e4 w3)
+            (B.take_msgs a.max a.room o B1 B2 B3 B4 w.result.left f.result.left (r.ensures a.bytes.now) w.ensures.msgs w.ensures.words.0 w.ensures.words.1 f.ensures.msgs f.ensures.words.0 f.ensures.words.1.0 e4 w3)
             ∙ ap (λ (x : ℕ). record { msgs = (O.take_out a.max a.room o).msgs; next_seq = x }) f.ensures.words.1.1.1,
         (
           B.take_words a.max a.room o B1 B2 B3 B4 w.result.left f.result.left (r.ensures a.bytes.now) w.ensures.msgs w.ensures.words.0 w.ensures.words.1 f.ensures.msgs f.ensures.words.0 f.ensures.words.1.0 e4 w3,
