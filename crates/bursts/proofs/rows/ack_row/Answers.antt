@@ -5,7 +5,7 @@ use native.Mathlib.Omega.{arith}
 use Prim.Native.Nat.{suc, ◌+◌}
 use mathlib.Core.List.{◌∷◌}
 use Rattle.wire.specs.Call.{pack_call}
-use Rattle.bursts.proofs.filling.{filled_none, filled_row}
+use Rattle.bursts.proofs.Filling.{filled_none, filled_row}
 use lib.ListN.{length-set}
 use Rattle.bursts.proofs.rows.ack_row.Goals as goal
 

@@ -8,7 +8,7 @@ use lib.ListN.{length, get_or, take}
 use Rattle.wire.specs.Call.{pack_call}
 use Rattle.roster.specs.Members.{no_member}
 use Rattle.bursts.specs.Rows.{ack_at}
-use Rattle.bursts.proofs.filling.{Rows, front_most, rows_from, rows_turn, rows_end}
+use Rattle.bursts.proofs.Filling.{Rows, front_most, rows_from, rows_turn, rows_end}
 use Rattle.bursts.proofs.rows.ack_rows_on.Given as goal
 
 abbrev pub invariant-loop-i : goal.invariant-loop-i

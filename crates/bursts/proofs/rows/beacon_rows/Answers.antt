@@ -4,7 +4,7 @@ use mathlib.Core.Path.{refl}
 use mathlib.Core.List.{[]}
 use native.Mathlib.Omega.{arith}
 use Rattle.bursts.specs.Rows.{ack_at, ack_row}
-use Rattle.bursts.proofs.filling.{rows_most}
+use Rattle.bursts.proofs.Filling.{rows_most}
 use Rattle.bursts.specs.Bursts.{beacon_rows}
 use Rattle.bursts.proofs.rows.beacon_rows.Goals as goal
 

@@ -5,7 +5,7 @@ use native.Mathlib.Omega.{arith}
 use Prim.Native.Nat.{suc, ◌+◌, ◌%◌}
 use mathlib.Core.List.{[], ◌∷◌}
 use Rattle.stream.specs.Window.{bitmap_of}
-use Rattle.bursts.proofs.filling.{filled_none, filled_row}
+use Rattle.bursts.proofs.Filling.{filled_none, filled_row}
 use lib.ListN.{length-set}
 use Rattle.bursts.proofs.rows.list_row.Goals as goal
 

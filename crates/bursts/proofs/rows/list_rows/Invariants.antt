@@ -5,7 +5,7 @@ use mathlib.Core.List.{[]}
 use Prim.Native.Nat.{◌≤◌, ◌-◌}
 use native.Mathlib.Omega.{arith}
 use Rattle.bursts.specs.Rows.{list_at, list_row}
-use Rattle.bursts.proofs.filling.{Rows, rows_start, rows_turn, rows_end}
+use Rattle.bursts.proofs.Filling.{Rows, rows_start, rows_turn, rows_end}
 use Rattle.bursts.proofs.rows.list_rows.Given as goal
 
 abbrev pub invariant-loop-i : goal.invariant-loop-i

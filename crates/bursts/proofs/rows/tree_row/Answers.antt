@@ -4,7 +4,7 @@ use mathlib.Core.Path.{◌≡◌}
 use native.Mathlib.Omega.{arith}
 use Prim.Native.Nat.{suc, ◌+◌}
 use mathlib.Core.List.{[], ◌∷◌}
-use Rattle.bursts.proofs.filling.{filled_none, filled_row}
+use Rattle.bursts.proofs.Filling.{filled_none, filled_row}
 use lib.ListN.{length-set}
 use Rattle.bursts.proofs.rows.tree_row.Goals as goal
 

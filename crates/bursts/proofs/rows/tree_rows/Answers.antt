@@ -7,7 +7,7 @@ use lib.Dec.{eqb}
 use lib.ListN.{get_or}
 use Rattle.bits.specs.Mask.{has_bit}
 use Rattle.roster.specs.Members.{no_member}
-use Rattle.bursts.proofs.filling.{Rows, rows_start, rows_turn, rows_end}
+use Rattle.bursts.proofs.Filling.{Rows, rows_start, rows_turn, rows_end}
 use Rattle.bursts.proofs.rows.tree_rows.Goals as goal
 
 pub loop-i-init : goal.loop-i-init

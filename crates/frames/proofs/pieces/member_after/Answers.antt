@@ -10,7 +10,7 @@ pub returns-then-has_landed : goal.returns-then-has_landed
 returns-then-has_landed c =
     rw (
       c.landed.ensures,
-      c.size_of-size.ensures,
+      c.size_of.ensures,
       c.heard_member-k.ensures,
       ← c.lost.ensures,
       c.if-silent.false,
