@@ -11,27 +11,38 @@ use Rattle.rx.proofs.Endings.{finished}
 use Rattle.rx.proofs.Turns.{Going, going_start, fits, fewer, read_done}
 use Rattle.rx.proofs.Each.{cell_lt, room_now, turn_piece, Went, went_said, went_none, went_report}
 use Rattle.rx.proofs.read_burst.Goals as goal
+use Rattle.rx.proofs.read_burst.Goals.{Joined-first, in-2+then-f-ge7, in-2+else-f-ge7, in-3+then-f-ge12, in-3+else-f-ge12, in-4, in-10, in_default}
 
 -- where the arms of the control byte meet
-went : (c : tie.At-match-branch invariant-loop decreases-loop) → Went c.before.before.before.before.before.before.before.loop.invariant c.before.before.before.before.before.if1.true c.before.before.before.before.frame_at.result c.before.before.before.before.frame_at.ensures c.match.s c.match.o c.match.x c.match.end
+went : (c : Joined-first) → Went c.loop-x.invariant c.loop-x-test.true c.frame_at-f.result c.frame_at-f.ensures c.match-first.s c.match-first.o c.match-first.x c.match-first.end
 went c =
-    let len = c.before.before.before.before.frame_at.result.len in
-    let byte = kind_byte _ _ c.before.before.if2.false c.before.control-byte.ensures in
-    ⊎_elim
-    (λ w. rw (w.8, w.9, w.10, w.11) (went_said c.before.before.before.before.before.before.before.loop.invariant c.before.before.before.before.before.if1.true c.before.before.before.before.frame_at.result c.before.before.before.before.frame_at.ensures Checkin (is_checkin len w.0.keys1 w.2.taken ∙ byte) refl w.5.ensures))
-    (⊎_elim
-    (λ w. rw (w.3, w.4, w.5, w.6) (went_none c.before.before.before.before.before.before.before.loop.invariant c.before.before.before.before.before.if1.true c.before.before.before.before.frame_at.result c.before.before.before.before.frame_at.ensures (short_checkin len w.0.keys1 w.2.left ∙ byte)))
-    (⊎_elim
-    (λ w. rw (w.16, w.17, w.18, w.19) (went_report c.before.before.before.before.before.before.before.loop.invariant c.before.before.before.before.before.if1.true c.before.before.before.before.frame_at.result c.before.before.before.before.frame_at.ensures (is_report_lem len w.0.keys2 w.2.taken ∙ byte)
-    w.3.ensures w.4.ensures w.5.ensures w.7.ensures w.8.ensures w.9.ensures w.11.ensures w.13.ensures w.14.ensures w.15.ensures))
-    (⊎_elim
-    (λ w. rw (w.3, w.4, w.5, w.6) (went_none c.before.before.before.before.before.before.before.loop.invariant c.before.before.before.before.before.if1.true c.before.before.before.before.frame_at.result c.before.before.before.before.frame_at.ensures (short_report len w.0.keys2 w.2.left ∙ byte)))
-    (⊎_elim
-    (λ w. rw (w.6, w.7, w.8, w.9) (went_said c.before.before.before.before.before.before.before.loop.invariant c.before.before.before.before.before.if1.true c.before.before.before.before.frame_at.result c.before.before.before.before.frame_at.ensures Overheard (is_overheard len w.0.keys3 ∙ byte) refl w.3.ensures))
-    (⊎_elim
-    (λ w. rw (w.6, w.7, w.8, w.9) (went_said c.before.before.before.before.before.before.before.loop.invariant c.before.before.before.before.before.if1.true c.before.before.before.before.frame_at.result c.before.before.before.before.frame_at.ensures Kids (is_kids len w.0.keys4 ∙ byte) refl w.3.ensures))
-    (λ w. rw (w.1, w.2, w.3, w.4) (went_none c.before.before.before.before.before.before.before.loop.invariant c.before.before.before.before.before.if1.true c.before.before.before.before.frame_at.result c.before.before.before.before.frame_at.ensures (is_none len w.0.rest.0.0.0.1 w.0.rest.0.0.1 w.0.rest.0.1 w.0.rest.1 ∙ byte))))))))
-    c.match.branch
+    let len = c.frame_at-f.result.len in
+    let byte = kind_byte _ _ c.if-f-eq-T_UP.false c.control_byte-first.ensures in
+    elim c.match-first.branch [
+      in-2+then-f-ge7 w ↦
+        rw (w.o-is, w.s-is, w.x-is, w.end-is)
+        (went_said c.loop-x.invariant c.loop-x-test.true c.frame_at-f.result c.frame_at-f.ensures Checkin (is_checkin len w.in-2.is w.if-f-ge7.true ∙ byte) refl w.checkin-s.ensures)
+      | in-2+else-f-ge7 w ↦
+        rw (w.o-is, w.s-is, w.x-is, w.end-is)
+        (went_none c.loop-x.invariant c.loop-x-test.true c.frame_at-f.result c.frame_at-f.ensures (short_checkin len w.in-2.is w.if-f-ge7.false ∙ byte))
+      | in-3+then-f-ge12 w ↦
+        rw (w.o-is, w.s-is, w.x-is, w.end-is)
+        (went_report c.loop-x.invariant c.loop-x-test.true c.frame_at-f.result c.frame_at-f.ensures (is_report_lem len w.in-3.is w.if-f-ge12.true ∙ byte)
+        w.byte_in-slot.ensures w.is_member-here-then-f-ge12.ensures w.index-i-then-f-ge12.ensures w.is_forwarded-forwarded.ensures w.byte_in-q.ensures
+        w.report_member.ensures w.report_hears.ensures w.report_queue.ensures w.is_pending-pending.ensures w.report_rx-x.ensures)
+      | in-3+else-f-ge12 w ↦
+        rw (w.o-is, w.s-is, w.x-is, w.end-is)
+        (went_none c.loop-x.invariant c.loop-x-test.true c.frame_at-f.result c.frame_at-f.ensures (short_report len w.in-3.is w.if-f-ge12.false ∙ byte))
+      | in-4 w ↦
+        rw (w.o-is, w.s-is, w.x-is, w.end-is)
+        (went_said c.loop-x.invariant c.loop-x-test.true c.frame_at-f.result c.frame_at-f.ensures Overheard (is_overheard len w.in-4.is ∙ byte) refl w.overheard-s.ensures)
+      | in-10 w ↦
+        rw (w.o-is, w.s-is, w.x-is, w.end-is)
+        (went_said c.loop-x.invariant c.loop-x-test.true c.frame_at-f.result c.frame_at-f.ensures Kids (is_kids len w.in-10.is ∙ byte) refl w.kids-s.ensures)
+      | in_default w ↦
+        rw (w.o-is, w.s-is, w.x-is, w.end-is)
+        (went_none c.loop-x.invariant c.loop-x-test.true c.frame_at-f.result c.frame_at-f.ensures (is_none len w.in_default.not-2 w.in_default.not-3 w.in_default.not-4 w.in_default.not-10 ∙ byte))
+    ]
 
 pub loop-x-init : goal.loop-x-init
 loop-x-init c = going_start _ _ _ _ _ _ _ c.first_rx-x.ensures (λ h. (c.requires h).0)
@@ -86,7 +97,7 @@ loop-x-preserved-then-f-eq-T_UP c =
     turn_piece c.loop-x.invariant c.loop-x-test.true c.frame_at-f.result c.frame_at-f.ensures Piece (kind_up _ _ c.if-f-eq-T_UP.true) refl
     c.index-i.ensures c.is_member-here.ensures c.piece_of-p.ensures c.cell_of-c.ensures c.take-d.ensures c.owner_after.ensures c.busy_after.ensures c.landed_after.ensures
     c.member_after.ensures c.is_relayed-relayed.ensures c.round_after-s.ensures c.totals_after-s.ensures c.landed_events.ensures refl
-    c.take-d.auto.1.1.1.1.1.0 c.next_piece-x.ensures
+    c.take-d.auto.lent c.next_piece-x.ensures
 
 pub offset_bounds-s-i-then-f-ge12 : goal.offset_bounds-s-i-then-f-ge12
 offset_bounds-s-i-then-f-ge12 c = omega (arith, rw (← c.index-i-then-f-ge12.ensures) at (index_lt c.byte_in-slot.result))
@@ -114,14 +125,14 @@ bounds-s-i-then-f-ge12-4 c = omega (arith, rw (← c.index-i-then-f-ge12.ensures
 
 pub next_frame-x-requires : goal.next_frame-x-requires
 next_frame-x-requires c =
-    let r = went c
+    let r = went (goal.at.next_frame-x-requires c).Joined-first in
     rw (r.word, r.frame) (fits c.loop-x.invariant c.loop-x-test.true c.frame_at-f.result c.frame_at-f.ensures c.well_formed.1.1.1.0.0)
 
 pub loop-x-smaller : goal.loop-x-smaller
-loop-x-smaller c = fewer (ap (λ (k : Rx). k.frame) c.next_frame-x.ensures ∙ (rw (went c).frame)) c.loop-x-test.true
+loop-x-smaller c = fewer (ap (λ (k : Rx). k.frame) c.next_frame-x.ensures ∙ (rw (went (goal.at.loop-x-smaller c).Joined-first).frame)) c.loop-x-test.true
 
 pub loop-x-preserved : goal.loop-x-preserved
-loop-x-preserved c = (went c).on c.next_frame-x.ensures
+loop-x-preserved c = (went (goal.at.loop-x-preserved c).Joined-first).on c.next_frame-x.ensures
 
 pub offset_bounds-s-i-2 : goal.offset_bounds-s-i-2
 offset_bounds-s-i-2 c = omega (arith, rw (← c.index-i-2.ensures) at (index_lt c.ending_of-e.result.slot))
@@ -140,8 +151,6 @@ offset_bounds-s-i-4 c = omega (arith, rw (← c.index-i-2.ensures) at (index_lt 
 
 pub bounds-s-i-4 : goal.bounds-s-i-4
 bounds-s-i-4 c = omega (arith, rw (← c.index-i-2.ensures) at (index_lt c.ending_of-e.result.slot))
-
--- LEFT overflow-mul-t114: omega (arith, rw (← c.before.before.before.before.index3.ensures) at (index_lt c.before.before.before.before.before.before.Ending-of.result.slot))
 
 pub bounds-s-i-5 : goal.bounds-s-i-5
 bounds-s-i-5 c = omega (arith, rw (← c.index-i-2.ensures) at (index_lt c.ending_of-e.result.slot))

@@ -11,6 +11,6 @@ returns-then-e-ne2 c = rw (ne_eqb _ _ c.if-e-ne2.true) (wrote_none _ _)
 pub returns : goal.returns
 returns c =
     elim c.if-e.branch [
-      then-e w ↦ rw (eq-eqb _ _ c.if-e-ne2.false, w.if-e.true) (rw (w.code-is, c.ack_extra.ensures) at c.put_tiny.ensures)
-      | else-e w ↦ rw (eq-eqb _ _ c.if-e-ne2.false, w.if-e.false) (rw (w.code-is, c.ack_extra.ensures) at c.put_tiny.ensures)
+      then-e w ↦ rw (eq-eqb _ _ c.if-e-ne2.false, w.if-e.true) (rw (w.kind-is, c.ack_extra.ensures) at c.put_tiny.ensures)
+      | else-e w ↦ rw (eq-eqb _ _ c.if-e-ne2.false, w.if-e.false) (rw (w.kind-is, c.ack_extra.ensures) at c.put_tiny.ensures)
     ]
