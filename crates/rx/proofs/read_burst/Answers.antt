@@ -41,7 +41,7 @@ went c =
         (went_said c.loop-x.invariant c.loop-x-test.true c.frame_at-f.result c.frame_at-f.ensures Kids (is_kids len w.in-10.is ∙ byte) refl w.kids-s.ensures)
       | in_default w ↦
         rw (w.o-is, w.s-is, w.x-is, w.end-is)
-        (went_none c.loop-x.invariant c.loop-x-test.true c.frame_at-f.result c.frame_at-f.ensures (is_none len w.in_default.not-2 w.in_default.not-3 w.in_default.not-4 w.in_default.not-10 ∙ byte))
+        (went_none c.loop-x.invariant c.loop-x-test.true c.frame_at-f.result c.frame_at-f.ensures (is_none len w.in_default.in_default-own.rest.0.0.0.1 w.in_default.in_default-own.rest.0.0.1 w.in_default.in_default-own.rest.0.1 w.in_default.in_default-own.rest.1 ∙ byte))
     ]
 
 pub loop-x-init : goal.loop-x-init
