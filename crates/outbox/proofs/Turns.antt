@@ -1,21 +1,20 @@
 -- Turns of the loops over messages. Assumes nothing.
-use mathlib.Core.Bool.{Bool, true, false, cond}
+use mathlib.Core.Bool.{cond}
 use mathlib.Core.List.{List, [], ◌∷◌, ◌++◌, map}
 use mathlib.Core.Logic.{⊎_elim}
-use mathlib.Core.Path.{◌≡◌, refl, sym, ap, ◌∙◌, subst}
-use Prim.Native.Nat.{ℕ, zero, suc, ◌+◌, ◌-◌, ◌*◌, ◌≤◌, ◌<◌}
+use mathlib.Core.Path.{◌≡◌, sym, ap, ◌∙◌}
+use Prim.Native.Nat.{ℕ, zero, suc, ◌+◌, ◌-◌, ◌≤◌, ◌<◌}
 use native.Mathlib.Omega.{arith}
-use lib.Dec.{eqb, ltb, leb}
-use lib.ListN.{length, get_or, set, take, drop}
-use borrow.Author.Tests.{eqb-true, eqb-false, ltb-true, ltb-false, leb-true, leb-false, eq-eqb, lt-ltb, le-ltb, lt-leb}
+use lib.Dec.{ltb, leb}
+use lib.ListN.{length, get_or}
+use borrow.Author.Tests.{ltb-false, leb-false}
 use Rattle.bits.proofs.Lists.{cond_true, cond_false, cases}
-use Rattle.inbox.specs.Messages.{framed}
 use Rattle.outbox.specs.declared.sender.Sender.{Sender}
 use Rattle.outbox.specs.Outbox.{Piece, OutMsg, Outbox, with_inflight, stale_in}
 use Rattle.outbox.specs.Outbox as O
 use Rattle.outbox.specs.Marks.{pieces, stale_marks}
-use Rattle.outbox.specs.Senders.{count_of, total_of, cut_of, part, put, msg_at, msgs, outbox, post_refusal, memory_refusal, both_refusal}
-use Rattle.outbox.proofs.Places.{msgs_turn, msgs_end, msgs_begin, made, unmade, made_length}
+use Rattle.outbox.specs.Senders.{cut_of, part, put, msg_at, msgs, post_refusal, memory_refusal, both_refusal}
+use Rattle.outbox.proofs.Places.{msgs_turn, made, unmade, made_length}
 use Rattle.outbox.proofs.Sending.{total_most, cut_most, at_flight}
 use Rattle.outbox.proofs.Acts.{stale_length, stale_pieces}
 

@@ -1,6 +1,6 @@
 -- The `Outbox` that a sender's numbers and its two memories hold: message i has the 2,048 bytes from 2,048 i on of each, its bytes in the one and their
 -- marks in the other. Every value of all three holds one.
-use Rattle.std.specs.Prelude.{Bool, cond, List, [], ◌∷◌, ◌++◌, ◌≡◌, ℕ, zero, suc, ◌+◌, ◌-◌, ◌*◌, ◌≤◌, ◌<◌, length, get_or, set, take, drop, leb, ltb, eqb}
+use Rattle.std.specs.Prelude.{cond, List, [], ◌∷◌, ◌++◌, ◌≡◌, ℕ, zero, suc, ◌+◌, ◌-◌, ◌*◌, ◌≤◌, ◌<◌, length, get_or, set, take, drop, leb, ltb, eqb}
 use Rattle.bits.specs.Stop.{stop}
 use Rattle.outbox.specs.declared.sender.Waiting.{Waiting}
 use Rattle.outbox.specs.declared.sender.Waiting.TheVariants.{Bytes, Refused}

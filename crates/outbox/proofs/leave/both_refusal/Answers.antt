@@ -1,6 +1,5 @@
 -- By cases. Assumes nothing.
 
-use Prim.Native.Nat.{◌-◌}
 use borrow.Author.Tests.{lt-ltb, le-ltb}
 use Rattle.outbox.proofs.leave.both_refusal.Goals as goal
 

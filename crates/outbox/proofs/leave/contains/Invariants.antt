@@ -1,13 +1,9 @@
 -- The loop's invariant: what is left to search says what the whole does. Assumes nothing.
 
-use mathlib.Core.Path.{◌≡◌, refl, sym, ap, ◌∙◌}
-use mathlib.Core.List.{List}
-use Prim.Native.Nat.{ℕ, ◌+◌, ◌-◌, ◌≤◌}
-use lib.ListN.{length, get_or, drop}
-use borrow.Author.Tests.{eq-eqb, ne_eqb}
+use mathlib.Core.Path.{◌≡◌}
+use Prim.Native.Nat.{◌-◌, ◌≤◌}
+use lib.ListN.{length, drop}
 use Rattle.outbox.specs.Outbox as O
-use Rattle.outbox.proofs.Leaving as leaving
-use Rattle.outbox.proofs.Walk.{drop_here, drop_end}
 use Rattle.outbox.proofs.leave.contains.Given as goal
 
 abbrev pub invariant-loop-i : goal.invariant-loop-i

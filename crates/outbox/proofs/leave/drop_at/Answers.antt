@@ -1,9 +1,7 @@
-use mathlib.Core.Path.{◌≡◌, sym, subst}
-use Prim.Native.Nat.{◌+◌, ◌-◌, ◌≤◌}
+use mathlib.Core.Path.{sym, subst}
+use Prim.Native.Nat.{◌+◌}
 use native.Mathlib.Omega.{arith}
-use lib.ListN.{length}
 use Rattle.outbox.specs.declared.sender.Sender.{Sender}
-use Rattle.outbox.specs.Senders as S
 use Rattle.outbox.proofs.Leaving as leaving
 use borrow.Author.Rules.{rules}
 use Rattle.outbox.proofs.leave.drop_at.Goals as goal
@@ -29,8 +27,8 @@ loop-j-preserved c =
     let l = c.loop-j in
     let i = l.invariant in
     let m = c.move_one-t in (
-      subst (λ (x : Sender). leaving.Moving a.s a.bytes.now a.marks.now c.count_of-n.result a.i x m.new.1.0 m.new.1.1.0 (l.j + 1)) (sym m.ensures.sender.0)
-          (leaving.moving_turn a.s a.bytes.now a.marks.now c.count_of-n.result a.i i.0 (search rules) i.2 i.3 m.ensures.sender.1 m.ensures.bytes.0 m.ensures.bytes.1),
+      subst (λ (x : Sender). leaving.Moving a.s a.bytes.now a.marks.now c.count_of-n.result a.i x m.new.bytes m.new.marks (l.j + 1)) (sym m.ensures.sender.0)
+          (leaving.moving_turn a.s a.bytes.now a.marks.now c.count_of-n.result a.i i.0 (search rules) i.2 i.3 m.ensures.sender.1 m.ensures.bytes m.ensures.marks),
       i.1,
       i.2,
       i.3,

@@ -1,10 +1,8 @@
 -- The loop's invariant: the messages behind i, to j, moved down. Assumes nothing.
 
-use mathlib.Core.Path.{◌≡◌, sym, subst}
-use Prim.Native.Nat.{◌+◌, ◌-◌, ◌≤◌}
-use native.Mathlib.Omega.{arith}
+use mathlib.Core.Path.{◌≡◌}
+use Prim.Native.Nat.{◌-◌, ◌≤◌}
 use lib.ListN.{length}
-use Rattle.outbox.specs.declared.sender.Sender.{Sender}
 use Rattle.outbox.specs.Senders as S
 use Rattle.outbox.proofs.Leaving as leaving
 use Rattle.outbox.proofs.leave.drop_at.Given as goal

@@ -1,8 +1,5 @@
-use mathlib.Core.Path.{◌≡◌, refl, sym, ◌∙◌}
-use mathlib.Core.List.{◌++◌}
-use Prim.Native.Nat.{◌+◌, ◌-◌, ◌≤◌}
+use mathlib.Core.Path.{refl, sym, ◌∙◌}
 use native.Mathlib.Omega.{arith}
-use lib.ListN.{length}
 use Rattle.outbox.specs.Outbox as O
 use Rattle.outbox.specs.Senders as S
 use Rattle.outbox.proofs.Places as L
@@ -47,8 +44,8 @@ loop-i-preserved c =
     let d = leaving.dropped_count O.unfinished l.t l.bytes l.marks l.i (omega arith) k.ensures in (
       omega arith,
       k.ensures.next ∙ i.1,
-      k.auto.1.0 ∙ i.2,
-      k.auto.1.1.0 ∙ i.3,
+      k.auto.bytes ∙ i.2,
+      k.auto.marks ∙ i.3,
       i.4,
       i.5,
       leaving.drop_turn O.unfinished l.t l.bytes l.marks l.i (omega arith) k.ensures (sym (c.unfinished_at.ensures l.bytes (omega arith)) ∙ c.if-unfinished_at.false) ∙ i.6,

@@ -1,14 +1,11 @@
 -- The loop's invariant: what stays so far, with what is to be asked, is the whole. Assumes nothing.
 
-use mathlib.Core.Path.{◌≡◌, refl, sym, ◌∙◌}
+use mathlib.Core.Path.{◌≡◌}
 use mathlib.Core.List.{◌++◌}
-use Prim.Native.Nat.{◌+◌, ◌-◌, ◌≤◌}
-use native.Mathlib.Omega.{arith}
+use Prim.Native.Nat.{◌-◌, ◌≤◌}
 use lib.ListN.{length}
 use Rattle.outbox.specs.Outbox as O
 use Rattle.outbox.specs.Senders as S
-use Rattle.outbox.proofs.Places as L
-use Rattle.outbox.proofs.Leaving as leaving
 use Rattle.outbox.proofs.leave.drop_held.Given as goal
 
 abbrev pub invariant-loop-i : goal.invariant-loop-i

@@ -2,7 +2,7 @@
 
 use mathlib.Core.Path.{refl, sym, ap, ◌∙◌}
 use mathlib.Core.List.{List}
-use Prim.Native.Nat.{ℕ, ◌-◌}
+use Prim.Native.Nat.{ℕ}
 use lib.ListN.{length}
 use lib.Dec.{eqb}
 use borrow.Author.Tests.{ne_eqb}
@@ -17,7 +17,11 @@ returns-then-no-ne0 c =
     let a = c.args in
     let p = c.both_refusal-no in
     let o = S.outbox a.s a.bytes.now a.marks.now in
-    (p.ensures, (sym (cond_false (eqb p.result 0) (O.held o a.next a.also.now) o (ne_eqb _ _ c.if-no-ne0.true)), λ z. (refl, (refl, refl))))
+    record {
+      refusal = p.ensures;
+      outbox = sym (cond_false (eqb p.result 0) (O.held o a.next a.also.now) o (ne_eqb _ _ c.if-no-ne0.true));
+      untouched = λ z. (refl, (refl, refl));
+    }
 
 pub drop_held-t-requires : goal.drop_held-t-requires
 drop_held-t-requires c = let a = c.args in let o = T.both_open (length a.bytes.now) (length a.marks.now) (sym c.both_refusal-no.ensures ∙ c.if-no-ne0.false) in (o.0, o.1)
@@ -25,11 +29,10 @@ drop_held-t-requires c = let a = c.args in let o = T.both_open (length a.bytes.n
 pub returns : goal.returns
 returns c =
     let a = c.args in
-    let d = c.drop_held-t in (
-      sym (sym c.both_refusal-no.ensures ∙ c.if-no-ne0.false),
-      (
-        ap (λ (x : List O.OutMsg). record { msgs = x; next_seq = d.result.next }) d.ensures.0
-            ∙ ap (λ (x : ℕ). record { msgs = O.retain (O.not_held a.next a.also.now) (S.msgs a.s a.bytes.now a.marks.now (S.count_of a.s) 0); next_seq = x }) d.ensures.1,
-        λ z. absurd (z refl),
-      ),
-    )
+    let d = c.drop_held-t in record {
+      refusal = sym (sym c.both_refusal-no.ensures ∙ c.if-no-ne0.false);
+      outbox =
+          ap (λ (x : List O.OutMsg). record { msgs = x; next_seq = d.result.next }) d.ensures.0
+          ∙ ap (λ (x : ℕ). record { msgs = O.retain (O.not_held a.next a.also.now) (S.msgs a.s a.bytes.now a.marks.now (S.count_of a.s) 0); next_seq = x }) d.ensures.1;
+      untouched = λ z. absurd (z refl);
+    }

@@ -1,6 +1,6 @@
-use mathlib.Core.Path.{◌≡◌, refl, sym, ap, ◌∙◌, subst}
-use mathlib.Core.List.{List, [], ◌++◌}
-use Prim.Native.Nat.{ℕ, ◌+◌, ◌-◌, ◌≤◌}
+use mathlib.Core.Path.{refl, sym, ap, ◌∙◌, subst}
+use mathlib.Core.List.{List, []}
+use Prim.Native.Nat.{ℕ, ◌≤◌}
 use native.Mathlib.Omega.{arith}
 use lib.ListN.{length}
 use Rattle.outbox.specs.Outbox as O
@@ -29,7 +29,7 @@ shape_of-marks-then-s-i c =
     let i = l.invariant in
     let k = c.ack_at in
     let r : 16384 ≤ length l.marks = subst (λ (x : List ℕ). 16384 ≤ length x) (sym i.4) i.3 in
-    T.act_length (λ x. M.ack_marks x a.off) (A.ack_length a.off) a.s [] l.marks k.new.1.0 c.count_of-n.result l.i (omega arith) i.2 r k.ensures ∙ ap length i.4
+    T.act_length (λ x. M.ack_marks x a.off) (A.ack_length a.off) a.s [] l.marks k.new.marks c.count_of-n.result l.i (omega arith) i.2 r k.ensures ∙ ap length i.4
 
 pub returns-then-s-i : goal.returns-then-s-i
 returns-then-s-i c =
@@ -38,7 +38,7 @@ returns-then-s-i c =
     let i = l.invariant in
     let k = c.ack_at in
     let r : 16384 ≤ length l.marks = subst (λ (x : List ℕ). 16384 ≤ length x) (sym i.4) i.3 in
-    λ bytes. ap (λ (x : ℕ). S.msgs a.s bytes k.new.1.0 x 0) (sym i.1) ∙ leaving.acked_at a.s bytes l.marks a.seq a.off c.count_of-n.result l.i (omega arith) i.2 k.new.1.0 r c.if-s-i.true k.ensures
+    λ bytes. ap (λ (x : ℕ). S.msgs a.s bytes k.new.marks x 0) (sym i.1) ∙ leaving.acked_at a.s bytes l.marks a.seq a.off c.count_of-n.result l.i (omega arith) i.2 k.new.marks r c.if-s-i.true k.ensures
     ∙ i.5 bytes ∙ ap (λ (x : ℕ). O.acked a.seq a.off (S.msgs a.s bytes a.marks.now x 0)) i.1
 
 pub loop-i-preserved : goal.loop-i-preserved

@@ -1,17 +1,11 @@
 -- The loop's invariant: what was passed, with what is to be done, is the whole. Assumes nothing.
 
-use mathlib.Core.Path.{◌≡◌, refl, sym, ap, ◌∙◌, subst}
-use mathlib.Core.List.{List, [], ◌++◌}
-use Prim.Native.Nat.{ℕ, ◌+◌, ◌-◌, ◌≤◌}
-use native.Mathlib.Omega.{arith}
+use mathlib.Core.Path.{◌≡◌}
+use mathlib.Core.List.{List, ◌++◌}
+use Prim.Native.Nat.{ℕ, ◌-◌, ◌≤◌}
 use lib.ListN.{length}
 use Rattle.outbox.specs.Outbox as O
-use Rattle.outbox.specs.Marks as M
 use Rattle.outbox.specs.Senders as S
-use Rattle.outbox.proofs.Places as L
-use Rattle.outbox.proofs.Acts as A
-use Rattle.outbox.proofs.Turns as T
-use Rattle.outbox.proofs.Leaving as leaving
 use Rattle.outbox.proofs.leave.mark_acked.Given as goal
 
 abbrev pub invariant-loop-i : goal.invariant-loop-i

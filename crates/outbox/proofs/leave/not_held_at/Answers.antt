@@ -1,7 +1,6 @@
 -- By cases. Assumes nothing.
 
 use mathlib.Core.Path.{sym, ap, ◌∙◌}
-use Prim.Native.Nat.{◌-◌}
 use Rattle.outbox.proofs.Leaving as leaving
 use mathlib.Core.Bool.{not}
 use Rattle.outbox.proofs.leave.not_held_at.Goals as goal

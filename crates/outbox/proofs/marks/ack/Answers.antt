@@ -1,7 +1,7 @@
 -- By cases. Assumes nothing.
 
 use mathlib.Core.Path.{sym, ap, ◌∙◌}
-use Prim.Native.Nat.{ℕ, ◌-◌}
+use Prim.Native.Nat.{ℕ}
 use native.Mathlib.Omega.{arith}
 use lib.ListN.{get_or, set}
 use Rattle.bits.proofs.Lists.{cond_true, cond_false}

@@ -1,12 +1,9 @@
 -- The loop's invariant: what is left to search says what the whole does. Assumes nothing.
 
-use mathlib.Core.Path.{◌≡◌, refl, sym, ap, ◌∙◌}
-use mathlib.Core.List.{List}
-use Prim.Native.Nat.{ℕ, ◌+◌, ◌-◌, ◌≤◌}
-use lib.ListN.{length, get_or, drop}
+use mathlib.Core.Path.{◌≡◌}
+use Prim.Native.Nat.{◌-◌, ◌≤◌}
+use lib.ListN.{length, drop}
 use Rattle.outbox.specs.Marks as M
-use Rattle.outbox.proofs.Walk.{drop_here, drop_end}
-use Rattle.outbox.proofs.Said as P
 use Rattle.outbox.specs.Outbox.{some}
 use Rattle.outbox.proofs.marks.any.Given as goal
 

@@ -1,11 +1,10 @@
 use mathlib.Core.Path.{◌≡◌, sym, ap, ◌∙◌}
-use Prim.Native.Nat.{ℕ, ◌+◌, ◌-◌, ◌≤◌}
+use Prim.Native.Nat.{ℕ, ◌+◌}
 use native.Mathlib.Omega.{arith}
-use lib.ListN.{length, get_or, drop}
+use lib.ListN.{get_or, drop}
 use Rattle.outbox.specs.Marks as M
 use Rattle.outbox.proofs.Walk.{drop_here, drop_end}
 use Rattle.outbox.proofs.Said as P
-use Rattle.outbox.specs.Outbox.{lens}
 use borrow.Author.Rules.{rules}
 use Rattle.outbox.proofs.marks.in_flight.Goals as goal
 

@@ -1,11 +1,9 @@
 -- The loop's invariant: what was counted, with what is left to count, is the whole. Assumes nothing.
 
-use mathlib.Core.Path.{◌≡◌, sym, ap, ◌∙◌}
-use Prim.Native.Nat.{ℕ, ◌+◌, ◌-◌, ◌≤◌}
-use native.Mathlib.Omega.{arith}
-use lib.ListN.{length, get_or, drop}
+use mathlib.Core.Path.{◌≡◌}
+use Prim.Native.Nat.{◌+◌, ◌-◌, ◌≤◌}
+use lib.ListN.{length, drop}
 use Rattle.outbox.specs.Marks as M
-use Rattle.outbox.proofs.Walk.{drop_here, drop_end}
 use Rattle.outbox.proofs.Said as P
 use Rattle.outbox.specs.Outbox.{lens}
 use Rattle.outbox.proofs.marks.in_flight.Given as goal

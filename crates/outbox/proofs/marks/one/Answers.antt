@@ -1,7 +1,6 @@
 -- By cases. Assumes nothing.
 
 use mathlib.Core.Path.{sym, ◌∙◌}
-use Prim.Native.Nat.{◌-◌}
 use Rattle.bits.proofs.Lists.{cond_true, cond_false}
 use Rattle.outbox.specs.Marks as M
 use borrow.Author.Rules.{rules}

@@ -1,13 +1,9 @@
 -- The loop's invariant: what was counted, with what is left to count, is the whole. Assumes nothing.
 
-use mathlib.Core.Path.{◌≡◌, ap, ◌∙◌}
+use mathlib.Core.Path.{◌≡◌}
 use Prim.Native.Nat.{◌+◌, ◌-◌, ◌≤◌}
-use native.Mathlib.Omega.{arith}
-use lib.ListN.{length, get_or, drop}
+use lib.ListN.{length, drop}
 use Rattle.outbox.specs.Marks as M
-use Rattle.outbox.proofs.Walk.{drop_here, drop_end}
-use Rattle.outbox.proofs.Said as P
-use borrow.Author.Tests.{ne_eqb}
 use Rattle.outbox.proofs.marks.run.Given as goal
 
 abbrev pub invariant-loop-k : goal.invariant-loop-k

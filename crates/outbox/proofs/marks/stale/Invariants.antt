@@ -1,13 +1,10 @@
 -- The loop's invariant: what is done, with what is to be done, is the whole. Assumes nothing.
 
-use mathlib.Core.Path.{◌≡◌, refl, ◌∙◌}
+use mathlib.Core.Path.{◌≡◌}
 use mathlib.Core.List.{◌++◌}
-use Prim.Native.Nat.{◌+◌, ◌-◌, ◌≤◌}
-use native.Mathlib.Omega.{arith}
-use lib.ListN.{length, get_or, take, drop, length-set}
+use Prim.Native.Nat.{◌-◌, ◌≤◌}
+use lib.ListN.{length, take, drop}
 use Rattle.outbox.specs.Marks as M
-use Rattle.outbox.proofs.Walk.{walk_turn, walk_end}
-use Rattle.outbox.proofs.Said as P
 use Rattle.outbox.proofs.marks.stale.Given as goal
 
 abbrev pub invariant-loop-i : goal.invariant-loop-i

@@ -1,13 +1,10 @@
 -- The loop's invariant: the first k marks are written. Assumes nothing.
 
-use mathlib.Core.Path.{◌≡◌, refl, ap, ◌∙◌}
-use mathlib.Core.List.{List}
-use Prim.Native.Nat.{ℕ, ◌+◌, ◌-◌, ◌≤◌}
-use native.Mathlib.Omega.{arith}
-use lib.ListN.{length, set, length-set}
+use mathlib.Core.Path.{◌≡◌}
+use Prim.Native.Nat.{◌-◌, ◌≤◌}
+use lib.ListN.{length}
 use Rattle.outbox.specs.Marks as M
-use Rattle.outbox.proofs.Said as P
-use lib.Seq.{paste, paste-zero}
+use lib.Seq.{paste}
 use Rattle.outbox.proofs.marks.start.Given as goal
 
 abbrev pub invariant-loop-k : goal.invariant-loop-k

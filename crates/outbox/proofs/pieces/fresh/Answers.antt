@@ -15,16 +15,12 @@ pub returns-then-left-eq0 : goal.returns-then-left-eq0
 returns-then-left-eq0 c =
     let a = c.args in
     let l = c.loop-c in
-    let z = ap (λ (k : ℕ). cut_up k a.max l.c (length a.whole.now) false) c.if-left-eq0.true ∙ P.cut_none a.max l.c (length a.whole.now) in (
-      P.cut_words a.max a.seq a.whole.now a.out.now a.w.at a.w.left a.cut a.marks.now l.invariant z,
-      (
-        sym c.if-left-eq0.true ∙ P.cut_left a.max a.seq a.whole.now a.out.now a.w.at a.w.left a.cut a.marks.now l.invariant z,
-        (
-          (P.cut_reached a.max a.seq a.whole.now a.out.now a.w.at a.w.left a.cut a.marks.now l.invariant z, l.invariant.within),
-          P.cut_marks a.max a.seq a.whole.now a.out.now a.w.at a.w.left a.cut a.marks.now l.invariant z,
-        ),
-      ),
-    )
+    let z = ap (λ (k : ℕ). cut_up k a.max l.c (length a.whole.now) false) c.if-left-eq0.true ∙ P.cut_none a.max l.c (length a.whole.now) in record {
+      words = P.cut_words a.max a.seq a.whole.now a.out.now a.w.at a.w.left a.cut a.marks.now l.invariant z;
+      left = sym c.if-left-eq0.true ∙ P.cut_left a.max a.seq a.whole.now a.out.now a.w.at a.w.left a.cut a.marks.now l.invariant z;
+      cut = (P.cut_reached a.max a.seq a.whole.now a.out.now a.w.at a.w.left a.cut a.marks.now l.invariant z, l.invariant.within);
+      marks = P.cut_marks a.max a.seq a.whole.now a.out.now a.w.at a.w.left a.cut a.marks.now l.invariant z;
+    }
 
 pub start-requires : goal.start-requires
 start-requires c =
@@ -69,13 +65,9 @@ pub returns : goal.returns
 returns c =
     let a = c.args in
     let l = c.loop-c in
-    let z = P.cut_end l.left a.max l.c (length a.whole.now) (omega arith) in (
-      P.cut_words a.max a.seq a.whole.now a.out.now a.w.at a.w.left a.cut a.marks.now l.invariant z,
-      (
-        P.cut_left a.max a.seq a.whole.now a.out.now a.w.at a.w.left a.cut a.marks.now l.invariant z,
-        (
-          (P.cut_reached a.max a.seq a.whole.now a.out.now a.w.at a.w.left a.cut a.marks.now l.invariant z, l.invariant.within),
-          P.cut_marks a.max a.seq a.whole.now a.out.now a.w.at a.w.left a.cut a.marks.now l.invariant z,
-        ),
-      ),
-    )
+    let z = P.cut_end l.left a.max l.c (length a.whole.now) (omega arith) in record {
+      words = P.cut_words a.max a.seq a.whole.now a.out.now a.w.at a.w.left a.cut a.marks.now l.invariant z;
+      left = P.cut_left a.max a.seq a.whole.now a.out.now a.w.at a.w.left a.cut a.marks.now l.invariant z;
+      cut = (P.cut_reached a.max a.seq a.whole.now a.out.now a.w.at a.w.left a.cut a.marks.now l.invariant z, l.invariant.within);
+      marks = P.cut_marks a.max a.seq a.whole.now a.out.now a.w.at a.w.left a.cut a.marks.now l.invariant z;
+    }

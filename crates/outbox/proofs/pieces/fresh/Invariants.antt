@@ -1,11 +1,7 @@
 -- The loop's invariant: what was cut and what is to be cut is the whole. Assumes nothing.
 
-use mathlib.Core.Path.{sym, ap, ◌∙◌}
-use Prim.Native.Nat.{ℕ, ◌-◌}
-use native.Mathlib.Omega.{arith}
+use Prim.Native.Nat.{◌-◌}
 use lib.ListN.{length}
-use mathlib.Core.Bool.{false}
-use Rattle.outbox.specs.Outbox.{cut_up}
 use Rattle.outbox.proofs.Passes as P
 use Rattle.outbox.proofs.pieces.fresh.Given as goal
 

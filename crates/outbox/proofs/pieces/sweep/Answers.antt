@@ -1,4 +1,4 @@
-use Prim.Native.Nat.{◌-◌, ◌≤◌}
+use Prim.Native.Nat.{◌≤◌}
 use native.Mathlib.Omega.{arith}
 use lib.ListN.{length}
 use Rattle.outbox.proofs.Passes as P
@@ -12,16 +12,14 @@ loop-i-preserved c =
     let a = c.args in
     let l = c.loop-i in
     let s = c.sweep_at-v in
-    P.sweeping_turn a.mark a.seq a.whole.now a.out.now a.w.at a.w.left a.marks.now c.requires.1 (omega (arith, l.invariant.same_marks)) l.invariant s.ensures.words s.ensures.left.0 s.ensures.left.1
+    P.sweeping_turn a.mark a.seq a.whole.now a.out.now a.w.at a.w.left a.marks.now c.requires.1 (omega (arith, l.invariant.same_marks)) l.invariant s.ensures.words s.ensures.left s.ensures.marks
 
 pub returns : goal.returns
 returns c =
     let a = c.args in
     let l = c.loop-i in
-    let h : length a.marks.now ≤ l.i = omega (arith, l.invariant.same_marks) in (
-      P.swept_words a.mark a.seq a.whole.now a.out.now a.w.at a.w.left a.marks.now h l.invariant,
-      (
-        P.swept_left a.mark a.seq a.whole.now a.out.now a.w.at a.w.left a.marks.now h l.invariant,
-        P.swept_marks a.mark a.seq a.whole.now a.out.now a.w.at a.w.left a.marks.now h l.invariant,
-      ),
-    )
+    let h : length a.marks.now ≤ l.i = omega (arith, l.invariant.same_marks) in record {
+      words = P.swept_words a.mark a.seq a.whole.now a.out.now a.w.at a.w.left a.marks.now h l.invariant;
+      left = P.swept_left a.mark a.seq a.whole.now a.out.now a.w.at a.w.left a.marks.now h l.invariant;
+      marks = P.swept_marks a.mark a.seq a.whole.now a.out.now a.w.at a.w.left a.marks.now h l.invariant;
+    }

@@ -1,7 +1,6 @@
 -- The loop's invariant: what was done and what is to be done from i on is the whole. Assumes nothing.
 
-use Prim.Native.Nat.{◌-◌, ◌≤◌}
-use native.Mathlib.Omega.{arith}
+use Prim.Native.Nat.{◌-◌}
 use lib.ListN.{length}
 use Rattle.outbox.proofs.Passes as P
 use Rattle.outbox.proofs.pieces.sweep.Given as goal

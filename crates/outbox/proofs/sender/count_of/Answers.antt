@@ -1,7 +1,7 @@
 -- Assumes nothing.
 
 use mathlib.Core.Path.{sym, subst}
-use Prim.Native.Nat.{ℕ, ◌-◌, ◌≤◌}
+use Prim.Native.Nat.{ℕ, ◌≤◌}
 use Rattle.outbox.proofs.Passes as P
 use Rattle.outbox.proofs.sender.count_of.Goals as goal
 

@@ -1,7 +1,7 @@
 -- By cases. Assumes nothing.
 
 use mathlib.Core.Path.{sym, ap}
-use Prim.Native.Nat.{ℕ, ◌-◌}
+use Prim.Native.Nat.{ℕ}
 use lib.ListN.{length, get_or}
 use Rattle.outbox.proofs.Turns as T
 use Prim.Native.Nat.{◌%◌, ◌/◌}

@@ -1,13 +1,11 @@
 -- The loop's invariant: what is left to search says what the whole does. Assumes nothing.
 
-use mathlib.Core.Path.{◌≡◌, sym, ap, ◌∙◌}
+use mathlib.Core.Path.{◌≡◌}
 use mathlib.Core.List.{List}
 use Prim.Native.Nat.{ℕ, ◌-◌, ◌≤◌}
-use native.Mathlib.Omega.{arith}
 use lib.ListN.{length}
 use Rattle.outbox.specs.Outbox as O
 use Rattle.outbox.specs.Senders as S
-use Rattle.outbox.proofs.Sending as W
 use Rattle.outbox.proofs.sender.has_new.Given as goal
 
 abbrev pub invariant-loop-i : goal.invariant-loop-i

@@ -1,17 +1,11 @@
 -- The loop's invariant: what was counted, with what is left to count, is the whole. Assumes nothing.
 
-use mathlib.Core.Path.{◌≡◌, sym, ap, ◌∙◌}
+use mathlib.Core.Path.{◌≡◌}
 use mathlib.Core.List.{List}
 use Prim.Native.Nat.{ℕ, ◌+◌, ◌-◌, ◌*◌, ◌≤◌}
-use native.Mathlib.Omega.{arith}
 use lib.ListN.{length}
-use lib.Dec.{ltb}
-use borrow.Author.Tests.{lt-ltb, le-ltb}
-use Rattle.bits.proofs.Lists.{cond_true, cond_false}
 use Rattle.outbox.specs.Outbox as O
 use Rattle.outbox.specs.Senders as S
-use Rattle.outbox.proofs.Sending as W
-use Rattle.outbox.specs.declared.sender.Waiting.TheVariants.{Bytes}
 use Rattle.outbox.proofs.sender.pending.Given as goal
 
 abbrev pub invariant-loop-i : goal.invariant-loop-i

@@ -2,7 +2,7 @@
 
 use mathlib.Core.Path.{refl, sym, ap, ◌∙◌}
 use mathlib.Core.List.{List}
-use Prim.Native.Nat.{ℕ, ◌-◌}
+use Prim.Native.Nat.{ℕ}
 use native.Mathlib.Omega.{arith}
 use lib.ListN.{length}
 use lib.Dec.{eqb}
@@ -19,7 +19,11 @@ pub returns-then-no-ne0 : goal.returns-then-no-ne0
 returns-then-no-ne0 c =
     let a = c.args in
     let p = c.post_refusal-no in
-    (p.ensures, (λ marks. sym (cond_false (eqb p.result 0) (O.push_msg (S.outbox a.s a.bytes.now marks) a.body.now) (S.outbox a.s a.bytes.now marks) (ne_eqb _ _ c.if-no-ne0.true)), λ z. (refl, refl)))
+    record {
+      refusal = p.ensures;
+      outbox = λ marks. sym (cond_false (eqb p.result 0) (O.push_msg (S.outbox a.s a.bytes.now marks) a.body.now) (S.outbox a.s a.bytes.now marks) (ne_eqb _ _ c.if-no-ne0.true));
+      untouched = λ z. (refl, refl);
+    }
 
 pub overflow_mul-i : goal.overflow_mul-i
 overflow_mul-i c = let a = c.args in let o = T.post_open a.s (length a.bytes.now) (length a.body.now) (sym c.post_refusal-no.ensures ∙ c.if-no-ne0.false) in omega arith
@@ -36,11 +40,10 @@ returns c =
     let e = sym c.post_refusal-no.ensures ∙ c.if-no-ne0.false in
     let o = T.post_open a.s (length a.bytes.now) (length a.body.now) e in
     let p = c.posted in
-    let m = c.put_message in (
-      sym e,
-      (
-        λ marks. ap (λ (x : Sender). S.outbox x m.new.0 marks) p.ensures.0 ∙ ap (λ (x : List ℕ). S.outbox (S.posted_of a.s (length a.body.now)) x marks) m.ensures
-            ∙ W.pushed a.s a.bytes.now marks a.body.now o.2 o.1 o.0 p.ensures.1,
-        λ z. absurd (z refl),
-      ),
-    )
+    let m = c.put_message in record {
+      refusal = sym e;
+      outbox =
+          λ marks. ap (λ (x : Sender). S.outbox x m.new.bytes marks) p.ensures.0 ∙ ap (λ (x : List ℕ). S.outbox (S.posted_of a.s (length a.body.now)) x marks) m.ensures
+          ∙ W.pushed a.s a.bytes.now marks a.body.now o.2 o.1 o.0 p.ensures.1;
+      untouched = λ z. absurd (z refl);
+    }

@@ -1,6 +1,5 @@
 -- By cases. Assumes nothing.
 
-use Prim.Native.Nat.{◌-◌}
 use borrow.Author.Tests.{lt-ltb, le-ltb, le-leb, lt-leb}
 use Rattle.outbox.proofs.sender.post_refusal.Goals as goal
 

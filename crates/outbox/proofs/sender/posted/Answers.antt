@@ -1,7 +1,7 @@
 -- The stores are the definition's. Assumes nothing.
 
 use mathlib.Core.Path.{ap}
-use Prim.Native.Nat.{ℕ, ◌+◌, ◌-◌}
+use Prim.Native.Nat.{ℕ, ◌+◌}
 use lib.ListN.{set}
 use borrow.Author.Rules.{rules}
 use Rattle.outbox.proofs.sender.posted.Goals as goal

@@ -1,12 +1,9 @@
 -- The loop's invariant: the first k bytes are written. Assumes nothing.
 
-use mathlib.Core.Path.{◌≡◌, refl, ap, ◌∙◌}
-use mathlib.Core.List.{List}
-use Prim.Native.Nat.{ℕ, ◌+◌, ◌-◌, ◌≤◌}
-use native.Mathlib.Omega.{arith}
-use lib.ListN.{length, set, length-set}
-use lib.Seq.{paste, paste-zero}
-use Rattle.bits.proofs.Lists.{copy_turn}
+use mathlib.Core.Path.{◌≡◌}
+use Prim.Native.Nat.{◌-◌, ◌≤◌}
+use lib.ListN.{length}
+use lib.Seq.{paste}
 use Rattle.inbox.specs.Messages.{framed}
 use Rattle.outbox.proofs.sender.put_message.Given as goal
 

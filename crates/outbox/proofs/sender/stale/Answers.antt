@@ -1,6 +1,6 @@
-use mathlib.Core.Path.{◌≡◌, refl, sym, ap, ◌∙◌}
-use mathlib.Core.List.{List, [], ◌++◌, map}
-use Prim.Native.Nat.{ℕ, ◌+◌, ◌-◌, ◌≤◌}
+use mathlib.Core.Path.{refl, sym, ap, ◌∙◌}
+use mathlib.Core.List.{List, [], map}
+use Prim.Native.Nat.{ℕ}
 use native.Mathlib.Omega.{arith}
 use lib.ListN.{length}
 use lib.Dec.{ltb}
@@ -16,7 +16,11 @@ use borrow.Author.Rules.{rules}
 use Rattle.outbox.proofs.sender.stale.Goals as goal
 
 pub returns-then-marks-lt-MEMORY : goal.returns-then-marks-lt-MEMORY
-returns-then-marks-lt-MEMORY c = (sym (cond_true (ltb (length c.args.marks.now) 16384) 7 0 (lt-ltb _ _ c.if-marks-lt-MEMORY.true)), (λ bytes. refl, λ z. refl))
+returns-then-marks-lt-MEMORY c = record {
+  refusal = sym (cond_true (ltb (length c.args.marks.now) 16384) 7 0 (lt-ltb _ _ c.if-marks-lt-MEMORY.true));
+  outbox = λ bytes. refl;
+  untouched = λ z. refl;
+}
 
 pub loop-i-init : goal.loop-i-init
 loop-i-init c =
@@ -37,8 +41,8 @@ loop-i-preserved c =
       i.1,
       i.2,
       i.3,
-      T.act_length M.stale_marks A.stale_length a.s [] l.marks t.new.1.0 c.count_of-n.result l.i (omega arith) i.2 (omega arith) t.ensures ∙ i.4,
-      λ bytes. T.stale_turn a.s bytes l.marks t.new.1.0 c.count_of-n.result l.i (omega arith) i.2 (omega arith) t.ensures ∙ i.5 bytes,
+      T.act_length M.stale_marks A.stale_length a.s [] l.marks t.new.marks c.count_of-n.result l.i (omega arith) i.2 (omega arith) t.ensures ∙ i.4,
+      λ bytes. T.stale_turn a.s bytes l.marks t.new.marks c.count_of-n.result l.i (omega arith) i.2 (omega arith) t.ensures ∙ i.5 bytes,
     )
 
 pub shape_of-marks : goal.shape_of-marks
@@ -49,12 +53,11 @@ returns c =
     let a = c.args in
     let l = c.loop-i in
     let i = l.invariant in
-    let n = c.count_of-n in (
-      sym (cond_false (ltb (length a.marks.now) 16384) 7 0 (le-ltb _ _ i.3)),
-      (
-        λ bytes. ap (λ (x : List O.OutMsg). record { msgs = x; next_seq = a.s.next })
-            (ap (λ (k : ℕ). S.msgs a.s bytes l.marks k 0) (sym i.1) ∙ L.msgs_end a.s bytes l.marks (map O.stale_in) n.result l.i (omega arith) refl ∙ i.5 bytes
-            ∙ ap (λ (k : ℕ). map O.stale_in (S.msgs a.s bytes a.marks.now k 0)) i.1),
-        λ z. absurd (z refl),
-      ),
-    )
+    let n = c.count_of-n in record {
+      refusal = sym (cond_false (ltb (length a.marks.now) 16384) 7 0 (le-ltb _ _ i.3));
+      outbox =
+          λ bytes. ap (λ (x : List O.OutMsg). record { msgs = x; next_seq = a.s.next })
+          (ap (λ (k : ℕ). S.msgs a.s bytes l.marks k 0) (sym i.1) ∙ L.msgs_end a.s bytes l.marks (map O.stale_in) n.result l.i (omega arith) refl ∙ i.5 bytes
+          ∙ ap (λ (k : ℕ). map O.stale_in (S.msgs a.s bytes a.marks.now k 0)) i.1);
+      untouched = λ z. absurd (z refl);
+    }

@@ -1,6 +1,5 @@
 -- Assumes nothing.
 
-use Prim.Native.Nat.{◌-◌}
 use native.Mathlib.Omega.{arith}
 use Rattle.outbox.specs.Marks as M
 use Rattle.outbox.specs.Senders as S
@@ -15,4 +14,4 @@ returns c =
     let k = c.cut_of-cut in
     let f = c.stale in
     let e = k.ensures in
-    L.back M.stale_marks a.marks.now a.i (S.cut_of a.s a.i) k.result f.new.0 A.stale_length (search rules) (omega arith) (search rules) e.0 f.ensures
+    L.back M.stale_marks a.marks.now a.i (S.cut_of a.s a.i) k.result f.new.marks A.stale_length (search rules) (omega arith) (search rules) e.0 f.ensures

@@ -1,7 +1,7 @@
 -- Assumes nothing.
 
 use mathlib.Core.Path.{sym, ap, ◌∙◌, subst}
-use Prim.Native.Nat.{ℕ, ◌-◌, ◌≤◌}
+use Prim.Native.Nat.{ℕ, ◌≤◌}
 use Rattle.words.specs.Words.{least}
 use Rattle.outbox.proofs.Passes as P
 use Rattle.outbox.proofs.sender.total_of.Goals as goal

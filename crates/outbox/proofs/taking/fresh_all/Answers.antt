@@ -1,7 +1,7 @@
 use mathlib.Core.Path.{◌≡◌, refl, sym, ap, ◌∙◌}
 use mathlib.Core.Bool.{false}
 use mathlib.Core.List.{◌++◌, map}
-use Prim.Native.Nat.{ℕ, ◌+◌, ◌-◌, ◌≤◌, ◌<◌}
+use Prim.Native.Nat.{ℕ, ◌+◌, ◌-◌, ◌<◌}
 use native.Mathlib.Omega.{arith}
 use lib.ListN.{length, get_or}
 use Rattle.outbox.specs.declared.sender.Sender.{Sender}
@@ -37,7 +37,7 @@ pub fresh_at-c-requires : goal.fresh_at-c-requires
 fresh_at-c-requires c = let l = c.loop-i.invariant in let p = c.requires in (omega arith, (p.0, (omega arith, p.1.1)))
 
 pub with_cut-t-requires : goal.with_cut-t-requires
-with_cut-t-requires c = let l = c.loop-i in let i = l.invariant in let f = c.fresh_at-c.ensures.left.1.0.1 in let m = W.total_most l.t l.i in (omega arith, omega arith)
+with_cut-t-requires c = let l = c.loop-i in let i = l.invariant in let f = c.fresh_at-c.ensures.cut.1 in let m = W.total_most l.t l.i in (omega arith, omega arith)
 
 pub loop-i-preserved : goal.loop-i-preserved
 loop-i-preserved c =
@@ -49,7 +49,7 @@ loop-i-preserved c =
     let u = c.with_cut-t in
     let lt = c.loop-i-test.true in
     let n = c.count_of-n.result in
-    let m = t.new.1.1.0 in
+    let m = t.new.marks in
     let h : l.i < n = omega arith in
     let h8 : l.i < 8 = omega arith in
     let e = t.ensures in
@@ -59,14 +59,14 @@ loop-i-preserved c =
       i.1,
       i.2,
       i.3,
-      t.auto.1.1.0 ∙ i.4,
+      t.auto.marks ∙ i.4,
       ap (λ (x : Sender). x.count) u.ensures.0 ∙ i.5,
       ap (λ (x : Sender). x.next) u.ensures.0 ∙ i.6,
       ap (λ (x : Sender). S.msgs x a.bytes.now m (l.i + 1) 0 ++ O.fresh a.max t.result.left (S.msgs x a.bytes.now m (n - (l.i + 1)) (l.i + 1))) u.ensures.0
-          ∙ B.fresh_turn l.t a.bytes.now l.marks m l.i t.result.cut qs h8 u.ensures.1 p.0 e.1.1.1 e.1.1.0.1 a.max l.left t.result.left n h i.2 refl e.1.1.0.0 e.1.0 ∙ i.7,
-      B.passing_turn ps i.8 (B.fresh_rest l.t a.bytes.now l.marks m l.i t.result.cut qs h8 u.ensures.1 p.0 e.1.1.1 e.1.1.0.1 a.max l.left t.result.left n h i.2 refl e.1.1.0.0 e.1.0
-          ∙ ap (λ (x : Sender). ps ++ O.fresh_out a.max t.result.left (S.msgs x a.bytes.now m (n - (l.i + 1)) (l.i + 1))) (sym u.ensures.0)) e.0
-          (e.1.0 ∙ ap (λ (x : ℕ). l.left - x) (sym (length-map (O.cut_up l.left a.max (S.cut_of l.t l.i) (S.total_of l.t l.i) false) (O.sent_piece_of (get_or l.t.seqs l.i 0) (S.part a.bytes.now l.i (S.total_of l.t l.i)))))),
+          ∙ B.fresh_turn l.t a.bytes.now l.marks m l.i t.result.cut qs h8 u.ensures.1 p.0 e.marks e.cut.1 a.max l.left t.result.left n h i.2 refl e.cut.0 e.left ∙ i.7,
+      B.passing_turn ps i.8 (B.fresh_rest l.t a.bytes.now l.marks m l.i t.result.cut qs h8 u.ensures.1 p.0 e.marks e.cut.1 a.max l.left t.result.left n h i.2 refl e.cut.0 e.left
+          ∙ ap (λ (x : Sender). ps ++ O.fresh_out a.max t.result.left (S.msgs x a.bytes.now m (n - (l.i + 1)) (l.i + 1))) (sym u.ensures.0)) e.words
+          (e.left ∙ ap (λ (x : ℕ). l.left - x) (sym (length-map (O.cut_up l.left a.max (S.cut_of l.t l.i) (S.total_of l.t l.i) false) (O.sent_piece_of (get_or l.t.seqs l.i 0) (S.part a.bytes.now l.i (S.total_of l.t l.i)))))),
     )
 
 pub shape_of-marks : goal.shape_of-marks
@@ -82,11 +82,10 @@ returns c =
     let i = l.invariant in
     let n = c.count_of-n.result in
     let z : n - l.i ≡ 0 = omega arith in
-    let e = ap (λ (k : ℕ). O.fresh_out a.max l.left (S.msgs l.t a.bytes.now l.marks k l.i)) z ∙ ap (O.fresh_out a.max l.left) (L.msgs_none l.t a.bytes.now l.marks l.i) ∙ B.fresh_out_nil a.max l.left in (
-      ap (λ (k : ℕ). S.msgs l.t a.bytes.now l.marks k 0) (sym i.1) ∙ L.msgs_end l.t a.bytes.now l.marks (O.fresh a.max l.left) n l.i (omega arith) (B.fresh_nil a.max l.left) ∙ i.7
-          ∙ ap (λ (k : ℕ). O.fresh a.max a.w.left (S.msgs a.s a.bytes.now a.marks.now k 0)) i.1,
-      (
-        wrote_as (B.passing_words i.8 e) (ap (λ (k : ℕ). sent_words (O.fresh_out a.max a.w.left (S.msgs a.s a.bytes.now a.marks.now k 0))) i.1),
-        (B.passing_left i.8 e ∙ ap (λ (k : ℕ). a.w.left - length (O.fresh_out a.max a.w.left (S.msgs a.s a.bytes.now a.marks.now k 0))) i.1, (i.5, i.6)),
-      ),
-    )
+    let e = ap (λ (k : ℕ). O.fresh_out a.max l.left (S.msgs l.t a.bytes.now l.marks k l.i)) z ∙ ap (O.fresh_out a.max l.left) (L.msgs_none l.t a.bytes.now l.marks l.i) ∙ B.fresh_out_nil a.max l.left in record {
+      msgs = ap (λ (k : ℕ). S.msgs l.t a.bytes.now l.marks k 0) (sym i.1) ∙ L.msgs_end l.t a.bytes.now l.marks (O.fresh a.max l.left) n l.i (omega arith) (B.fresh_nil a.max l.left) ∙ i.7
+          ∙ ap (λ (k : ℕ). O.fresh a.max a.w.left (S.msgs a.s a.bytes.now a.marks.now k 0)) i.1;
+      words = wrote_as (B.passing_words i.8 e) (ap (λ (k : ℕ). sent_words (O.fresh_out a.max a.w.left (S.msgs a.s a.bytes.now a.marks.now k 0))) i.1);
+      left = B.passing_left i.8 e ∙ ap (λ (k : ℕ). a.w.left - length (O.fresh_out a.max a.w.left (S.msgs a.s a.bytes.now a.marks.now k 0))) i.1;
+      numbers = (i.5, i.6);
+    }

@@ -1,19 +1,11 @@
 -- The loop's invariant: what is done, with what is to be done, is the whole. Assumes nothing.
 
-use mathlib.Core.Path.{◌≡◌, refl, sym, ap, ◌∙◌}
-use mathlib.Core.Bool.{false}
-use mathlib.Core.List.{◌++◌, map}
-use Prim.Native.Nat.{ℕ, ◌+◌, ◌-◌, ◌≤◌, ◌<◌}
-use native.Mathlib.Omega.{arith}
-use lib.ListN.{length, get_or}
-use Rattle.outbox.specs.declared.sender.Sender.{Sender}
+use mathlib.Core.Path.{◌≡◌}
+use mathlib.Core.List.{◌++◌}
+use Prim.Native.Nat.{◌-◌, ◌≤◌}
+use lib.ListN.{length}
 use Rattle.outbox.specs.Outbox as O
 use Rattle.outbox.specs.Senders as S
-use Rattle.outbox.proofs.Places as L
-use Rattle.outbox.proofs.Sending as W
-use lib.ListN.{length-map}
-use Rattle.out.proofs.Laws.{wrote_as}
-use Rattle.outbox.specs.Bursts.{sent_words}
 use Rattle.outbox.proofs.Bursting as B
 use Rattle.outbox.proofs.taking.fresh_all.Given as goal
 

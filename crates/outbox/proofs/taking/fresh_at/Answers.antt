@@ -42,17 +42,13 @@ returns c =
     let pt : take (2048 * a.i + t.result - 2048 * a.i) (drop (2048 * a.i) a.bytes.now) ≡ S.part a.bytes.now a.i (S.total_of a.s a.i) = ap (λ (n : ℕ). take n (drop (2048 * a.i) a.bytes.now)) zt in
     let q : O.cut_up a.w.left a.max k.result (length (take (2048 * a.i + t.result - 2048 * a.i) (drop (2048 * a.i) a.bytes.now))) false ≡ O.cut_up a.w.left a.max (S.cut_of a.s a.i) (S.total_of a.s a.i) false =
     ap (λ (x : ℕ). O.cut_up a.w.left a.max k.result x false) y ∙ ap (λ (x : ℕ). O.cut_up a.w.left a.max x (S.total_of a.s a.i) false) ek.0 in
-    let fc = f.ensures.left.1.0 in
-    let m = W.total_most a.s a.i in (
-      wrote_as f.ensures.words (ap (λ (x : List O.Piece). sent_words (map (O.sent_piece_of (get_or a.s.seqs a.i 0) (take (2048 * a.i + t.result - 2048 * a.i) (drop (2048 * a.i) a.bytes.now))) x)) q
-          ∙ ap (λ (x : List ℕ). sent_words (map (O.sent_piece_of (get_or a.s.seqs a.i 0) x) (O.cut_up a.w.left a.max (S.cut_of a.s a.i) (S.total_of a.s a.i) false))) pt),
-      (
-        f.ensures.left.0 ∙ ap (λ (x : List O.Piece). a.w.left - length x) q,
-        (
-          (fc.0 ∙ ap (λ (x : ℕ). x + O.lens (O.cut_up a.w.left a.max k.result (length (take (2048 * a.i + t.result - 2048 * a.i) (drop (2048 * a.i) a.bytes.now))) false)) ek.0 ∙ ap (λ (x : List O.Piece). S.cut_of a.s a.i + O.lens x) q, omega (arith, fc.1)),
-          B.begun a.marks.now f.new.1.1.1.1.0 (put_mid (2048 * a.i) (2048 * a.i + 2048 - 2048 * a.i) a.marks.now f.new.1.1.1.1.0) a.i (S.cut_of a.s a.i) f.result.cut (O.cut_up a.w.left a.max (S.cut_of a.s a.i) (S.total_of a.s a.i) false) p.0 p.1.1.0 f.auto.1.1.1.1.0 (omega (arith, fc.1)) (omega arith) refl
-              (f.ensures.left.1.1 ∙ ap (λ (x : ℕ). M.pieces 0 (take x (take (2048 * a.i + 2048 - 2048 * a.i) (drop (2048 * a.i) a.marks.now))) ++ O.cut_up a.w.left a.max k.result (length (take (2048 * a.i + t.result - 2048 * a.i) (drop (2048 * a.i) a.bytes.now))) false) ek.0
-              ∙ ap (λ (x : List O.Piece). M.pieces 0 (take (S.cut_of a.s a.i) (take (2048 * a.i + 2048 - 2048 * a.i) (drop (2048 * a.i) a.marks.now))) ++ x) q),
-        ),
-      ),
-    )
+    let fc = f.ensures.cut in
+    let m = W.total_most a.s a.i in record {
+      words = wrote_as f.ensures.words (ap (λ (x : List O.Piece). sent_words (map (O.sent_piece_of (get_or a.s.seqs a.i 0) (take (2048 * a.i + t.result - 2048 * a.i) (drop (2048 * a.i) a.bytes.now))) x)) q
+          ∙ ap (λ (x : List ℕ). sent_words (map (O.sent_piece_of (get_or a.s.seqs a.i 0) x) (O.cut_up a.w.left a.max (S.cut_of a.s a.i) (S.total_of a.s a.i) false))) pt);
+      left = f.ensures.left ∙ ap (λ (x : List O.Piece). a.w.left - length x) q;
+      cut = (fc.0 ∙ ap (λ (x : ℕ). x + O.lens (O.cut_up a.w.left a.max k.result (length (take (2048 * a.i + t.result - 2048 * a.i) (drop (2048 * a.i) a.bytes.now))) false)) ek.0 ∙ ap (λ (x : List O.Piece). S.cut_of a.s a.i + O.lens x) q, omega (arith, fc.1));
+      marks = B.begun a.marks.now f.new.marks (put_mid (2048 * a.i) (2048 * a.i + 2048 - 2048 * a.i) a.marks.now f.new.marks) a.i (S.cut_of a.s a.i) f.result.cut (O.cut_up a.w.left a.max (S.cut_of a.s a.i) (S.total_of a.s a.i) false) p.0 p.1.1.0 f.auto.marks (omega (arith, fc.1)) (omega arith) refl
+          (f.ensures.marks ∙ ap (λ (x : ℕ). M.pieces 0 (take x (take (2048 * a.i + 2048 - 2048 * a.i) (drop (2048 * a.i) a.marks.now))) ++ O.cut_up a.w.left a.max k.result (length (take (2048 * a.i + t.result - 2048 * a.i) (drop (2048 * a.i) a.bytes.now))) false) ek.0
+          ∙ ap (λ (x : List O.Piece). M.pieces 0 (take (S.cut_of a.s a.i) (take (2048 * a.i + 2048 - 2048 * a.i) (drop (2048 * a.i) a.marks.now))) ++ x) q);
+    }

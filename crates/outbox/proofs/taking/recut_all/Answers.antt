@@ -1,8 +1,7 @@
-use mathlib.Core.Path.{◌≡◌, refl, sym, ap, ◌∙◌}
-use mathlib.Core.List.{List, [], ◌++◌, map}
-use Prim.Native.Nat.{ℕ, ◌+◌, ◌-◌, ◌≤◌}
+use mathlib.Core.Path.{refl, sym, ap, ◌∙◌}
+use mathlib.Core.List.{[], map}
+use Prim.Native.Nat.{ℕ}
 use native.Mathlib.Omega.{arith}
-use lib.ListN.{length}
 use Rattle.outbox.specs.Outbox as O
 use Rattle.outbox.specs.Senders as S
 use Rattle.outbox.proofs.Places as L
@@ -29,8 +28,8 @@ loop-i-preserved c =
       i.1,
       i.2,
       i.3,
-      B.recut_same a.max c.requires.1.0 a.s [] l.marks t.new.1.0 c.count_of-n.result l.i (omega arith) i.2 (omega arith) t.ensures ∙ i.4,
-      λ bytes. B.recut_turn a.max c.requires.1.0 a.s bytes l.marks t.new.1.0 c.count_of-n.result l.i (omega arith) i.2 (omega arith) t.ensures ∙ i.5 bytes,
+      B.recut_same a.max c.requires.1.0 a.s [] l.marks t.new.marks c.count_of-n.result l.i (omega arith) i.2 (omega arith) t.ensures ∙ i.4,
+      λ bytes. B.recut_turn a.max c.requires.1.0 a.s bytes l.marks t.new.marks c.count_of-n.result l.i (omega arith) i.2 (omega arith) t.ensures ∙ i.5 bytes,
     )
 
 pub shape_of-marks : goal.shape_of-marks

@@ -1,14 +1,11 @@
 -- The loop's invariant: what is done, with what is to be done, is the whole. Assumes nothing.
 
-use mathlib.Core.Path.{◌≡◌, refl, sym, ap, ◌∙◌}
-use mathlib.Core.List.{List, [], ◌++◌, map}
-use Prim.Native.Nat.{ℕ, ◌+◌, ◌-◌, ◌≤◌}
-use native.Mathlib.Omega.{arith}
+use mathlib.Core.Path.{◌≡◌}
+use mathlib.Core.List.{List, ◌++◌, map}
+use Prim.Native.Nat.{ℕ, ◌-◌, ◌≤◌}
 use lib.ListN.{length}
 use Rattle.outbox.specs.Outbox as O
 use Rattle.outbox.specs.Senders as S
-use Rattle.outbox.proofs.Places as L
-use Rattle.outbox.proofs.Bursting as B
 use Rattle.outbox.proofs.taking.recut_all.Given as goal
 
 abbrev pub invariant-loop-i : goal.invariant-loop-i

@@ -1,6 +1,5 @@
 -- Assumes nothing.
 
-use Prim.Native.Nat.{◌-◌}
 use native.Mathlib.Omega.{arith}
 use Rattle.outbox.specs.Marks as M
 use Rattle.outbox.specs.Senders as S
@@ -15,4 +14,4 @@ returns c =
     let k = c.cut_of-cut in
     let f = c.recut in
     let e = k.ensures in
-    L.back (M.recut_marks a.max 0 0) a.marks.now a.i (S.cut_of a.s a.i) k.result f.new.0 (A.recut_length a.max (search rules) 0 0) (search rules) (omega arith) (search rules) e.0 f.ensures
+    L.back (M.recut_marks a.max 0 0) a.marks.now a.i (S.cut_of a.s a.i) k.result f.new.marks (A.recut_length a.max (search rules) 0 0) (search rules) (omega arith) (search rules) e.0 f.ensures

@@ -1,6 +1,6 @@
 use mathlib.Core.Path.{◌≡◌, refl, sym, ap, ◌∙◌}
-use mathlib.Core.List.{[], ◌++◌, map}
-use Prim.Native.Nat.{ℕ, ◌+◌, ◌-◌, ◌≤◌, ◌<◌}
+use mathlib.Core.List.{[], map}
+use Prim.Native.Nat.{ℕ, ◌-◌, ◌≤◌, ◌<◌}
 use native.Mathlib.Omega.{arith}
 use lib.ListN.{length, get_or}
 use lib.Dec.{eqb}
@@ -40,7 +40,7 @@ loop-i-preserved c =
     let i = l.invariant in
     let t = c.sweep_at-v in
     let n = c.count_of-n.result in
-    let m = t.new.1.1.0 in
+    let m = t.new.marks in
     let h : l.i < n = omega arith in
     let r : 16384 ≤ length l.marks = omega arith in
     let ps = map (O.sent_piece_of (get_or a.s.seqs l.i 0) (S.part a.bytes.now l.i (S.total_of a.s l.i))) (pass_pieces a.mark l.v.left (S.part l.marks l.i (S.cut_of a.s l.i))) in (
@@ -48,10 +48,10 @@ loop-i-preserved c =
       i.1,
       i.2,
       i.3,
-      B.sweep_same a.mark p.1.1 a.s [] l.marks m n l.i l.v.left t.result.left h i.2 r t.ensures.left.0 t.ensures.left.1 ∙ i.4,
-      B.sweep_turn a.mark p.1.1 a.s a.bytes.now l.marks m n l.i l.v.left t.result.left h i.2 r t.ensures.left.0 t.ensures.left.1 ∙ i.5,
-      B.passing_turn ps i.6 (B.sweep_rest a.mark p.1.1 a.s a.bytes.now l.marks m n l.i l.v.left t.result.left h i.2 r t.ensures.left.0 t.ensures.left.1) t.ensures.words
-          (t.ensures.left.0 ∙ ap (λ (x : ℕ). l.v.left - x) (sym (length-map (pass_pieces a.mark l.v.left (S.part l.marks l.i (S.cut_of a.s l.i))) (O.sent_piece_of (get_or a.s.seqs l.i 0) (S.part a.bytes.now l.i (S.total_of a.s l.i)))))),
+      B.sweep_same a.mark p.1.1 a.s [] l.marks m n l.i l.v.left t.result.left h i.2 r t.ensures.left t.ensures.marks ∙ i.4,
+      B.sweep_turn a.mark p.1.1 a.s a.bytes.now l.marks m n l.i l.v.left t.result.left h i.2 r t.ensures.left t.ensures.marks ∙ i.5,
+      B.passing_turn ps i.6 (B.sweep_rest a.mark p.1.1 a.s a.bytes.now l.marks m n l.i l.v.left t.result.left h i.2 r t.ensures.left t.ensures.marks) t.ensures.words
+          (t.ensures.left ∙ ap (λ (x : ℕ). l.v.left - x) (sym (length-map (pass_pieces a.mark l.v.left (S.part l.marks l.i (S.cut_of a.s l.i))) (O.sent_piece_of (get_or a.s.seqs l.i 0) (S.part a.bytes.now l.i (S.total_of a.s l.i)))))),
     )
 
 pub shape_of-marks : goal.shape_of-marks
@@ -67,11 +67,9 @@ returns c =
     let i = l.invariant in
     let n = c.count_of-n.result in
     let z : n - l.i ≡ 0 = omega arith in
-    let e = ap (λ (k : ℕ). O.sweep_out (eqb a.mark 2) l.v.left (S.msgs a.s a.bytes.now l.marks k l.i)) z ∙ ap (O.sweep_out (eqb a.mark 2) l.v.left) (L.msgs_none a.s a.bytes.now l.marks l.i) ∙ B.out_nil (eqb a.mark 2) l.v.left in (
-      ap (λ (k : ℕ). S.msgs a.s a.bytes.now l.marks k 0) (sym i.1) ∙ L.msgs_end a.s a.bytes.now l.marks (O.sweep (eqb a.mark 2) l.v.left) n l.i (omega arith) (B.sweep_nil (eqb a.mark 2) l.v.left) ∙ i.5
-          ∙ ap (λ (k : ℕ). O.sweep (eqb a.mark 2) a.w.left (S.msgs a.s a.bytes.now a.marks.now k 0)) i.1,
-      (
-        wrote_as (B.passing_words i.6 e) (ap (λ (k : ℕ). sent_words (O.sweep_out (eqb a.mark 2) a.w.left (S.msgs a.s a.bytes.now a.marks.now k 0))) i.1),
-        B.passing_left i.6 e ∙ ap (λ (k : ℕ). a.w.left - length (O.sweep_out (eqb a.mark 2) a.w.left (S.msgs a.s a.bytes.now a.marks.now k 0))) i.1,
-      ),
-    )
+    let e = ap (λ (k : ℕ). O.sweep_out (eqb a.mark 2) l.v.left (S.msgs a.s a.bytes.now l.marks k l.i)) z ∙ ap (O.sweep_out (eqb a.mark 2) l.v.left) (L.msgs_none a.s a.bytes.now l.marks l.i) ∙ B.out_nil (eqb a.mark 2) l.v.left in record {
+      msgs = ap (λ (k : ℕ). S.msgs a.s a.bytes.now l.marks k 0) (sym i.1) ∙ L.msgs_end a.s a.bytes.now l.marks (O.sweep (eqb a.mark 2) l.v.left) n l.i (omega arith) (B.sweep_nil (eqb a.mark 2) l.v.left) ∙ i.5
+          ∙ ap (λ (k : ℕ). O.sweep (eqb a.mark 2) a.w.left (S.msgs a.s a.bytes.now a.marks.now k 0)) i.1;
+      words = wrote_as (B.passing_words i.6 e) (ap (λ (k : ℕ). sent_words (O.sweep_out (eqb a.mark 2) a.w.left (S.msgs a.s a.bytes.now a.marks.now k 0))) i.1);
+      left = B.passing_left i.6 e ∙ ap (λ (k : ℕ). a.w.left - length (O.sweep_out (eqb a.mark 2) a.w.left (S.msgs a.s a.bytes.now a.marks.now k 0))) i.1;
+    }

@@ -1,17 +1,12 @@
 -- The loop's invariant: what is done, with what is to be done, is the whole. Assumes nothing.
 
-use mathlib.Core.Path.{◌≡◌, refl, sym, ap, ◌∙◌}
-use mathlib.Core.List.{[], ◌++◌, map}
-use Prim.Native.Nat.{ℕ, ◌+◌, ◌-◌, ◌≤◌, ◌<◌}
-use native.Mathlib.Omega.{arith}
-use lib.ListN.{length, get_or}
+use mathlib.Core.Path.{◌≡◌}
+use mathlib.Core.List.{◌++◌}
+use Prim.Native.Nat.{◌-◌, ◌≤◌}
+use lib.ListN.{length}
 use lib.Dec.{eqb}
 use Rattle.outbox.specs.Outbox as O
 use Rattle.outbox.specs.Senders as S
-use Rattle.outbox.proofs.Places as L
-use lib.ListN.{length-map}
-use Rattle.out.proofs.Laws.{wrote_as}
-use Rattle.outbox.specs.Bursts.{sent_words, pass_pieces}
 use Rattle.outbox.proofs.Bursting as B
 use Rattle.outbox.proofs.taking.sweep_all.Given as goal
 

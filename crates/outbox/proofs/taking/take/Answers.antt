@@ -3,7 +3,7 @@
 use mathlib.Core.Path.{◌≡◌, refl, sym, ap, ◌∙◌, subst}
 use mathlib.Core.Bool.{true}
 use mathlib.Core.List.{List, []}
-use Prim.Native.Nat.{ℕ, ◌-◌, ◌≤◌}
+use Prim.Native.Nat.{ℕ, ◌≤◌}
 use lib.ListN.{length}
 use lib.Dec.{eqb}
 use borrow.Author.Tests.{ne_eqb}
@@ -22,31 +22,30 @@ returns-then-no-ne0 c =
     let a = c.args in
     let p = c.take_refusal-no in
     let o = S.outbox a.s a.bytes.now a.marks.now in
-    let e = ne_eqb p.result 0 c.if-no-ne0.true in (
-      p.ensures,
-      (
-        sym (cond_false (eqb p.result 0) (O.with_msgs o (O.take_out a.max a.room o).msgs) o e),
-        (wrote_as (wrote_none a.out.now 0) (sym (cond_false (eqb p.result 0) (sent_words (O.take_out a.max a.room o).out) [] e)), λ z. (refl, refl)),
-      ),
-    )
+    let e = ne_eqb p.result 0 c.if-no-ne0.true in record {
+      refusal = p.ensures;
+      outbox = sym (cond_false (eqb p.result 0) (O.with_msgs o (O.take_out a.max a.room o).msgs) o e);
+      words = wrote_as (wrote_none a.out.now 0) (sym (cond_false (eqb p.result 0) (sent_words (O.take_out a.max a.room o).out) [] e));
+      untouched = λ z. (refl, refl);
+    }
 
 pub recut_all-requires : goal.recut_all-requires
 recut_all-requires c = let a = c.args in let o = B.take_open (length a.out.now) (length a.bytes.now) (length a.marks.now) a.max a.room (sym c.take_refusal-no.ensures ∙ c.if-no-ne0.false) in (o.1, (o.2, o.3))
 
 pub sweep_all-w-requires : goal.sweep_all-w-requires
-sweep_all-w-requires c = let a = c.args in let o = B.take_open (length a.out.now) (length a.bytes.now) (length a.marks.now) a.max a.room (sym c.take_refusal-no.ensures ∙ c.if-no-ne0.false) in let k = c.recut_all.auto.1.0 in (o.0, (subst (λ (x : ℕ). 16384 ≤ x) (sym k) o.1, refl))
+sweep_all-w-requires c = let a = c.args in let o = B.take_open (length a.out.now) (length a.bytes.now) (length a.marks.now) a.max a.room (sym c.take_refusal-no.ensures ∙ c.if-no-ne0.false) in let k = c.recut_all.auto.marks in (o.0, (subst (λ (x : ℕ). 16384 ≤ x) (sym k) o.1, refl))
 
 pub fresh_all-f-requires : goal.fresh_all-f-requires
-fresh_all-f-requires c = let a = c.args in let o = B.take_open (length a.out.now) (length a.bytes.now) (length a.marks.now) a.max a.room (sym c.take_refusal-no.ensures ∙ c.if-no-ne0.false) in let k = c.sweep_all-w.auto.1.1.0 ∙ c.recut_all.auto.1.0 in (o.0, (subst (λ (x : ℕ). 16384 ≤ x) (sym k) o.1, o.2))
+fresh_all-f-requires c = let a = c.args in let o = B.take_open (length a.out.now) (length a.bytes.now) (length a.marks.now) a.max a.room (sym c.take_refusal-no.ensures ∙ c.if-no-ne0.false) in let k = c.sweep_all-w.auto.marks ∙ c.recut_all.auto.marks in (o.0, (subst (λ (x : ℕ). 16384 ≤ x) (sym k) o.1, o.2))
 
 pub sweep_all-v-requires : goal.sweep_all-v-requires
-sweep_all-v-requires c = let a = c.args in let o = B.take_open (length a.out.now) (length a.bytes.now) (length a.marks.now) a.max a.room (sym c.take_refusal-no.ensures ∙ c.if-no-ne0.false) in let k = c.fresh_all-f.auto.1.1.0 ∙ c.sweep_all-w.auto.1.1.0 ∙ c.recut_all.auto.1.0 in (o.0, (subst (λ (x : ℕ). 16384 ≤ x) (sym k) o.1, refl))
+sweep_all-v-requires c = let a = c.args in let o = B.take_open (length a.out.now) (length a.bytes.now) (length a.marks.now) a.max a.room (sym c.take_refusal-no.ensures ∙ c.if-no-ne0.false) in let k = c.fresh_all-f.auto.marks ∙ c.sweep_all-w.auto.marks ∙ c.recut_all.auto.marks in (o.0, (subst (λ (x : ℕ). 16384 ≤ x) (sym k) o.1, refl))
 
 pub shape_of-marks : goal.shape_of-marks
-shape_of-marks c = c.sweep_all-v.auto.1.1.0 ∙ c.fresh_all-f.auto.1.1.0 ∙ c.sweep_all-w.auto.1.1.0 ∙ c.recut_all.auto.1.0
+shape_of-marks c = c.sweep_all-v.auto.marks ∙ c.fresh_all-f.auto.marks ∙ c.sweep_all-w.auto.marks ∙ c.recut_all.auto.marks
 
 pub shape_of-out : goal.shape_of-out
-shape_of-out c = c.sweep_all-v.auto.1.1.1.1.0 ∙ c.fresh_all-f.auto.1.1.1.1.0 ∙ c.sweep_all-w.auto.1.1.1.1.0
+shape_of-out c = c.sweep_all-v.auto.out ∙ c.fresh_all-f.auto.out ∙ c.sweep_all-w.auto.out
 
 pub returns : goal.returns
 returns c =
@@ -58,22 +57,20 @@ returns c =
     let o = S.outbox a.s a.bytes.now a.marks.now in
     let n = S.count_of a.s in
     let t = f.result.sender in
-    let en : S.count_of f.result.sender ≡ S.count_of a.s = ap (λ (x : ℕ). least x 8) f.ensures.words.1.1.0 in
-    let B1 = S.msgs a.s a.bytes.now r.new.1.0 (S.count_of a.s) 0 in
-    let B2 = S.msgs a.s a.bytes.now w.new.1.1.0 (S.count_of a.s) 0 in
-    let B3 = S.msgs f.result.sender a.bytes.now f.new.1.1.0 (S.count_of a.s) 0 in
-    let B4 = S.msgs f.result.sender a.bytes.now v.new.1.1.0 (S.count_of f.result.sender) 0 in
-    let e3 = ap (λ (k : ℕ). S.msgs f.result.sender a.bytes.now f.new.1.1.0 k 0) en in
+    let en : S.count_of f.result.sender ≡ S.count_of a.s = ap (λ (x : ℕ). least x 8) f.ensures.numbers.0 in
+    let B1 = S.msgs a.s a.bytes.now r.new.marks (S.count_of a.s) 0 in
+    let B2 = S.msgs a.s a.bytes.now w.new.marks (S.count_of a.s) 0 in
+    let B3 = S.msgs f.result.sender a.bytes.now f.new.marks (S.count_of a.s) 0 in
+    let B4 = S.msgs f.result.sender a.bytes.now v.new.marks (S.count_of f.result.sender) 0 in
+    let e3 = ap (λ (k : ℕ). S.msgs f.result.sender a.bytes.now f.new.marks k 0) en in
     let e4 = v.ensures.msgs ∙ ap (O.sweep true f.result.left) e3 in
-    let w3 = wrote_as v.ensures.words.0 (ap (λ (x : List O.OutMsg). sent_words (O.sweep_out true f.result.left x)) e3) in (
-      sym (sym c.take_refusal-no.ensures ∙ c.if-no-ne0.false),
-      (
-        ap (λ (x : List O.OutMsg). record { msgs = x; next_seq = f.result.sender.next })
-            (B.take_msgs a.max a.room o B1 B2 B3 B4 w.result.left f.result.left (r.ensures a.bytes.now) w.ensures.msgs w.ensures.words.0 w.ensures.words.1 f.ensures.msgs f.ensures.words.0 f.ensures.words.1.0 e4 w3)
-            ∙ ap (λ (x : ℕ). record { msgs = (O.take_out a.max a.room o).msgs; next_seq = x }) f.ensures.words.1.1.1,
-        (
-          B.take_words a.max a.room o B1 B2 B3 B4 w.result.left f.result.left (r.ensures a.bytes.now) w.ensures.msgs w.ensures.words.0 w.ensures.words.1 f.ensures.msgs f.ensures.words.0 f.ensures.words.1.0 e4 w3,
-          λ z. absurd (z refl),
-        ),
-      ),
-    )
+    let w3 = wrote_as v.ensures.words (ap (λ (x : List O.OutMsg). sent_words (O.sweep_out true f.result.left x)) e3) in record {
+      refusal = sym (sym c.take_refusal-no.ensures ∙ c.if-no-ne0.false);
+      outbox =
+          ap (λ (x : List O.OutMsg). record { msgs = x; next_seq = f.result.sender.next })
+          (B.take_msgs a.max a.room o B1 B2 B3 B4 w.result.left f.result.left (r.ensures a.bytes.now) w.ensures.msgs w.ensures.words w.ensures.left f.ensures.msgs f.ensures.words f.ensures.left e4 w3)
+          ∙ ap (λ (x : ℕ). record { msgs = (O.take_out a.max a.room o).msgs; next_seq = x }) f.ensures.numbers.1;
+      words =
+          B.take_words a.max a.room o B1 B2 B3 B4 w.result.left f.result.left (r.ensures a.bytes.now) w.ensures.msgs w.ensures.words w.ensures.left f.ensures.msgs f.ensures.words f.ensures.left e4 w3;
+      untouched = λ z. absurd (z refl);
+    }

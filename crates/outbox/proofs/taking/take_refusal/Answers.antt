@@ -1,6 +1,5 @@
 -- By cases. Assumes nothing.
 
-use Prim.Native.Nat.{◌-◌}
 use borrow.Author.Tests.{eq-eqb, ne_eqb, lt-ltb, le-ltb}
 use Rattle.outbox.proofs.taking.take_refusal.Goals as goal
 
