@@ -375,7 +375,7 @@ module _ (slot : ℕ) (low : slot < 62) (bodies : List (List ℕ)) (small : (k :
       let x = piece bs sent j in
       let m = h.1 in
       let n = small x.seq in
-      let f = c.ranges in
+      let f = c.fits in
       let o : field % 65536 ≡ x.off = ap (λ (y : ℕ). y % 65536) m.field_is ∙ (field_parts x.seq x.off (omega arith)).1 in
       let w : length p ≡ length x.bytes = ap length m.bytes_are in
       (i, λ y u v. subst (λ (z : ℕ). l.covered slot z y ≡ true) m.number_is (k h.0 y (omega arith) (omega arith)))
