@@ -1,5 +1,4 @@
 -- Assumes nothing.
-
 use borrow.Author.Tests.{eq-eqb, ne_eqb}
 use Rattle.out.proofs.Laws.{then}
 use Rattle.admit.proofs.admit_events.Goals as goal

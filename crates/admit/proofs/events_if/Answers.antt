@@ -1,5 +1,4 @@
 -- Assumes nothing.
-
 use Rattle.out.proofs.Laws.{wrote_none}
 use Rattle.admit.proofs.events_if.Goals as goal
 

@@ -1,9 +1,8 @@
-use mathlib.Core.Path.{◌≡◌, refl, sym, ◌∙◌}
-use Prim.Native.Nat.{◌≤◌, ◌-◌}
+use mathlib.Core.Path.{refl, sym, ◌∙◌}
+use Prim.Native.Nat.{◌-◌}
 use native.Mathlib.Omega.{arith}
-use Rattle.bits.specs.Loop.{first}
 use Rattle.bits.proofs.Loops.{first_pass, first_stop, first_end}
-use Rattle.admit.specs.Admission.{find_call, has_call}
+use Rattle.admit.specs.Admission.{find_call}
 use Rattle.admit.proofs.find_call.Goals as goal
 
 pub loop-i-init : goal.loop-i-init

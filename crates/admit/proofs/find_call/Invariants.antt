@@ -1,10 +1,7 @@
 -- Assumes nothing.
-
-use mathlib.Core.Path.{◌≡◌, refl, sym, ◌∙◌}
+use mathlib.Core.Path.{◌≡◌}
 use Prim.Native.Nat.{◌≤◌, ◌-◌}
-use native.Mathlib.Omega.{arith}
 use Rattle.bits.specs.Loop.{first}
-use Rattle.bits.proofs.Loops.{first_pass, first_stop, first_end}
 use Rattle.admit.specs.Admission.{find_call, has_call}
 use Rattle.admit.proofs.find_call.Given as goal
 

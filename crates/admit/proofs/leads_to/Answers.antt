@@ -1,9 +1,7 @@
-use mathlib.Core.Path.{◌≡◌, refl, sym, ◌∙◌}
-use Prim.Native.Nat.{◌≤◌, ◌-◌}
+use mathlib.Core.Path.{refl, sym, ◌∙◌}
+use Prim.Native.Nat.{◌-◌}
 use native.Mathlib.Omega.{arith}
-use borrow.Author.Tests.{not-true, not-false}
 use Rattle.net.proofs.Laws.{index_lt}
-use Rattle.admit.specs.Admission.{leads_to}
 use Rattle.admit.proofs.Laws.{leads_there, leads_off, leads_on, leads_end}
 use Rattle.admit.proofs.leads_to.Goals as goal
 

@@ -1,12 +1,7 @@
 -- Assumes nothing.
-
-use mathlib.Core.Path.{◌≡◌, refl, sym, ◌∙◌}
+use mathlib.Core.Path.{◌≡◌}
 use Prim.Native.Nat.{◌≤◌, ◌-◌}
-use native.Mathlib.Omega.{arith}
-use borrow.Author.Tests.{not-true, not-false}
-use Rattle.net.proofs.Laws.{index_lt}
 use Rattle.admit.specs.Admission.{leads_to}
-use Rattle.admit.proofs.Laws.{leads_there, leads_off, leads_on, leads_end}
 use Rattle.admit.proofs.leads_to.Given as goal
 
 abbrev pub invariant-loop-n : goal.invariant-loop-n

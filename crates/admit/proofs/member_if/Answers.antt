@@ -1,5 +1,4 @@
 -- Assumes nothing.
-
 use Rattle.admit.proofs.member_if.Goals as goal
 
 pub returns-then-fresh : goal.returns-then-fresh

@@ -1,5 +1,4 @@
 -- Assumes nothing.
-
 use mathlib.Core.Path.{sym, ◌∙◌}
 use Rattle.admit.proofs.Laws.{seat_known, seat_newcomer, seat_none}
 use Rattle.admit.proofs.seat_of.Goals as goal

@@ -1,5 +1,4 @@
 -- Assumes nothing.
-
 use Rattle.admit.proofs.with_if.Goals as goal
 
 pub returns-then-yes : goal.returns-then-yes

@@ -1,5 +1,4 @@
 -- Assumes nothing.
-
 use mathlib.Core.Path.{refl}
 use Rattle.bits.specs.Mask.{both_of}
 use Rattle.bits.proofs.both.Goals as goal

@@ -1,5 +1,4 @@
 -- Assumes nothing.
-
 use mathlib.Core.Path.{refl}
 use Rattle.bits.specs.Mask.{either_of}
 use Rattle.bits.proofs.either.Goals as goal

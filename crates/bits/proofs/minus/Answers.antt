@@ -1,5 +1,4 @@
 -- Assumes nothing.
-
 use mathlib.Core.Path.{refl}
 use Rattle.bits.specs.Mask.{minus_of}
 use Rattle.bits.proofs.minus.Goals as goal

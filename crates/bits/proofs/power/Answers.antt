@@ -1,5 +1,4 @@
 -- Assumes nothing.
-
 use native.Mathlib.Nat.{one-mul, mod-eq_of_lt}
 use lib.Pow.{pow-lt}
 use Rattle.bits.proofs.power.Goals as goal

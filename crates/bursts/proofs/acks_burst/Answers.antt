@@ -1,5 +1,4 @@
 -- Assumes nothing.
-
 use Rattle.bursts.specs.Bursts.{acks_burst}
 use Rattle.bursts.proofs.acks_burst.Goals as goal
 

@@ -1,5 +1,4 @@
 -- Assumes nothing.
-
 use mathlib.Core.Path.{refl}
 use Rattle.out.proofs.Laws.{then, wrote_as}
 use Rattle.bursts.specs.Bursts.{acks_burst}

@@ -1,5 +1,4 @@
 -- Assumes nothing.
-
 use Rattle.bursts.specs.Bursts.{beacon_payload}
 use Rattle.bursts.proofs.beacon_payload.Goals as goal
 

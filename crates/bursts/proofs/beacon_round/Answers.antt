@@ -1,5 +1,4 @@
 -- Assumes nothing.
-
 use native.Mathlib.Omega.{arith}
 use Rattle.out.proofs.Laws.{then, wrote_as}
 use mathlib.Core.Path.{◌≡◌, ap, ◌∙◌}

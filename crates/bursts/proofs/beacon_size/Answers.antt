@@ -1,5 +1,4 @@
 -- Assumes nothing.
-
 use Rattle.bursts.proofs.beacon_size.Goals as goal
 
 pub returns-then-g : goal.returns-then-g

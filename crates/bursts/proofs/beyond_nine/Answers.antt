@@ -1,7 +1,6 @@
-use mathlib.Core.Path.{◌≡◌, refl, sym, ◌∙◌}
-use Prim.Native.Nat.{◌≤◌, ◌-◌}
+use mathlib.Core.Path.{refl, sym, ◌∙◌}
+use Prim.Native.Nat.{◌-◌}
 use native.Mathlib.Omega.{arith}
-use Rattle.bursts.specs.Bursts.{beyond}
 use Rattle.bursts.proofs.Waiting.{beyond_turn, beyond_end}
 use Rattle.bursts.proofs.beyond_nine.Goals as goal
 

@@ -1,10 +1,7 @@
 -- Assumes nothing.
-
-use mathlib.Core.Path.{◌≡◌, refl, sym, ◌∙◌}
+use mathlib.Core.Path.{◌≡◌}
 use Prim.Native.Nat.{◌≤◌, ◌-◌}
-use native.Mathlib.Omega.{arith}
 use Rattle.bursts.specs.Bursts.{beyond}
-use Rattle.bursts.proofs.Waiting.{beyond_turn, beyond_end}
 use Rattle.bursts.proofs.beyond_nine.Given as goal
 
 abbrev pub invariant-loop-i : goal.invariant-loop-i

@@ -1,5 +1,4 @@
 -- Assumes nothing.
-
 use Rattle.bursts.proofs.first_ms.Goals as goal
 
 pub beacon_lasts-requires : goal.beacon_lasts-requires

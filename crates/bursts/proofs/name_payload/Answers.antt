@@ -1,5 +1,4 @@
 -- Assumes nothing.
-
 use Rattle.bursts.proofs.name_payload.Goals as goal
 
 pub pack_call-c-requires : goal.pack_call-c-requires

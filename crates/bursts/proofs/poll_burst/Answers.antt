@@ -1,5 +1,4 @@
 -- Assumes nothing.
-
 use Rattle.out.proofs.Laws.{wrote_as}
 use Rattle.bursts.specs.Bursts.{poll_burst}
 use Rattle.bursts.proofs.poll_burst.Goals as goal

@@ -1,5 +1,4 @@
 -- Assumes nothing.
-
 use Rattle.bursts.proofs.poll_level.Goals as goal
 
 pub down_level-requires : goal.down_level-requires

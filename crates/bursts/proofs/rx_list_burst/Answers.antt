@@ -1,5 +1,4 @@
 -- Assumes nothing.
-
 use Rattle.out.proofs.Laws.{then, wrote_none, wrote_as}
 use Rattle.bursts.specs.Bursts.{rx_list_burst}
 use Rattle.bursts.proofs.Listing.{sent_by_lem}

@@ -1,9 +1,8 @@
-use mathlib.Core.Path.{◌≡◌, refl, sym, ◌∙◌}
-use Prim.Native.Nat.{◌≤◌, ◌-◌}
+use mathlib.Core.Path.{refl, sym, ◌∙◌}
+use Prim.Native.Nat.{◌-◌}
 use native.Mathlib.Omega.{arith}
-use Rattle.bits.specs.Loop.{fold}
 use Rattle.bits.proofs.Loops.{fold_turn, fold_end}
-use Rattle.bursts.specs.Bursts.{tell_at, tell_all}
+use Rattle.bursts.specs.Bursts.{tell_all}
 use Rattle.bursts.proofs.tell_all.Goals as goal
 
 pub loop-i-init : goal.loop-i-init

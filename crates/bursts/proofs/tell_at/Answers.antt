@@ -1,5 +1,4 @@
 -- Assumes nothing.
-
 use Rattle.bursts.proofs.tell_at.Goals as goal
 
 pub is_news-requires : goal.is_news-requires

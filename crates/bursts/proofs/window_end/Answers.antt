@@ -1,5 +1,4 @@
 -- Assumes nothing.
-
 use Rattle.bursts.proofs.window_end.Goals as goal
 
 pub beacon_lasts-requires : goal.beacon_lasts-requires

@@ -1,5 +1,4 @@
 -- Assumes nothing.
-
 use Rattle.bursts.proofs.without_lowest.Goals as goal
 
 pub returns-in-At : goal.returns-in-At

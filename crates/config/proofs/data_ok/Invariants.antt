@@ -1,13 +1,9 @@
 -- Assumes nothing.
-
-use mathlib.Core.Path.{◌≡◌, refl, sym, ◌∙◌}
+use mathlib.Core.Path.{◌≡◌}
 use Prim.Native.Nat.{◌≤◌, ◌-◌}
-use native.Mathlib.Omega.{arith}
-use borrow.Author.Tests.{not-true, not-false}
 use lib.ListN.{get_or}
 use lib.Ieee.{nan}
 use Rattle.bits.specs.Loop.{every}
-use Rattle.bits.proofs.Loops.{every_pass, every_stop, every_end}
 use Rattle.config.specs.Checks.{span_ok, data_ok}
 use Rattle.config.proofs.data_ok.Given as goal
 

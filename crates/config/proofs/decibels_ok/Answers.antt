@@ -1,5 +1,4 @@
 -- Assumes nothing.
-
 use Rattle.config.proofs.decibels_ok.Goals as goal
 
 pub returns : goal.returns

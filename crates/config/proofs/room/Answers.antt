@@ -1,8 +1,7 @@
-use mathlib.Core.Path.{◌≡◌, refl, sym, ◌∙◌}
-use Prim.Native.Nat.{◌-◌, ◌≤◌}
+use mathlib.Core.Path.{refl, sym, ◌∙◌}
+use Prim.Native.Nat.{◌-◌}
 use native.Mathlib.Omega.{arith}
-use borrow.Author.Tests.{not-true, not-false}
-use Rattle.config.specs.Checks.{room_on, room}
+use Rattle.config.specs.Checks.{room}
 use Rattle.config.proofs.Laws.{room_more, room_stop, room_end}
 use Rattle.config.proofs.room.Goals as goal
 

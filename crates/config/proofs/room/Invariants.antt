@@ -1,11 +1,7 @@
 -- Assumes nothing.
-
-use mathlib.Core.Path.{◌≡◌, refl, sym, ◌∙◌}
+use mathlib.Core.Path.{◌≡◌}
 use Prim.Native.Nat.{◌-◌, ◌≤◌}
-use native.Mathlib.Omega.{arith}
-use borrow.Author.Tests.{not-true, not-false}
 use Rattle.config.specs.Checks.{room_on, room}
-use Rattle.config.proofs.Laws.{room_more, room_stop, room_end}
 use Rattle.config.proofs.room.Given as goal
 
 abbrev pub invariant-loop-n : goal.invariant-loop-n

@@ -1,8 +1,8 @@
 use mathlib.Core.Path.{◌≡◌, refl, ap, ◌∙◌}
-use mathlib.Core.List.{List, ◌++◌, append-nil}
-use Prim.Native.Nat.{ℕ, ◌-◌, ◌≤◌}
+use mathlib.Core.List.{List, append-nil}
+use Prim.Native.Nat.{ℕ, ◌-◌}
 use native.Mathlib.Omega.{arith}
-use lib.ListN.{set, replicate}
+use lib.ListN.{set}
 use Rattle.config.specs.Checks.{rooms_from}
 use Rattle.config.proofs.Laws.{rooms_next}
 use Rattle.config.proofs.rooms.Goals as goal

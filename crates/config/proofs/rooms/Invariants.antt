@@ -1,12 +1,9 @@
 -- The invariant: the rooms of the first i levels stand, and zeros behind them. Assumes nothing.
-
-use mathlib.Core.Path.{◌≡◌, refl, ap, ◌∙◌}
-use mathlib.Core.List.{List, ◌++◌, append-nil}
-use Prim.Native.Nat.{ℕ, ◌-◌, ◌≤◌}
-use native.Mathlib.Omega.{arith}
-use lib.ListN.{set, replicate}
+use mathlib.Core.Path.{◌≡◌}
+use mathlib.Core.List.{◌++◌}
+use Prim.Native.Nat.{◌-◌, ◌≤◌}
+use lib.ListN.{replicate}
 use Rattle.config.specs.Checks.{rooms_from}
-use Rattle.config.proofs.Laws.{rooms_next}
 use Rattle.config.proofs.rooms.Given as goal
 
 abbrev pub invariant-loop-i : goal.invariant-loop-i

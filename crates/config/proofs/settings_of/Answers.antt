@@ -1,5 +1,4 @@
 -- Assumes nothing.
-
 use Rattle.config.proofs.settings_of.Goals as goal
 
 pub returns : goal.returns

@@ -1,5 +1,4 @@
 -- Assumes nothing.
-
 use Rattle.config.specs.Checks.{settings_ok}
 use Rattle.config.proofs.settings_ok.Goals as goal
 

@@ -1,5 +1,4 @@
 -- Assumes nothing.
-
 use native.Mathlib.Omega.{arith}
 use Rattle.dues.specs.Dues.{started256}
 use Rattle.dues.proofs.Cents.{charge_free, charge_low, charge_high}

@@ -1,5 +1,4 @@
 -- Assumes nothing.
-
 use Rattle.dues.proofs.charge_in.Goals as goal
 
 pub returns-then-is_member : goal.returns-then-is_member

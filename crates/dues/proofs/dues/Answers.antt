@@ -1,10 +1,9 @@
-use Prim.Native.Nat.{◌≤◌, ◌-◌}
+use Prim.Native.Nat.{◌-◌}
 use native.Mathlib.Omega.{arith}
-use mathlib.Core.Path.{◌≡◌, refl, sym, ◌∙◌}
+use mathlib.Core.Path.{refl, sym, ◌∙◌}
 use mathlib.Core.Bool.{true}
-use borrow.Author.Tests.{not-true, not-false}
 use Rattle.dues.specs.Dues.{figures_ok, dues_of}
-use Rattle.dues.proofs.Lines.{Reckoned, reckoned_start, line_lt, reckoned_turn, credit_below, taking_below, reckoned_end, figures_many, credit_most, takings_most}
+use Rattle.dues.proofs.Lines.{reckoned_start, line_lt, reckoned_turn, credit_below, taking_below, reckoned_end, figures_many, credit_most, takings_most}
 use Rattle.dues.proofs.dues.Goals as goal
 
 pub figures_ok-requires : goal.figures_ok-requires

@@ -1,13 +1,9 @@
 -- Assumes nothing.
-
-use mathlib.Core.Path.{◌≡◌, sym, ◌∙◌}
+use mathlib.Core.Path.{◌≡◌}
 use Prim.Native.Nat.{◌≤◌, ◌-◌}
-use native.Mathlib.Omega.{arith}
 use lib.Dec.{leb}
 use lib.ListN.{length, get_or}
-use borrow.Author.Tests.{eq-eqb, ne_eqb, le-leb, lt-leb}
 use Rattle.bits.specs.Loop.{every}
-use Rattle.bits.proofs.Loops.{every_pass, every_stop, every_end}
 use Rattle.dues.specs.Dues.{figures_ok}
 use Rattle.dues.proofs.figures_ok.Given as goal
 

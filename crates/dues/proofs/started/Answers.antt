@@ -1,5 +1,4 @@
 -- Assumes nothing.
-
 use Rattle.dues.proofs.Cents.{started_whole, started_begun}
 use Rattle.dues.proofs.started.Goals as goal
 

@@ -1,5 +1,4 @@
 -- Assumes nothing.
-
 use borrow.Author.Tests.{eq-eqb, ne_eqb}
 use Rattle.dues.proofs.Cents.{less_tenth}
 use Rattle.dues.proofs.taking.Goals as goal

@@ -1,5 +1,4 @@
 -- Assumes nothing.
-
 use Rattle.dues.proofs.tenth_to.Goals as goal
 
 pub returns-then-here : goal.returns-then-here

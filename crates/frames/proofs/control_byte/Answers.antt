@@ -1,5 +1,4 @@
 -- Assumes nothing.
-
 use Rattle.frames.proofs.control_byte.Goals as goal
 
 pub returns-then-f : goal.returns-then-f

@@ -1,5 +1,4 @@
 -- Assumes nothing.
-
 use Rattle.frames.proofs.next_frame.Goals as goal
 
 pub returns : goal.returns

@@ -1,5 +1,4 @@
 -- `level::is_nan` meets its contract, by cases on the value. Assumes nothing.
-
 use Rattle.level.proofs.Total.{nan_alone}
 use Rattle.level.proofs.is_nan.Goals as goal
 

@@ -1,5 +1,4 @@
 -- `level::is_negative` meets its contract, by cases on the value. Assumes nothing.
-
 use lib.Ieee.{of_bits}
 use Rattle.level.proofs.Sign.{sign_of_zero, sign_of_other}
 use Rattle.level.proofs.is_negative.Goals as goal

@@ -1,5 +1,4 @@
 -- `level::least` meets its contract. Assumes nothing.
-
 use Rattle.level.proofs.least.Goals as goal
 
 pub returns-then-is_nan-b : goal.returns-then-is_nan-b

@@ -1,5 +1,4 @@
 -- `level::level_for` meets its contract: the arm knows which variant `x` is. Assumes nothing.
-
 use mathlib.Core.Path.{sym, ap, ◌∙◌}
 use Rattle.level.specs.Levels.{level_for}
 use Rattle.level.proofs.level_for.Goals as goal

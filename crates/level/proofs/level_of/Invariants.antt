@@ -1,11 +1,8 @@
 -- `level::level_of` meets its contract. The invariant: no level from l on is reached, so the answer is that among those below l. The measure is l.
 -- Assumes nothing.
-
-use mathlib.Core.Path.{◌≡◌, refl, sym, ap, ◌∙◌}
+use mathlib.Core.Path.{◌≡◌}
 use Prim.Native.Nat.{◌≤◌}
-use native.Mathlib.Omega.{arith}
 use Rattle.level.specs.Levels.{level_below}
-use Rattle.level.proofs.Levels.{hit, miss}
 use Rattle.level.proofs.level_of.Given as goal
 
 abbrev pub invariant-loop-l : goal.invariant-loop-l

@@ -1,5 +1,4 @@
 -- `level::level_ok` meets its contract, by the law of spans at 200. Assumes nothing.
-
 use mathlib.Core.Path.{refl}
 use lib.Ieee.{binary32, of_bits}
 use Rattle.level.proofs.Spans.{within_law}

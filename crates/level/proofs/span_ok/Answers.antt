@@ -1,5 +1,4 @@
 -- `level::span_ok` meets its contract, by the law of spans at 1000000. Assumes nothing.
-
 use mathlib.Core.Path.{refl}
 use lib.Ieee.{binary64, of_bits}
 use Rattle.level.proofs.Spans.{span_law}

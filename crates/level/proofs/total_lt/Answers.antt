@@ -1,5 +1,4 @@
 -- `level::total_lt` meets its contract. Assumes nothing.
-
 use Rattle.level.specs.Order.{total_lt}
 use Rattle.level.proofs.total_lt.Goals as goal
 

@@ -1,7 +1,5 @@
 -- Assumes nothing.
-
 use mathlib.Core.Path.{sym, ◌∙◌}
-use borrow.Author.Tests.{not-true, not-false}
 use Rattle.bits.proofs.Lists.{cond_false}
 use Rattle.logs.specs.Steps.{count_step}
 use Rattle.logs.proofs.count_step.Goals as goal

@@ -1,5 +1,4 @@
 -- Assumes nothing.
-
 use mathlib.Core.Path.{sym, ap, ◌∙◌}
 use Rattle.logs.specs.Reading.{frame_part}
 use Rattle.logs.proofs.frame_part.Goals as goal

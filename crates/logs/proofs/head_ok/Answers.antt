@@ -1,5 +1,4 @@
 -- Assumes nothing.
-
 use borrow.Author.Tests.{ne_eqb, eq-eqb}
 use Rattle.words.specs.Words.{head_ok}
 use Rattle.logs.proofs.head_ok.Goals as goal

@@ -1,8 +1,7 @@
-use mathlib.Core.Path.{◌≡◌, refl, ◌∙◌}
-use Prim.Native.Nat.{◌≤◌, ◌-◌}
+use mathlib.Core.Path.{refl, ◌∙◌}
+use Prim.Native.Nat.{◌-◌}
 use native.Mathlib.Omega.{arith}
-use lib.ListN.{length, drop}
-use Rattle.logs.specs.Steps.{walk, marks, mark_step}
+use Rattle.logs.specs.Steps.{mark_step}
 use Rattle.logs.proofs.Parts.{walk_end, walk_step}
 use Rattle.logs.proofs.Lists.{marks_walk, ends_good, ends_short}
 use Rattle.logs.proofs.marks_ok.Goals as goal

@@ -1,12 +1,8 @@
 -- Assumes nothing.
-
-use mathlib.Core.Path.{◌≡◌, refl, ◌∙◌}
+use mathlib.Core.Path.{◌≡◌}
 use Prim.Native.Nat.{◌≤◌, ◌-◌}
-use native.Mathlib.Omega.{arith}
 use lib.ListN.{length, drop}
 use Rattle.logs.specs.Steps.{walk, marks, mark_step}
-use Rattle.logs.proofs.Parts.{walk_end, walk_step}
-use Rattle.logs.proofs.Lists.{marks_walk, ends_good, ends_short}
 use Rattle.logs.proofs.marks_ok.Given as goal
 
 abbrev pub invariant-loop-i : goal.invariant-loop-i

@@ -1,8 +1,6 @@
-use mathlib.Core.Path.{◌≡◌, refl, sym, ◌∙◌}
-use Prim.Native.Nat.{◌≤◌, ◌-◌}
+use mathlib.Core.Path.{refl, sym, ◌∙◌}
+use Prim.Native.Nat.{◌-◌}
 use native.Mathlib.Omega.{arith}
-use lib.ListN.{length, drop}
-use Rattle.logs.specs.Reading.{sendings_ok, parts_from}
 use Rattle.logs.proofs.Parts.{part_within, parts_bad, parts_more, parts_end}
 use Rattle.logs.proofs.sendings_ok.Goals as goal
 

@@ -1,8 +1,6 @@
 -- Assumes nothing.
-
 use mathlib.Core.Path.{sym, ◌∙◌}
 use native.Mathlib.Omega.{arith}
-use borrow.Author.Tests.{not-true, not-false}
 use Rattle.logs.proofs.Lists.{fits_bad, fits_high, fits_by}
 use Rattle.logs.proofs.slot_ok.Goals as goal
 

@@ -1,8 +1,6 @@
 -- Assumes nothing.
-
 use mathlib.Core.Path.{sym, ap, ◌∙◌}
 use Prim.Native.Nat.{ℕ, ◌-◌}
-use borrow.Author.Tests.{not-true, not-false}
 use Rattle.bits.proofs.Lists.{cond_true, cond_false}
 use Rattle.logs.specs.Steps.{slot_step, marks}
 use Rattle.logs.proofs.slot_step.Goals as goal

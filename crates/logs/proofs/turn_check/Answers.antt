@@ -1,7 +1,5 @@
 -- Assumes nothing.
-
 use mathlib.Core.Path.{sym, ◌∙◌}
-use borrow.Author.Tests.{not-true, not-false}
 use Rattle.bits.proofs.Lists.{cond_true, cond_false}
 use Rattle.logs.specs.Turns.{verdict_of}
 use Rattle.logs.proofs.turn_check.Goals as goal

@@ -1,10 +1,9 @@
-use mathlib.Core.Path.{◌≡◌, refl, sym, ap, ◌∙◌}
-use Prim.Native.Nat.{◌≤◌, ◌-◌}
+use mathlib.Core.Path.{refl, sym, ap, ◌∙◌}
+use Prim.Native.Nat.{◌-◌}
 use native.Mathlib.Omega.{arith}
-use lib.ListN.{length, drop}
 use Rattle.logs.specs.declared.Watch.{Watch}
 use Rattle.logs.specs.Reading.{entries_of}
-use Rattle.logs.specs.Steps.{walk, watch, watch_step}
+use Rattle.logs.specs.Steps.{watch_step}
 use Rattle.logs.proofs.Parts.{walk_end, walk_step}
 use Rattle.logs.proofs.Walks.{turns_walk}
 use Rattle.logs.proofs.Exact.{exact}

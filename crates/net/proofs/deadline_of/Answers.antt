@@ -1,5 +1,4 @@
 -- Assumes nothing.
-
 use Rattle.net.proofs.deadline_of.Goals as goal
 use Rattle.net.proofs.deadline_of.Goals.{then-sure, else-sure}
 

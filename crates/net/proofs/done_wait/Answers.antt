@@ -1,5 +1,4 @@
 -- Assumes nothing.
-
 use Rattle.net.proofs.done_wait.Goals as goal
 
 pub returns-in-Waiting : goal.returns-in-Waiting

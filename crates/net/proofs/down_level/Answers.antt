@@ -1,5 +1,4 @@
 -- Assumes nothing.
-
 use Rattle.net.proofs.down_level.Goals as goal
 
 pub returns : goal.returns

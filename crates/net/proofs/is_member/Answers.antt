@@ -1,5 +1,4 @@
 -- Assumes nothing.
-
 use Rattle.net.specs.Net.{is_member}
 use Rattle.net.proofs.is_member.Goals as goal
 

@@ -1,6 +1,4 @@
 -- Assumes nothing.
-
-use borrow.Author.Tests.{not-true, not-false}
 use Rattle.net.proofs.is_sure.Goals as goal
 
 pub returns-then-not-is_member : goal.returns-then-not-is_member

@@ -1,5 +1,4 @@
 -- Assumes nothing.
-
 use native.Mathlib.Omega.{arith}
 use Rattle.net.proofs.Laws.{index_lt}
 use Rattle.net.proofs.member_at.Goals as goal

@@ -1,5 +1,4 @@
 -- Assumes nothing.
-
 use Rattle.net.specs.Net.{new_station}
 use Rattle.net.proofs.new.Goals as goal
 

@@ -1,5 +1,4 @@
 -- Assumes nothing.
-
 use Rattle.std.proofs.Common.{not, sym, ap, ◌∙◌, eq-eqb, ne_eqb}
 use Rattle.bits.proofs.Lists.{cond_true, cond_false}
 use Rattle.next.specs.Next.{act_of}

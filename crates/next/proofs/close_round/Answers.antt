@@ -1,6 +1,5 @@
 -- Assumes nothing.
-
-use Rattle.std.proofs.Common.{sym, rules, le-ltb, lt-ltb}
+use Rattle.std.proofs.Common.{sym, le-ltb, lt-ltb}
 use Rattle.bits.proofs.Lists.{cond_true, cond_false}
 use Rattle.next.proofs.close_round.Goals as goal
 

@@ -1,10 +1,6 @@
-use Rattle.std.proofs.Common.{◌≡◌, ◌-◌, ◌≤◌, ◌&&◌, ◌||◌, eqb, ltb, get_or, sym, refl, ◌∙◌, arith, rules}
-use Rattle.bits.specs.Loop.{fold}
-use Rattle.bits.specs.Mask.{has_bit}
+use Rattle.std.proofs.Common.{◌-◌, sym, refl, ◌∙◌, arith}
 use Rattle.bits.proofs.Loops.{fold_turn, fold_end}
-use Rattle.roster.specs.Members.{no_member}
-use Rattle.bursts.specs.Rows.{mark_if, mask_where}
-use Rattle.next.specs.Code.Decision.{list_in}
+use Rattle.bursts.specs.Rows.{mask_where}
 use Rattle.next.proofs.draw.Goals as goal
 
 pub loop-i-init : goal.loop-i-init

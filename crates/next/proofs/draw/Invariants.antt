@@ -1,11 +1,9 @@
 -- Assumes nothing.
-
-use Rattle.std.proofs.Common.{◌≡◌, ◌-◌, ◌≤◌, ◌&&◌, ◌||◌, eqb, ltb, get_or, sym, refl, ◌∙◌, arith, rules}
+use Rattle.std.proofs.Common.{◌≡◌, ◌-◌, ◌≤◌, ◌&&◌, ◌||◌, eqb, ltb, get_or}
 use Rattle.bits.specs.Loop.{fold}
 use Rattle.bits.specs.Mask.{has_bit}
-use Rattle.bits.proofs.Loops.{fold_turn, fold_end}
 use Rattle.roster.specs.Members.{no_member}
-use Rattle.bursts.specs.Rows.{mark_if, mask_where}
+use Rattle.bursts.specs.Rows.{mark_if}
 use Rattle.next.specs.Code.Decision.{list_in}
 use Rattle.next.proofs.draw.Given as goal
 

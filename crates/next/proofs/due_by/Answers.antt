@@ -1,6 +1,4 @@
 -- Assumes nothing.
-
-use Rattle.std.proofs.Common.{rules}
 use Rattle.next.proofs.due_by.Goals as goal
 
 pub returns-then-time-end : goal.returns-then-time-end

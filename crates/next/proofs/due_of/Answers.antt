@@ -1,6 +1,5 @@
 -- Assumes nothing.
-
-use Rattle.std.proofs.Common.{sym, ap, ◌∙◌, rules}
+use Rattle.std.proofs.Common.{sym, ap, ◌∙◌}
 use Rattle.bits.proofs.Lists.{cond_true, cond_false}
 use Rattle.net.specs.declared.Turn.{Turn}
 use Rattle.next.specs.Next.{due_turn, due_of}

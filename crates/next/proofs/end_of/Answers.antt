@@ -1,6 +1,5 @@
 -- Assumes nothing.
-
-use Rattle.std.proofs.Common.{refl, arith, rules}
+use Rattle.std.proofs.Common.{refl, arith}
 use lib.Count.{leading_le}
 use Rattle.next.proofs.Looks.{ends_at}
 use Rattle.next.proofs.end_of.Goals as goal

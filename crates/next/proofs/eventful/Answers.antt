@@ -1,6 +1,5 @@
-use Rattle.std.proofs.Common.{◌≡◌, ◌-◌, ◌≤◌, get_or, sym, refl, ◌∙◌, arith, rules}
+use Rattle.std.proofs.Common.{◌-◌, get_or, sym, refl, ◌∙◌, arith}
 use Rattle.roster.specs.Members.{no_member}
-use Rattle.bits.specs.Loop.{any}
 use Rattle.bits.proofs.Loops.{any_pass, any_stop, any_end}
 use Rattle.net.proofs.Laws.{index_lt}
 use Rattle.next.specs.Code.Decision.{eventful_in}

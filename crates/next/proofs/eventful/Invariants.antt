@@ -1,10 +1,6 @@
 -- Assumes nothing.
-
-use Rattle.std.proofs.Common.{◌≡◌, ◌-◌, ◌≤◌, get_or, sym, refl, ◌∙◌, arith, rules}
-use Rattle.roster.specs.Members.{no_member}
+use Rattle.std.proofs.Common.{◌≡◌, ◌-◌, ◌≤◌}
 use Rattle.bits.specs.Loop.{any}
-use Rattle.bits.proofs.Loops.{any_pass, any_stop, any_end}
-use Rattle.net.proofs.Laws.{index_lt}
 use Rattle.next.specs.Code.Decision.{eventful_in}
 use Rattle.next.proofs.eventful.Given as goal
 

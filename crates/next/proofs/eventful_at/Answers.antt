@@ -1,6 +1,4 @@
 -- Assumes nothing.
-
-use Rattle.std.proofs.Common.{rules}
 use Rattle.next.proofs.eventful_at.Goals as goal
 
 pub returns : goal.returns

@@ -1,6 +1,4 @@
 -- Assumes nothing.
-
-use Rattle.std.proofs.Common.{rules}
 use Rattle.next.proofs.front.Goals as goal
 
 pub returns-then-is_idle-may_poll : goal.returns-then-is_idle-may_poll

@@ -1,7 +1,4 @@
 -- Assumes nothing.
-
-use borrow.Author.Tests.{not-true, not-false}
-use Rattle.std.proofs.Common.{rules}
 use Rattle.next.proofs.late_of.Goals as goal
 
 pub returns-then-not-ok : goal.returns-then-not-ok

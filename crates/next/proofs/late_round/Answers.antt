@@ -1,6 +1,5 @@
 -- Assumes nothing.
-
-use Rattle.std.proofs.Common.{sym, ◌∙◌, rules}
+use Rattle.std.proofs.Common.{sym, ◌∙◌}
 use Rattle.bits.proofs.Lists.{cond_true, cond_false}
 use Rattle.next.proofs.late_round.Goals as goal
 

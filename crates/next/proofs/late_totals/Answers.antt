@@ -1,6 +1,4 @@
 -- Assumes nothing.
-
-use Rattle.std.proofs.Common.{rules}
 use Rattle.next.proofs.late_totals.Goals as goal
 
 pub returns-then-l : goal.returns-then-l

@@ -1,10 +1,10 @@
-use Rattle.std.proofs.Common.{◌≡◌, ◌-◌, sym, ◌∙◌, ⊎_elim, arith, rules}
+use Rattle.std.proofs.Common.{◌≡◌, ◌-◌, sym, ◌∙◌, arith}
 use Rattle.out.proofs.Laws.{wrote_length}
 use Rattle.net.specs.Net.{Did}
 use Rattle.net.proofs.Laws.{index_lt}
 use Rattle.bursts.proofs.Saying.{did_as}
 use Rattle.next.specs.Code.Decision.{poll_source, direct_if}
-use Rattle.next.proofs.Looks.{Looking, looking_start, looking_turn, looked, to_is, slot_is, source_is}
+use Rattle.next.proofs.Looks.{looking_start, looking_turn, looked, to_is, slot_is, source_is}
 use Rattle.next.proofs.Calls.{did_none, not_said, spoken_did, not_draw, is_draw_lem, stage_by_did, laid, direct_some, direct_none, direct_lt, poll_did, next_said}
 use Rattle.next.proofs.ncs_next.Goals as goal
 use Rattle.next.proofs.ncs_next.Goals.{then-to, else-to, then-asks, else-asks, then-is_said, else-is_said, then-is_draw, else-is_draw}
@@ -79,13 +79,13 @@ returns c =
     let to = to_is saw c.to_of-to.ensures in
     let word : Did (direct_if c.to_of-to.result t a.queue.now) c.if-to.s c.if-is_draw.o c.if-is_draw.at c.if-to.o c.if-to.at =
     elim c.if-to.branch [
-      then-to w ↦ rw (w.s-is, w.o-is, w.at-is) (did_as w.direct_burst-s.ensures (direct_some c.to_of-to.result t a.queue.now w.if-to.true))
+      | then-to w ↦ rw (w.s-is, w.o-is, w.at-is) (did_as w.direct_burst-s.ensures (direct_some c.to_of-to.result t a.queue.now w.if-to.true))
       | else-to w ↦ rw (w.s-is, w.o-is, w.at-is) (did_as (did_none _ _ _) (direct_none c.to_of-to.result t a.queue.now w.if-to.false))
     ] in
     let at = slot_is act t c.if-to.s a.queue.now c.front-next.result c.to_of-to.result slot saw c.front-next.ensures word.station c.unless_sent-slot.ensures in
     let source : c.if-asks.source ≡ poll_source c.if-to.s slot =
     elim c.if-asks.branch [
-      then-asks w ↦ source_is act t c.if-to.s a.queue.now c.front-next.result c.to_of-to.result slot saw c.front-next.ensures word.station c.unless_sent-slot.ensures _ (sym c.asks.ensures ∙ w.if-asks.true) (w.source-is ∙ w.source_for-source.ensures)
+      | then-asks w ↦ source_is act t c.if-to.s a.queue.now c.front-next.result c.to_of-to.result slot saw c.front-next.ensures word.station c.unless_sent-slot.ensures _ (sym c.asks.ensures ∙ w.if-asks.true) (w.source-is ∙ w.source_for-source.ensures)
       | else-asks w ↦ source_is act t c.if-to.s a.queue.now c.front-next.result c.to_of-to.result slot saw c.front-next.ensures word.station c.unless_sent-slot.ensures _ (sym c.asks.ensures ∙ w.if-asks.false) w.source-is
     ] in
     next_said
@@ -119,11 +119,11 @@ returns c =
     word
     (stage_by_did act st a.time c.if-is_said.s c.if-is_said.o c.if-is_said.at
     (elim c.if-is_said.branch [
-      then-is_said w ↦ rw (w.s-is, w.o-is, w.at-is) (spoken_did act st a.time (sym c.is_said.ensures ∙ w.if-is_said.true) w.spoken-said.ensures.0 w.sending-sends.ensures w.spoken-said.ensures.1)
+      | then-is_said w ↦ rw (w.s-is, w.o-is, w.at-is) (spoken_did act st a.time (sym c.is_said.ensures ∙ w.if-is_said.true) w.spoken-said.ensures.0 w.sending-sends.ensures w.spoken-said.ensures.1)
       | else-is_said w ↦ rw (w.s-is, w.o-is, w.at-is) (did_as (did_none _ _ _) (not_said act st a.time (sym c.is_said.ensures ∙ w.if-is_said.false)))
     ])
     (elim c.if-is_draw.branch [
-      then-is_draw w ↦ rw (w.s-is, w.o-is, w.at-is) (did_as w.round_end-s.ensures (is_draw_lem act c.if-is_said.s a.time (sym c.is_draw.ensures ∙ w.if-is_draw.true)))
+      | then-is_draw w ↦ rw (w.s-is, w.o-is, w.at-is) (did_as w.round_end-s.ensures (is_draw_lem act c.if-is_said.s a.time (sym c.is_draw.ensures ∙ w.if-is_draw.true)))
       | else-is_draw w ↦ rw (w.s-is, w.o-is, w.at-is) (did_as (did_none _ _ _) (not_draw act c.if-is_said.s a.time (sym c.is_draw.ensures ∙ w.if-is_draw.false)))
     ]))
 

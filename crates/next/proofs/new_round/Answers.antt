@@ -1,7 +1,5 @@
 -- Assumes nothing.
-
 use Rattle.next.specs.Next.{list_for}
-use Rattle.std.proofs.Common.{rules}
 use Rattle.next.proofs.new_round.Goals as goal
 
 pub returns : goal.returns

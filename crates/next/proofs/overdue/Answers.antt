@@ -1,5 +1,4 @@
 -- Assumes nothing.
-
 use Rattle.std.proofs.Common.{sym, eq-eqb, ne_eqb}
 use Rattle.bits.proofs.Lists.{cond_true, cond_false}
 use Rattle.next.proofs.overdue.Goals as goal

@@ -1,6 +1,5 @@
 -- Assumes nothing.
-
-use Rattle.std.proofs.Common.{rules, eq-eqb, ne_eqb}
+use Rattle.std.proofs.Common.{eq-eqb, ne_eqb}
 use Rattle.next.proofs.poll_wait.Goals as goal
 
 pub returns-then-slot-eq255 : goal.returns-then-slot-eq255

@@ -1,6 +1,5 @@
 -- Assumes nothing.
-
-use Rattle.std.proofs.Common.{rules, eq-eqb, ne_eqb}
+use Rattle.std.proofs.Common.{eq-eqb, ne_eqb}
 use Rattle.out.proofs.Laws.{wrote_none}
 use Rattle.next.proofs.put_poll.Goals as goal
 

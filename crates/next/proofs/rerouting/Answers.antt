@@ -1,6 +1,5 @@
 -- Assumes nothing.
-
-use Rattle.std.proofs.Common.{sym, rules}
+use Rattle.std.proofs.Common.{sym}
 use Rattle.bits.proofs.Lists.{cond_true}
 use Rattle.bursts.proofs.Saying.{did_as}
 use Rattle.next.specs.Code.Decision.{rerouting_of}

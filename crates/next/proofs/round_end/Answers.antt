@@ -1,6 +1,5 @@
 -- Assumes nothing.
-
-use Rattle.std.proofs.Common.{sym, ◌∙◌, rules, eqb-true}
+use Rattle.std.proofs.Common.{sym, ◌∙◌, eqb-true}
 use borrow.Author.Tests.{not-true, not-false}
 use Rattle.bits.proofs.Lists.{and_true, or_false}
 use Rattle.next.proofs.Calm.{no_list_yet_did, drawn_did}

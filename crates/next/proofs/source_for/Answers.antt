@@ -1,6 +1,5 @@
 -- Assumes nothing.
-
-use Rattle.std.proofs.Common.{ap, ◌∙◌, rules}
+use Rattle.std.proofs.Common.{ap, ◌∙◌}
 use Rattle.roster.specs.Relays.{relay_src_for}
 use Rattle.bursts.specs.declared.reroute.Surveyed.{Surveyed}
 use Rattle.bursts.specs.Reroute.{source_for}

@@ -1,6 +1,5 @@
 -- Assumes nothing.
-
-use Rattle.std.proofs.Common.{refl, rules}
+use Rattle.std.proofs.Common.{refl}
 use Rattle.out.proofs.Laws.{wrote_none}
 use Rattle.next.proofs.spoken.Goals as goal
 

@@ -1,6 +1,4 @@
 -- Assumes nothing.
-
-use Rattle.std.proofs.Common.{rules}
 use Rattle.next.proofs.to_of.Goals as goal
 
 pub returns-then-has : goal.returns-then-has

@@ -1,5 +1,4 @@
-use Rattle.std.proofs.Common.{◌≡◌, ◌-◌, ◌≤◌, sym, refl, ◌∙◌, arith, rules}
-use Rattle.bits.specs.Loop.{fold}
+use Rattle.std.proofs.Common.{◌-◌, sym, refl, ◌∙◌, arith}
 use Rattle.bits.proofs.Loops.{fold_turn, fold_end}
 use Rattle.next.specs.Code.Decision.{tell_in, told_in}
 use Rattle.next.proofs.told_in.Goals as goal

@@ -1,8 +1,6 @@
 -- Assumes nothing.
-
-use Rattle.std.proofs.Common.{◌≡◌, ◌-◌, ◌≤◌, sym, refl, ◌∙◌, arith, rules}
+use Rattle.std.proofs.Common.{◌≡◌, ◌-◌, ◌≤◌}
 use Rattle.bits.specs.Loop.{fold}
-use Rattle.bits.proofs.Loops.{fold_turn, fold_end}
 use Rattle.next.specs.Code.Decision.{tell_in, told_in}
 use Rattle.next.proofs.told_in.Given as goal
 

@@ -1,5 +1,4 @@
 -- Assumes nothing.
-
 use Rattle.std.proofs.Common.{eq-eqb, ne_eqb}
 use Rattle.next.proofs.unless_sent.Goals as goal
 

@@ -1,6 +1,4 @@
 -- Assumes nothing.
-
-use Rattle.std.proofs.Common.{rules}
 use Rattle.next.proofs.with_if.Goals as goal
 
 pub returns-then-yes : goal.returns-then-yes

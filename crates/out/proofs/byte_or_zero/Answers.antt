@@ -1,5 +1,4 @@
 -- `out::byte_or_zero` meets its contract. Assumes nothing.
-
 use mathlib.Core.Path.{sym, ◌∙◌}
 use native.Mathlib.Omega.{arith}
 use lib.ListN.{get_or-eq_default}

@@ -1,8 +1,8 @@
 use mathlib.Core.Path.{◌≡◌, refl, sym, ap, ◌∙◌}
 use native.Mathlib.Omega.{arith}
-use mathlib.Core.List.{List, ◌∷◌, ◌++◌}
-use Prim.Native.Nat.{ℕ, ◌+◌, ◌-◌, ◌≤◌}
-use lib.ListN.{take, drop, get_or, set, replicate, length-drop}
+use mathlib.Core.List.{List}
+use Prim.Native.Nat.{ℕ, ◌+◌, ◌-◌}
+use lib.ListN.{drop, get_or, set, length-drop}
 use lib.Seq.{get_or-drop}
 use Rattle.out.proofs.Pack.{chunk_more}
 use Rattle.out.proofs.chunk_of.Goals as goal

@@ -1,12 +1,8 @@
 -- `out::chunk_of` meets its contract. The invariant: the byte kind and the first k bytes stand, and zeros behind them. Assumes nothing.
-
-use mathlib.Core.Path.{◌≡◌, refl, sym, ap, ◌∙◌}
-use native.Mathlib.Omega.{arith}
-use mathlib.Core.List.{List, ◌∷◌, ◌++◌}
-use Prim.Native.Nat.{ℕ, ◌+◌, ◌-◌, ◌≤◌}
-use lib.ListN.{take, drop, get_or, set, replicate, length-drop}
-use lib.Seq.{get_or-drop}
-use Rattle.out.proofs.Pack.{chunk_more}
+use mathlib.Core.Path.{◌≡◌}
+use mathlib.Core.List.{◌∷◌, ◌++◌}
+use Prim.Native.Nat.{◌+◌, ◌-◌, ◌≤◌}
+use lib.ListN.{take, drop, replicate}
 use Rattle.out.proofs.chunk_of.Given as goal
 
 abbrev pub invariant-loop-k : goal.invariant-loop-k

@@ -1,5 +1,4 @@
 -- `out::chunk_size` meets its contract. Assumes nothing.
-
 use mathlib.Core.Path.{◌∙◌}
 use borrow.Author.Tests.{eq-eqb, ne_eqb}
 use Rattle.out.proofs.chunk_size.Goals as goal

@@ -1,5 +1,4 @@
 -- `out::put_chunk` meets its contract. Assumes nothing.
-
 use mathlib.Core.Path.{ap}
 use native.Mathlib.Omega.{arith}
 use lib.ListN.{drop, length-drop}

@@ -1,5 +1,4 @@
 -- `out::put_ctrl` meets its contract: its 32 bytes are not cut. Assumes nothing.
-
 use mathlib.Core.Path.{ap}
 use native.Mathlib.Omega.{arith}
 use Rattle.out.specs.Encode.{ctrl_words}

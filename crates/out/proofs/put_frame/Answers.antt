@@ -1,5 +1,4 @@
 -- `out::put_frame` meets its contract: two words, and then the payload's. Assumes nothing.
-
 use mathlib.Core.Path.{ap, ◌∙◌}
 use native.Mathlib.Omega.{arith}
 use Prim.Native.Nat.{ℕ}

@@ -1,5 +1,4 @@
 -- `out::put_head` meets its contract: two words. Assumes nothing.
-
 use Rattle.out.proofs.Laws.{then}
 use Rattle.out.proofs.put_head.Goals as goal
 

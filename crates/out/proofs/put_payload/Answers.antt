@@ -1,9 +1,9 @@
 use native.Mathlib.Omega.{arith}
-use Prim.Native.Nat.{◌-◌, ◌*◌, ◌≤◌}
-use lib.ListN.{take, drop}
+use Prim.Native.Nat.{◌-◌}
+use lib.ListN.{take}
 use lib.Seq.{length-take-le}
 use Rattle.out.specs.Encode.{pack}
-use Rattle.out.proofs.Laws.{Still, still_start, still_on, still_end, wrote_length}
+use Rattle.out.proofs.Laws.{still_start, still_on, still_end, wrote_length}
 use Rattle.out.proofs.Pack.{pack_turn, pack_end}
 use Rattle.out.proofs.put_payload.Goals as goal
 

@@ -1,12 +1,8 @@
 -- `out::put_payload` meets its contract. The invariant: the words of the bytes that are left are still to be written. Assumes nothing.
-
-use native.Mathlib.Omega.{arith}
 use Prim.Native.Nat.{◌-◌, ◌*◌, ◌≤◌}
 use lib.ListN.{take, drop}
-use lib.Seq.{length-take-le}
 use Rattle.out.specs.Encode.{pack}
-use Rattle.out.proofs.Laws.{Still, still_start, still_on, still_end, wrote_length}
-use Rattle.out.proofs.Pack.{pack_turn, pack_end}
+use Rattle.out.proofs.Laws.{Still}
 use Rattle.out.proofs.put_payload.Given as goal
 
 abbrev pub invariant-loop-k : goal.invariant-loop-k

@@ -1,8 +1,8 @@
 use native.Mathlib.Omega.{arith}
 use Prim.Native.Nat.{◌-◌}
-use lib.ListN.{take, drop}
+use lib.ListN.{take}
 use Rattle.out.specs.Encode.{chunk_words}
-use Rattle.out.proofs.Laws.{Still, still_start, still_on, still_end, wrote_length}
+use Rattle.out.proofs.Laws.{still_start, still_on, still_end, wrote_length}
 use Rattle.out.proofs.Pack.{chunks_room, chunks_next, chunks_turn, chunks_end}
 use Rattle.out.proofs.put_rows.Goals as goal
 

@@ -1,11 +1,8 @@
 -- `out::put_rows` meets its contract. The invariant: the words of the bytes from i on are still to be written. Assumes nothing.
-
-use native.Mathlib.Omega.{arith}
 use Prim.Native.Nat.{◌-◌}
 use lib.ListN.{take, drop}
 use Rattle.out.specs.Encode.{chunk_words}
-use Rattle.out.proofs.Laws.{Still, still_start, still_on, still_end, wrote_length}
-use Rattle.out.proofs.Pack.{chunks_room, chunks_next, chunks_turn, chunks_end}
+use Rattle.out.proofs.Laws.{Still}
 use Rattle.out.proofs.put_rows.Given as goal
 
 abbrev pub invariant-loop-i : goal.invariant-loop-i

@@ -1,5 +1,4 @@
 -- `out::put_word` meets its contract. Assumes nothing.
-
 use Rattle.out.proofs.Laws.{word_in, word_past}
 use Rattle.out.proofs.put_word.Goals as goal
 

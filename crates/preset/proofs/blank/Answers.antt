@@ -1,5 +1,4 @@
 -- Assumes nothing.
-
 use mathlib.Core.Path.{◌∙◌}
 use Rattle.preset.proofs.blank.Goals as goal
 

@@ -1,5 +1,4 @@
 -- Assumes nothing.
-
 use mathlib.Core.Path.{refl}
 use lib.Ieee.{of_bits, neg}
 use Rattle.preset.proofs.ladder.Goals as goal

@@ -1,5 +1,4 @@
 -- Assumes nothing.
-
 use lib.Ieee.{of_bits, neg}
 use Rattle.preset.proofs.tape_settings.Goals as goal
 

@@ -1,5 +1,4 @@
 -- Assumes nothing.
-
 use mathlib.Core.Path.{sym, ap}
 use Prim.Native.Nat.{ℕ, ◌%◌, ◌≤◌}
 use lib.ListN.{length, get_or, get_or-eq_default}

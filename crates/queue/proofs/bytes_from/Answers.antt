@@ -1,8 +1,8 @@
 use mathlib.Core.Path.{◌≡◌, refl, ap, ◌∙◌}
-use mathlib.Core.List.{List, ◌++◌}
-use Prim.Native.Nat.{ℕ, ◌+◌, ◌-◌, ◌≤◌}
+use mathlib.Core.List.{List}
+use Prim.Native.Nat.{ℕ, ◌-◌}
 use native.Mathlib.Omega.{arith}
-use lib.ListN.{replicate, set}
+use lib.ListN.{set}
 use Rattle.queue.specs.Queues.{bytes_from}
 use Rattle.queue.proofs.Laws.{bytes_next}
 use Rattle.queue.proofs.bytes_from.Goals as goal

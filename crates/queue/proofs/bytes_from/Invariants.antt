@@ -1,12 +1,9 @@
 -- The invariant: the first k bytes stand, and zeros behind them. Assumes nothing.
-
-use mathlib.Core.Path.{◌≡◌, refl, ap, ◌∙◌}
-use mathlib.Core.List.{List, ◌++◌}
-use Prim.Native.Nat.{ℕ, ◌+◌, ◌-◌, ◌≤◌}
-use native.Mathlib.Omega.{arith}
-use lib.ListN.{replicate, set}
+use mathlib.Core.Path.{◌≡◌}
+use mathlib.Core.List.{◌++◌}
+use Prim.Native.Nat.{◌+◌, ◌-◌, ◌≤◌}
+use lib.ListN.{replicate}
 use Rattle.queue.specs.Queues.{bytes_from}
-use Rattle.queue.proofs.Laws.{bytes_next}
 use Rattle.queue.proofs.bytes_from.Given as goal
 
 abbrev pub invariant-loop-k : goal.invariant-loop-k

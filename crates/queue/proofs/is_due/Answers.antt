@@ -1,5 +1,4 @@
 -- Assumes nothing.
-
 use Rattle.queue.specs.Queues.{is_due}
 use Rattle.queue.proofs.is_due.Goals as goal
 

@@ -1,13 +1,12 @@
 use native.Mathlib.Nat.{add-zero}
 use lib.Seq.{drop-length}
 use mathlib.Core.Path.{◌≡◌, refl, sym, ap, ◌∙◌}
-use mathlib.Core.List.{List, ◌++◌}
-use Prim.Native.Nat.{ℕ, ◌+◌, ◌-◌, ◌≤◌}
+use Prim.Native.Nat.{◌+◌, ◌-◌}
 use native.Mathlib.Omega.{arith}
-use lib.ListN.{length, drop, length-set}
+use lib.ListN.{length, length-set}
 use Rattle.inbox.specs.Messages.{framed}
 use Rattle.queue.specs.Queues.{put_bytes}
-use Rattle.queue.proofs.Laws.{put_turn, put_none, length_put}
+use Rattle.queue.proofs.Laws.{put_turn, put_none}
 use Rattle.queue.proofs.put.Goals as goal
 
 pub overflow_add-n : goal.overflow_add-n

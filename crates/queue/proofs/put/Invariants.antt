@@ -1,15 +1,9 @@
 -- The invariant: the bytes from k on are still to be written. Assumes nothing.
-
-use native.Mathlib.Nat.{add-zero}
-use lib.Seq.{drop-length}
-use mathlib.Core.Path.{◌≡◌, refl, sym, ap, ◌∙◌}
-use mathlib.Core.List.{List, ◌++◌}
-use Prim.Native.Nat.{ℕ, ◌+◌, ◌-◌, ◌≤◌}
-use native.Mathlib.Omega.{arith}
-use lib.ListN.{length, drop, length-set}
+use mathlib.Core.Path.{◌≡◌}
+use Prim.Native.Nat.{◌+◌, ◌-◌, ◌≤◌}
+use lib.ListN.{length, drop}
 use Rattle.inbox.specs.Messages.{framed}
 use Rattle.queue.specs.Queues.{put_bytes}
-use Rattle.queue.proofs.Laws.{put_turn, put_none, length_put}
 use Rattle.queue.proofs.put.Given as goal
 
 abbrev pub invariant-loop-k : goal.invariant-loop-k

@@ -1,5 +1,4 @@
 -- Assumes nothing.
-
 use Rattle.queue.proofs.reported_to.Goals as goal
 
 pub returns : goal.returns

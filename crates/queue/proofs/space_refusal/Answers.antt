@@ -1,5 +1,4 @@
 -- Assumes nothing.
-
 use borrow.Author.Tests.{lt-ltb, le-ltb}
 use Rattle.queue.specs.Queues.{space_refusal}
 use Rattle.queue.proofs.space_refusal.Goals as goal

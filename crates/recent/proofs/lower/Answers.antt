@@ -1,7 +1,4 @@
 -- The arm knows which variant the level is. Assumes nothing.
-
-use mathlib.Core.Path.{◌≡◌, refl, sym, ap, ◌∙◌}
-use Rattle.recent.specs.Readings.{lower}
 use Rattle.recent.proofs.lower.Goals as goal
 
 pub returns-then-total_lt : goal.returns-then-total_lt

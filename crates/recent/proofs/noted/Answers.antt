@@ -1,5 +1,4 @@
 -- Assumes nothing.
-
 use Rattle.recent.proofs.noted.Goals as goal
 
 pub returns : goal.returns

@@ -1,12 +1,7 @@
 -- The invariant: the lowest of all is the lowest so far and those still to be read. Assumes nothing.
-
-use mathlib.Core.Path.{◌≡◌, refl, sym, ap, ◌∙◌}
-use Prim.Native.Nat.{ℕ, suc, ◌+◌, ◌-◌, ◌≤◌, ◌<◌}
-use native.Mathlib.Omega.{arith}
-use lib.Dec.{ltb}
-use borrow.Author.Tests.{ltb-true}
-use Rattle.bits.proofs.Lists.{cond_keeps}
-use Rattle.recent.specs.Readings.{least_from, back_from, readings, kept, worst}
+use mathlib.Core.Path.{◌≡◌}
+use Prim.Native.Nat.{◌-◌, ◌≤◌, ◌<◌}
+use Rattle.recent.specs.Readings.{least_from, back_from}
 use Rattle.recent.proofs.worst.Given as goal
 
 abbrev pub invariant-loop-i : goal.invariant-loop-i

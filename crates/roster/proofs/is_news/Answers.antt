@@ -1,5 +1,4 @@
 -- Assumes nothing.
-
 use Rattle.roster.proofs.is_news.Goals as goal
 
 pub returns : goal.returns

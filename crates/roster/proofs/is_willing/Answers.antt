@@ -1,5 +1,4 @@
 -- Assumes nothing.
-
 use Rattle.roster.proofs.is_willing.Goals as goal
 
 pub returns : goal.returns

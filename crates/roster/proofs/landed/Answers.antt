@@ -1,5 +1,4 @@
 -- Assumes nothing.
-
 use Rattle.roster.proofs.landed.Goals as goal
 
 pub returns : goal.returns

@@ -1,6 +1,4 @@
 -- Assumes nothing.
-
-use borrow.Author.Tests.{not-true, not-false}
 use Rattle.roster.proofs.with_version.Goals as goal
 
 pub returns-then-not-known : goal.returns-then-not-known

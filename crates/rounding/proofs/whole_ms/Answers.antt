@@ -1,7 +1,6 @@
 -- `rounding::whole_ms` meets its contract. Assumes nothing.
-
-use Rattle.std.proofs.Common.{◌≡◌, ℕ, ◌+◌, ◌<◌, Bool, true, T, pos, sym, refl, ap, ◌∙◌, subst, arith, le→leb}
-use lib.Ieee.{Float, binary64, of_bits, to_unsigned, in_float, of_int, add, le, lt}
+use Rattle.std.proofs.Common.{◌≡◌, ℕ, ◌+◌, ◌<◌, Bool, true, T, pos, sym, ap, ◌∙◌, subst, arith, le→leb}
+use lib.Ieee.{Float, binary64, of_bits, in_float, of_int, add, le, lt}
 use Rattle.rounding.proofs.Rounding.{Mid, mid, in_range, small, rounds_up, rounds_down, rounds_zero, rounds_full, rounds_nan}
 use Rattle.rounding.proofs.whole_ms.Goals as goal
 

@@ -1,5 +1,4 @@
 -- Assumes nothing.
-
 use Rattle.rx.proofs.air_of.Goals as goal
 
 pub returns-then-aside : goal.returns-then-aside

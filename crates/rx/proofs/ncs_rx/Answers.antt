@@ -1,5 +1,4 @@
 -- Assumes nothing.
-
 use mathlib.Core.Path.{sym, ap, ◌∙◌}
 use Rattle.words.specs.declared.Shape.TheVariants.{Frames}
 use Rattle.rx.proofs.Whole.{asked, rx_is}

@@ -1,5 +1,4 @@
-use mathlib.Core.Path.{refl, sym, ap, ◌∙◌}
-use mathlib.Core.Logic.{⊎_elim}
+use mathlib.Core.Path.{refl, ap, ◌∙◌}
 use Rattle.out.proofs.Laws.{wrote_length}
 use Rattle.frames.specs.declared.Rx.{Rx}
 use Rattle.frames.specs.Code.Kinds.{Piece, Checkin, Overheard, Kids}
@@ -8,7 +7,7 @@ use native.Mathlib.Omega.{arith}
 use Prim.Native.Nat.{◌-◌}
 use Rattle.net.proofs.Laws.{index_lt}
 use Rattle.rx.proofs.Endings.{finished}
-use Rattle.rx.proofs.Turns.{Going, going_start, fits, fewer, read_done}
+use Rattle.rx.proofs.Turns.{going_start, fits, fewer, read_done}
 use Rattle.rx.proofs.Each.{cell_lt, room_now, turn_piece, Went, went_said, went_none, went_report}
 use Rattle.rx.proofs.read_burst.Goals as goal
 use Rattle.rx.proofs.read_burst.Goals.{Joined-first, in-2+then-f-ge7, in-2+else-f-ge7, in-3+then-f-ge12, in-3+else-f-ge12, in-4, in-10, in_default}
@@ -19,29 +18,29 @@ went c =
     let len = c.frame_at-f.result.len in
     let byte = kind_byte _ _ c.if-f-eq-T_UP.false c.control_byte-first.ensures in
     elim c.match-first.branch [
-      in-2+then-f-ge7 w ↦
-        rw (w.o-is, w.s-is, w.x-is, w.end-is)
-        (went_said c.loop-x.invariant c.loop-x-test.true c.frame_at-f.result c.frame_at-f.ensures Checkin (is_checkin len w.in-2.is w.if-f-ge7.true ∙ byte) refl w.checkin-s.ensures)
+      | in-2+then-f-ge7 w ↦
+          rw (w.o-is, w.s-is, w.x-is, w.end-is)
+          (went_said c.loop-x.invariant c.loop-x-test.true c.frame_at-f.result c.frame_at-f.ensures Checkin (is_checkin len w.in-2.is w.if-f-ge7.true ∙ byte) refl w.checkin-s.ensures)
       | in-2+else-f-ge7 w ↦
-        rw (w.o-is, w.s-is, w.x-is, w.end-is)
-        (went_none c.loop-x.invariant c.loop-x-test.true c.frame_at-f.result c.frame_at-f.ensures (short_checkin len w.in-2.is w.if-f-ge7.false ∙ byte))
+          rw (w.o-is, w.s-is, w.x-is, w.end-is)
+          (went_none c.loop-x.invariant c.loop-x-test.true c.frame_at-f.result c.frame_at-f.ensures (short_checkin len w.in-2.is w.if-f-ge7.false ∙ byte))
       | in-3+then-f-ge12 w ↦
-        rw (w.o-is, w.s-is, w.x-is, w.end-is)
-        (went_report c.loop-x.invariant c.loop-x-test.true c.frame_at-f.result c.frame_at-f.ensures (is_report_lem len w.in-3.is w.if-f-ge12.true ∙ byte)
-        w.byte_in-slot.ensures w.is_member-here-then-f-ge12.ensures w.index-i-then-f-ge12.ensures w.is_forwarded-forwarded.ensures w.byte_in-q.ensures
-        w.report_member.ensures w.report_hears.ensures w.report_queue.ensures w.is_pending-pending.ensures w.report_rx-x.ensures)
+          rw (w.o-is, w.s-is, w.x-is, w.end-is)
+          (went_report c.loop-x.invariant c.loop-x-test.true c.frame_at-f.result c.frame_at-f.ensures (is_report_lem len w.in-3.is w.if-f-ge12.true ∙ byte)
+          w.byte_in-slot.ensures w.is_member-here-then-f-ge12.ensures w.index-i-then-f-ge12.ensures w.is_forwarded-forwarded.ensures w.byte_in-q.ensures
+          w.report_member.ensures w.report_hears.ensures w.report_queue.ensures w.is_pending-pending.ensures w.report_rx-x.ensures)
       | in-3+else-f-ge12 w ↦
-        rw (w.o-is, w.s-is, w.x-is, w.end-is)
-        (went_none c.loop-x.invariant c.loop-x-test.true c.frame_at-f.result c.frame_at-f.ensures (short_report len w.in-3.is w.if-f-ge12.false ∙ byte))
+          rw (w.o-is, w.s-is, w.x-is, w.end-is)
+          (went_none c.loop-x.invariant c.loop-x-test.true c.frame_at-f.result c.frame_at-f.ensures (short_report len w.in-3.is w.if-f-ge12.false ∙ byte))
       | in-4 w ↦
-        rw (w.o-is, w.s-is, w.x-is, w.end-is)
-        (went_said c.loop-x.invariant c.loop-x-test.true c.frame_at-f.result c.frame_at-f.ensures Overheard (is_overheard len w.in-4.is ∙ byte) refl w.overheard-s.ensures)
+          rw (w.o-is, w.s-is, w.x-is, w.end-is)
+          (went_said c.loop-x.invariant c.loop-x-test.true c.frame_at-f.result c.frame_at-f.ensures Overheard (is_overheard len w.in-4.is ∙ byte) refl w.overheard-s.ensures)
       | in-10 w ↦
-        rw (w.o-is, w.s-is, w.x-is, w.end-is)
-        (went_said c.loop-x.invariant c.loop-x-test.true c.frame_at-f.result c.frame_at-f.ensures Kids (is_kids len w.in-10.is ∙ byte) refl w.kids-s.ensures)
+          rw (w.o-is, w.s-is, w.x-is, w.end-is)
+          (went_said c.loop-x.invariant c.loop-x-test.true c.frame_at-f.result c.frame_at-f.ensures Kids (is_kids len w.in-10.is ∙ byte) refl w.kids-s.ensures)
       | in_default w ↦
-        rw (w.o-is, w.s-is, w.x-is, w.end-is)
-        (went_none c.loop-x.invariant c.loop-x-test.true c.frame_at-f.result c.frame_at-f.ensures (is_none len w.in_default.in_default-own.rest.0.0.0.1 w.in_default.in_default-own.rest.0.0.1 w.in_default.in_default-own.rest.0.1 w.in_default.in_default-own.rest.1 ∙ byte))
+          rw (w.o-is, w.s-is, w.x-is, w.end-is)
+          (went_none c.loop-x.invariant c.loop-x-test.true c.frame_at-f.result c.frame_at-f.ensures (is_none len w.in_default.in_default-own.rest.0.0.0.1 w.in_default.in_default-own.rest.0.0.1 w.in_default.in_default-own.rest.0.1 w.in_default.in_default-own.rest.1 ∙ byte))
     ]
 
 pub loop-x-init : goal.loop-x-init

@@ -1,5 +1,4 @@
 -- `sheet::number_at` meets its contract. Assumes nothing.
-
 use mathlib.Core.Path.{sym, ap, ◌∙◌}
 use mathlib.Core.List.{[]}
 use Prim.Native.Nat.{ℕ}

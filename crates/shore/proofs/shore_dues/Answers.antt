@@ -1,5 +1,4 @@
 -- Assumes nothing.
-
 use Rattle.shore.proofs.shore_dues.Goals as goal
 
 pub returns : goal.returns

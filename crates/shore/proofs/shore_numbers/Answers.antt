@@ -1,5 +1,4 @@
 -- Assumes nothing.
-
 use Rattle.shore.proofs.shore_numbers.Goals as goal
 
 pub returns : goal.returns

@@ -1,5 +1,4 @@
 -- Assumes nothing.
-
 use mathlib.Core.Path.{ap}
 use Rattle.shore.specs.Calls.{told}
 use Rattle.shore.proofs.shore_post.Goals as goal

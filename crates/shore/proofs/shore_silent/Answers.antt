@@ -1,5 +1,4 @@
 -- Assumes nothing.
-
 use mathlib.Core.Path.{refl}
 use Rattle.shore.specs.Blocks.{station_of}
 use Rattle.shore.proofs.shore_silent.Goals as goal

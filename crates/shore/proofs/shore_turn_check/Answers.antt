@@ -1,5 +1,4 @@
 -- Assumes nothing.
-
 use Rattle.shore.proofs.shore_turn_check.Goals as goal
 
 pub returns : goal.returns

@@ -1,5 +1,4 @@
 -- Assumes nothing.
-
 use Rattle.signoff.proofs.bereft_if.Goals as goal
 
 pub returns-then-yes : goal.returns-then-yes

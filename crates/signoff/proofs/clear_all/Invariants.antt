@@ -1,15 +1,9 @@
 -- Assumes nothing.
-
-use mathlib.Core.Path.{◌≡◌, refl, sym, ap, ◌∙◌}
-use Prim.Native.Nat.{ℕ, ◌+◌, ◌≤◌, ◌-◌}
-use native.Mathlib.Omega.{arith}
+use mathlib.Core.Path.{◌≡◌}
+use Prim.Native.Nat.{◌≤◌, ◌-◌}
 use Rattle.bits.specs.Loop.{fold}
-use Rattle.bits.proofs.Loops.{fold_turn, fold_end}
-use mathlib.Core.Bool.{Bool, true, false, cond}
-use Rattle.bits.specs.Mask.{without_bit}
-use Rattle.stream.specs.Table.{Table, freed_table}
 use Rattle.net.specs.State.{with_table, table_of}
-use Rattle.signoff.specs.SignOff.{is_cell_of, clear_at, clear_all}
+use Rattle.signoff.specs.SignOff.{clear_at, clear_all}
 use Rattle.signoff.proofs.clear_all.Given as goal
 
 abbrev pub invariant-loop-c : goal.invariant-loop-c

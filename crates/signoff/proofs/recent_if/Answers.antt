@@ -1,5 +1,4 @@
 -- Assumes nothing.
-
 use Rattle.signoff.proofs.recent_if.Goals as goal
 
 pub returns-then-lost : goal.returns-then-lost

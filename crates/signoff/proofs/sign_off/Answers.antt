@@ -1,5 +1,4 @@
 -- Assumes nothing.
-
 use native.Mathlib.Omega.{arith}
 use Rattle.signoff.specs.SignOff.{sign_off}
 use Rattle.signoff.proofs.sign_off.Goals as goal

@@ -1,5 +1,4 @@
 -- Assumes nothing.
-
 use Rattle.signoff.proofs.strike_round.Goals as goal
 
 pub returns : goal.returns

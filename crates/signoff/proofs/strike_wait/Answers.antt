@@ -1,5 +1,4 @@
 -- Assumes nothing.
-
 use mathlib.Core.Path.{sym, ap, ◌∙◌}
 use Rattle.net.specs.declared.Turn.{Turn}
 use Rattle.signoff.specs.SignOff.{strike_by}

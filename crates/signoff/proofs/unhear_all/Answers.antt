@@ -1,7 +1,6 @@
-use mathlib.Core.Path.{◌≡◌, refl, sym, ap, ◌∙◌}
-use Prim.Native.Nat.{◌≤◌, ◌<◌, ◌-◌}
+use mathlib.Core.Path.{refl, sym, ap, ◌∙◌}
+use Prim.Native.Nat.{◌-◌}
 use native.Mathlib.Omega.{arith}
-use Rattle.bits.specs.Loop.{fold}
 use Rattle.bits.proofs.Loops.{fold_turn, fold_end}
 use Rattle.net.specs.State.{with_hears}
 use Rattle.signoff.specs.SignOff.{unhear_at, unhear_all}

@@ -1,10 +1,7 @@
 -- Assumes nothing.
-
-use mathlib.Core.Path.{◌≡◌, refl, sym, ap, ◌∙◌}
+use mathlib.Core.Path.{◌≡◌}
 use Prim.Native.Nat.{◌≤◌, ◌<◌, ◌-◌}
-use native.Mathlib.Omega.{arith}
 use Rattle.bits.specs.Loop.{fold}
-use Rattle.bits.proofs.Loops.{fold_turn, fold_end}
 use Rattle.net.specs.State.{with_hears}
 use Rattle.signoff.specs.SignOff.{unhear_at, unhear_all}
 use Rattle.signoff.proofs.unhear_all.Given as goal

@@ -1,5 +1,4 @@
 -- Assumes nothing.
-
 use Rattle.signoff.proofs.without_if.Goals as goal
 
 pub returns-then-yes : goal.returns-then-yes

@@ -1,6 +1,5 @@
 -- Assumes nothing.
-
-use borrow.Author.Tests.{eq-eqb, ne_eqb, lt-ltb, le-ltb, le-leb, lt-leb, not-true, not-false}
+use borrow.Author.Tests.{eq-eqb, ne_eqb}
 use Rattle.station.proofs.answer_of.Goals as goal
 
 pub returns-then-no-eq0 : goal.returns-then-no-eq0

@@ -1,6 +1,4 @@
 -- Assumes nothing.
-
-use borrow.Author.Tests.{eq-eqb, ne_eqb, lt-ltb, le-ltb, le-leb, lt-leb, not-true, not-false}
 use Rattle.station.specs.Entries.{cell_refusal}
 use Rattle.station.proofs.cell_refusal.Goals as goal
 

@@ -1,6 +1,5 @@
 -- Assumes nothing.
-
-use mathlib.Core.Path.{refl, sym, ◌∙◌}
+use mathlib.Core.Path.{sym, ◌∙◌}
 use mathlib.Core.Bool.{true}
 use mathlib.Core.List.{[]}
 use Rattle.station.proofs.Laws.{round_if, answered_unless}

@@ -1,5 +1,4 @@
 -- Assumes nothing.
-
 use Rattle.station.proofs.frames_in.Goals as goal
 
 pub returns-in-Malformed : goal.returns-in-Malformed

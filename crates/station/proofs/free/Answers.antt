@@ -1,6 +1,5 @@
 -- Assumes nothing.
-
-use mathlib.Core.Path.{refl, sym, ◌∙◌}
+use mathlib.Core.Path.{sym, ◌∙◌}
 use mathlib.Core.List.{[]}
 use Rattle.station.proofs.Laws.{freed_if, answered_unless}
 use Rattle.out.specs.Encode.{after}

@@ -1,5 +1,4 @@
 -- Assumes nothing.
-
 use Rattle.net.specs.Net.{said}
 use Rattle.next.specs.Next.{ncs_next}
 use Rattle.station.specs.Entries.{next_of}

@@ -1,5 +1,4 @@
 -- Assumes nothing.
-
 use borrow.Author.Tests.{lt-ltb, le-ltb}
 use Rattle.station.specs.Entries.{next_refusal}
 use Rattle.station.proofs.next_refusal.Goals as goal

@@ -1,5 +1,4 @@
 -- `j` is where the ways round the storing of the message meet. Assumes nothing.
-
 use mathlib.Core.Path.{◌≡◌, sym, ap, ◌∙◌}
 use mathlib.Core.List.{[]}
 use Prim.Native.Nat.{◌+◌}
@@ -44,7 +43,7 @@ bounds-s-i-2 c = omega (arith, rw (← c.index-i.ensures) at (index_lt c.args.sl
 pub shape_of-lent : goal.shape_of-lent
 shape_of-lent c =
     elim c.if-no-eq0.branch [
-      then-no-eq0 w ↦ ap length w.lent-is ∙ ap length w.put.ensures ∙ length_put _ _ _ _
+      | then-no-eq0 w ↦ ap length w.lent-is ∙ ap length w.put.ensures ∙ length_put _ _ _ _
       | else-no-eq0 w ↦ ap length w.lent-is
     ]
 
@@ -62,7 +61,7 @@ returns c =
     let e : c.post_refusal-no.result ≡ no = rw c.index-i.ensures at c.post_refusal-no.ensures in (
       rw (c.answer_of.ensures, c.post_queue-k.ensures, e, c.index-i.ensures) (post_if no s a.slot (posted_to q (n + 2)) ∙ sym (answered_unless no s t queue put [] 0)),
       elim c.if-no-eq0.branch [
-        then-no-eq0 w ↦ w.lent-is ∙ rw c.index-i.ensures at w.put.ensures ∙ post_yes no s t queue put (sym e ∙ w.if-no-eq0.true)
+        | then-no-eq0 w ↦ w.lent-is ∙ rw c.index-i.ensures at w.put.ensures ∙ post_yes no s t queue put (sym e ∙ w.if-no-eq0.true)
         | else-no-eq0 w ↦ w.lent-is ∙ post_no no s t queue put (λ z. w.if-no-eq0.false (e ∙ z))
       ],
     )

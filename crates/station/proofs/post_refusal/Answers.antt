@@ -1,5 +1,4 @@
 -- Assumes nothing.
-
 use borrow.Author.Tests.{lt-ltb, le-ltb}
 use Rattle.station.specs.Entries.{post_refusal}
 use Rattle.station.proofs.post_refusal.Goals as goal

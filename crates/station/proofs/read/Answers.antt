@@ -1,7 +1,6 @@
 -- Assumes nothing.
-
 use borrow.Author.Tests.{eq-eqb, ne_eqb}
-use mathlib.Core.Path.{refl, sym, ◌∙◌}
+use mathlib.Core.Path.{sym, ◌∙◌}
 use Rattle.station.specs.Entries.{reading_of}
 use Rattle.station.proofs.Laws.{read_in}
 use Rattle.station.proofs.read.Goals as goal

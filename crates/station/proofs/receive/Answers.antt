@@ -1,5 +1,4 @@
 -- Assumes nothing.
-
 use lib.ListN.{length}
 use Rattle.station.proofs.Laws.{receive_asked, receive_all}
 use Rattle.station.proofs.receive.Goals as goal

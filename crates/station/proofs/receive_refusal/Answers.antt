@@ -1,6 +1,5 @@
 -- Assumes nothing.
-
-use borrow.Author.Tests.{lt-ltb, le-ltb, not-true, not-false}
+use borrow.Author.Tests.{lt-ltb, le-ltb}
 use Rattle.station.proofs.receive_refusal.Goals as goal
 
 pub returns-then-room-lt8192 : goal.returns-then-room-lt8192

@@ -1,6 +1,5 @@
 -- Assumes nothing.
-
-use borrow.Author.Tests.{eq-eqb, ne_eqb, lt-ltb, le-ltb, not-true, not-false}
+use borrow.Author.Tests.{eq-eqb, ne_eqb, lt-ltb, le-ltb}
 use Rattle.station.proofs.relay_refusal.Goals as goal
 
 pub returns-then-relay-eq-ALL : goal.returns-then-relay-eq-ALL

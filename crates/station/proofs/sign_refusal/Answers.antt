@@ -1,5 +1,4 @@
 -- Assumes nothing.
-
 use borrow.Author.Tests.{lt-ltb, le-ltb}
 use Rattle.station.specs.SignOff.{sign_off_refusal}
 use Rattle.station.proofs.sign_refusal.Goals as goal

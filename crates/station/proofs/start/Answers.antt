@@ -1,6 +1,5 @@
 -- Assumes nothing.
-
-use mathlib.Core.Path.{refl, sym, ◌∙◌}
+use mathlib.Core.Path.{sym, ◌∙◌}
 use Prim.Native.Nat.{◌/◌}
 use lib.ListN.{length}
 use borrow.Author.Tests.{ne_eqb}

@@ -1,5 +1,4 @@
 -- Assumes nothing.
-
 use native.Mathlib.Omega.{arith}
 use borrow.Author.Tests.{eq-eqb, ne_eqb}
 use Rattle.net.proofs.Laws.{index_lt}

@@ -1,5 +1,4 @@
 -- `wire::field_db` meets its contract. Assumes nothing.
-
 use mathlib.Core.Path.{refl}
 use Rattle.wire.specs.Fields.{field_db}
 use Rattle.wire.proofs.field_db.Goals as goal

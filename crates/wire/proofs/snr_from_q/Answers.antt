@@ -1,5 +1,4 @@
 -- `wire::snr_from_q` meets its contract. Assumes nothing.
-
 use mathlib.Core.Path.{ap, sym, ◌∙◌}
 use borrow.Author.Tests.{eq-eqb, ne_eqb}
 use Rattle.level.specs.declared.Level.TheVariants.{Decibels}

@@ -1,5 +1,4 @@
 -- `words::byte_of` meets its contract. Assumes nothing.
-
 use mathlib.Core.Path.{◌∙◌}
 use borrow.Author.Tests.{eq-eqb, ne_eqb}
 use Rattle.words.proofs.byte_of.Goals as goal

@@ -1,5 +1,4 @@
 -- `words::five` meets its contract. Assumes nothing.
-
 use mathlib.Core.Path.{sym}
 use lib.ListN.{drop}
 use Rattle.words.proofs.Read.{five_none, five_done}

@@ -1,5 +1,4 @@
 -- `words::head_ok` meets its contract. Assumes nothing.
-
 use borrow.Author.Tests.{ne_eqb, eq-eqb}
 use Rattle.words.specs.Words.{head_ok}
 use Rattle.words.proofs.head_ok.Goals as goal

@@ -1,9 +1,7 @@
 -- `words::item_at` meets its contract: each return is one law of `Laws`, at the tests that led there. Assumes nothing.
-
 use mathlib.Core.Path.{sym, ◌∙◌}
 use Prim.Native.Nat.{◌+◌}
 use native.Mathlib.Omega.{arith}
-use borrow.Author.Tests.{not-true, not-false}
 use Rattle.words.proofs.Laws.{item_end, item_lost, item_other, item_frame, frame_end, frame_other, frame_by}
 use Rattle.words.proofs.item_at.Goals as goal
 

@@ -1,5 +1,4 @@
 -- `words::last` meets its contract. Assumes nothing.
-
 use mathlib.Core.Path.{sym, ap}
 use Rattle.words.specs.Words.{last_shape}
 use Rattle.words.specs.declared.Item.{Item}

@@ -1,5 +1,4 @@
 -- `words::least` meets its contract. Assumes nothing.
-
 use borrow.Author.Tests.{lt-ltb, le-ltb}
 use Rattle.words.proofs.least.Goals as goal
 

@@ -1,7 +1,7 @@
 use mathlib.Core.Path.{◌≡◌, refl, ap, ◌∙◌}
 use native.Mathlib.Omega.{arith}
 use mathlib.Core.List.{List, ◌++◌}
-use Prim.Native.Nat.{ℕ, ◌+◌, ◌-◌, ◌*◌, ◌/◌, ◌%◌, ◌≤◌}
+use Prim.Native.Nat.{ℕ, ◌+◌, ◌-◌, ◌*◌, ◌/◌, ◌%◌}
 use lib.ListN.{drop, set, replicate}
 use Rattle.words.specs.Words.{bytes_at, byte_at, least}
 use Rattle.words.proofs.Read.{least_most, payload_more, payload_three, payload_none, word_byte}

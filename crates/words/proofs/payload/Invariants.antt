@@ -1,13 +1,10 @@
 -- `words::payload` meets its contract. The first loop's invariant: the bytes of the first k words are read, and zeros stand behind them; the
 -- second's: the first j bytes are. Assumes nothing.
-
-use mathlib.Core.Path.{◌≡◌, refl, ap, ◌∙◌}
-use native.Mathlib.Omega.{arith}
-use mathlib.Core.List.{List, ◌++◌}
-use Prim.Native.Nat.{ℕ, ◌+◌, ◌-◌, ◌*◌, ◌/◌, ◌%◌, ◌≤◌}
-use lib.ListN.{drop, set, replicate}
-use Rattle.words.specs.Words.{bytes_at, byte_at, least}
-use Rattle.words.proofs.Read.{least_most, payload_more, payload_three, payload_none, word_byte}
+use mathlib.Core.Path.{◌≡◌}
+use mathlib.Core.List.{◌++◌}
+use Prim.Native.Nat.{◌+◌, ◌-◌, ◌*◌, ◌≤◌}
+use lib.ListN.{drop, replicate}
+use Rattle.words.specs.Words.{bytes_at}
 use Rattle.words.proofs.payload.Given as goal
 
 abbrev pub invariant-loop-k : goal.invariant-loop-k

@@ -1,5 +1,4 @@
 -- `words::payload_byte` meets its contract. Assumes nothing.
-
 use mathlib.Core.Path.{sym, ap, ◌∙◌}
 use native.Mathlib.Omega.{arith}
 use Prim.Native.Nat.{ℕ, ◌%◌}

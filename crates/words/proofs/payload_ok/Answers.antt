@@ -1,9 +1,6 @@
-use mathlib.Core.Path.{◌≡◌, refl, sym, ◌∙◌}
-use Prim.Native.Nat.{◌≤◌}
+use mathlib.Core.Path.{refl, sym, ◌∙◌}
 use native.Mathlib.Omega.{arith}
-use lib.ListN.{length, drop}
-use borrow.Author.Tests.{not-true, not-false}
-use Rattle.words.specs.Words.{payload_ok}
+use lib.ListN.{drop}
 use Rattle.words.proofs.Laws.{payload_end, payload_bad, payload_more, payload_done}
 use borrow.Author.Rules.{rules}
 use Rattle.words.proofs.payload_ok.Goals as goal

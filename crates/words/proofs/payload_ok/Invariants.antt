@@ -1,13 +1,9 @@
 -- `words::payload_ok` meets its contract. The invariant: what is asked of the whole is what is asked of the words and bytes that are left.
 -- Assumes nothing.
-
-use mathlib.Core.Path.{◌≡◌, refl, sym, ◌∙◌}
+use mathlib.Core.Path.{◌≡◌}
 use Prim.Native.Nat.{◌≤◌}
-use native.Mathlib.Omega.{arith}
 use lib.ListN.{length, drop}
-use borrow.Author.Tests.{not-true, not-false}
 use Rattle.words.specs.Words.{payload_ok}
-use Rattle.words.proofs.Laws.{payload_end, payload_bad, payload_more, payload_done}
 use Rattle.words.proofs.payload_ok.Given as goal
 
 abbrev pub invariant-loop-left : goal.invariant-loop-left

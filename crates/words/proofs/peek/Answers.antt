@@ -1,5 +1,4 @@
 -- `words::peek` meets its contract: each return is one law of `Read`. Assumes nothing.
-
 use mathlib.Core.Path.{sym, ap, ◌∙◌}
 use native.Mathlib.Omega.{arith}
 use Prim.Native.Nat.{ℕ, ◌/◌, ◌%◌}

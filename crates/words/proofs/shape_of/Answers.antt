@@ -1,10 +1,8 @@
-use mathlib.Core.Path.{◌≡◌, sym, ap, ◌∙◌}
-use Prim.Native.Nat.{◌-◌, ◌≤◌}
+use mathlib.Core.Path.{sym, ap, ◌∙◌}
+use Prim.Native.Nat.{◌-◌}
 use native.Mathlib.Omega.{arith}
-use lib.ListN.{length, drop}
-use borrow.Author.Tests.{not-true, not-false}
-use Rattle.words.specs.Words.{shape_of, parse, frames_of}
-use Rattle.words.proofs.Laws.{shape_from, shape_end, shape_more, shape_full, item_within, parse_none, parse_head_bad, parse_head}
+use Rattle.words.specs.Words.{shape_of}
+use Rattle.words.proofs.Laws.{shape_end, shape_more, shape_full, item_within, parse_none, parse_head_bad, parse_head}
 use Rattle.words.proofs.shape_of.Goals as goal
 
 pub returns-then-words-eq0 : goal.returns-then-words-eq0

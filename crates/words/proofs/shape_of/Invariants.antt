@@ -1,13 +1,10 @@
 -- `words::shape_of` meets its contract. The invariant: the shape of the whole is the shape of what is left, with n frames before it.
 -- Assumes nothing.
-
-use mathlib.Core.Path.{◌≡◌, sym, ap, ◌∙◌}
+use mathlib.Core.Path.{◌≡◌}
 use Prim.Native.Nat.{◌-◌, ◌≤◌}
-use native.Mathlib.Omega.{arith}
 use lib.ListN.{length, drop}
-use borrow.Author.Tests.{not-true, not-false}
 use Rattle.words.specs.Words.{shape_of, parse, frames_of}
-use Rattle.words.proofs.Laws.{shape_from, shape_end, shape_more, shape_full, item_within, parse_none, parse_head_bad, parse_head}
+use Rattle.words.proofs.Laws.{shape_from}
 use Rattle.words.proofs.shape_of.Given as goal
 
 abbrev pub invariant-loop-n : goal.invariant-loop-n

@@ -1,5 +1,4 @@
 -- `words::size_of` meets its contract. Assumes nothing.
-
 use mathlib.Core.Path.{sym, ap, ◌∙◌}
 use Prim.Native.Nat.{ℕ, ◌+◌}
 use Rattle.words.specs.Words.{size_of}

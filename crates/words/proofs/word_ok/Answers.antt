@@ -1,5 +1,4 @@
 -- `words::word_ok` meets its contract. Assumes nothing.
-
 use borrow.Author.Tests.{ne_eqb, eq-eqb}
 use Rattle.words.specs.Words.{word_ok}
 use Rattle.words.proofs.word_ok.Goals as goal

@@ -1,5 +1,4 @@
 -- Assumes nothing.
-
 use Rattle.bursts.specs.Rows.{member_in}
 use mathlib.Core.Path.{◌≡◌}
 use native.Mathlib.Omega.{arith}

@@ -1,5 +1,4 @@
 -- Assumes nothing.
-
 use native.Mathlib.Omega.{arith}
 use lib.ListN.{get_or}
 use Rattle.out.proofs.Laws.{then, wrote_as}

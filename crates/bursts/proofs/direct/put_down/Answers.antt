@@ -1,5 +1,4 @@
 -- Assumes nothing.
-
 use native.Mathlib.Omega.{arith}
 use Rattle.bursts.proofs.Directing.{down_payload, mod_again}
 use Rattle.bursts.proofs.direct.put_down.Goals as goal

@@ -1,7 +1,7 @@
-use mathlib.Core.Path.{◌≡◌, refl, sym, ap, ◌∙◌}
-use Prim.Native.Nat.{◌-◌, ◌<◌}
+use mathlib.Core.Path.{◌≡◌}
+use Prim.Native.Nat.{◌-◌}
 use native.Mathlib.Omega.{arith}
-use Rattle.out.proofs.Laws.{Still, still_start, still_on, still_end, wrote_length}
+use Rattle.out.proofs.Laws.{still_start, still_on, still_end, wrote_length}
 use Rattle.bursts.specs.Direct.{down_frames}
 use Rattle.bursts.proofs.Directing.{least_fst, down_more, down_last, down_full}
 use Rattle.bursts.proofs.direct.put_downs.Goals as goal

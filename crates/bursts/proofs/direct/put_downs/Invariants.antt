@@ -1,11 +1,7 @@
 -- The invariant: the frames from byte k on are still to be written. Assumes nothing.
-
-use mathlib.Core.Path.{◌≡◌, refl, sym, ap, ◌∙◌}
 use Prim.Native.Nat.{◌-◌, ◌<◌}
-use native.Mathlib.Omega.{arith}
-use Rattle.out.proofs.Laws.{Still, still_start, still_on, still_end, wrote_length}
+use Rattle.out.proofs.Laws.{Still}
 use Rattle.bursts.specs.Direct.{down_frames}
-use Rattle.bursts.proofs.Directing.{least_fst, down_more, down_last, down_full}
 use Rattle.bursts.proofs.direct.put_downs.Given as goal
 
 abbrev pub invariant-loop-n : goal.invariant-loop-n

@@ -1,5 +1,4 @@
 -- Assumes nothing.
-
 use Rattle.bursts.proofs.reroute.is_down.Goals as goal
 
 pub is_member-requires : goal.is_member-requires

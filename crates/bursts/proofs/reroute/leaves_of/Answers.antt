@@ -1,10 +1,8 @@
-use mathlib.Core.Path.{◌≡◌, refl, sym, ◌∙◌}
-use Prim.Native.Nat.{◌≤◌, ◌-◌}
+use mathlib.Core.Path.{refl, sym, ◌∙◌}
+use Prim.Native.Nat.{◌-◌}
 use native.Mathlib.Omega.{arith}
-use Rattle.bits.specs.Loop.{fold}
 use Rattle.bits.proofs.Loops.{fold_turn, fold_end}
-use Rattle.bursts.specs.Rows.{mark_if, mask_where}
-use Rattle.bursts.specs.Reroute.{leaf_at, leaves_of}
+use Rattle.bursts.specs.Rows.{mask_where}
 use Rattle.bursts.proofs.reroute.leaves_of.Goals as goal
 
 pub loop-i-init : goal.loop-i-init

@@ -1,11 +1,8 @@
 -- Assumes nothing.
-
-use mathlib.Core.Path.{◌≡◌, refl, sym, ◌∙◌}
+use mathlib.Core.Path.{◌≡◌}
 use Prim.Native.Nat.{◌≤◌, ◌-◌}
-use native.Mathlib.Omega.{arith}
 use Rattle.bits.specs.Loop.{fold}
-use Rattle.bits.proofs.Loops.{fold_turn, fold_end}
-use Rattle.bursts.specs.Rows.{mark_if, mask_where}
+use Rattle.bursts.specs.Rows.{mark_if}
 use Rattle.bursts.specs.Reroute.{leaf_at, leaves_of}
 use Rattle.bursts.proofs.reroute.leaves_of.Given as goal
 

@@ -1,17 +1,10 @@
 -- Assumes nothing.
-
-use mathlib.Core.Path.{◌≡◌, ap}
-use Prim.Native.Nat.{ℕ, ◌≤◌, ◌-◌}
-use native.Mathlib.Omega.{arith}
-use Rattle.net.proofs.Laws.{index_lt}
+use mathlib.Core.Path.{◌≡◌}
+use Prim.Native.Nat.{◌≤◌, ◌-◌}
 use mathlib.Core.List.{[]}
-use Rattle.bits.specs.Loop.{fold}
-use Rattle.out.proofs.Laws.{wrote_length}
 use Rattle.net.specs.Net.{said}
 use Rattle.bursts.specs.Reroute.{able_of, move_at, move_all}
-use Rattle.bursts.specs.Rows.{member_in}
-use Rattle.bursts.proofs.Saying.{Going, going_start, going_turn, going_end}
-use Rattle.bursts.proofs.Moves.{move_turn, able_moved}
+use Rattle.bursts.proofs.Saying.{Going}
 use Rattle.bursts.proofs.reroute.move_leaves.Given as goal
 
 abbrev pub invariant-loop-c : goal.invariant-loop-c

@@ -1,5 +1,4 @@
 -- Assumes nothing.
-
 use borrow.Author.Tests.{eq-eqb, ne_eqb}
 use Rattle.bursts.proofs.reroute.moved_to.Goals as goal
 

@@ -1,5 +1,4 @@
 -- Assumes nothing.
-
 use Rattle.bursts.proofs.reroute.new_relay.Goals as goal
 
 pub returns-then-down : goal.returns-then-down

@@ -1,9 +1,9 @@
 use mathlib.Core.Path.{refl}
-use Prim.Native.Nat.{◌≤◌, ◌-◌}
+use Prim.Native.Nat.{◌-◌}
 use native.Mathlib.Omega.{arith}
 use Rattle.out.proofs.Laws.{wrote_length}
-use Rattle.bursts.specs.Reroute.{promote_at, promote_all}
-use Rattle.bursts.proofs.Saying.{Going, going_start, going_turn, going_end}
+use Rattle.bursts.specs.Reroute.{promote_all}
+use Rattle.bursts.proofs.Saying.{going_start, going_turn, going_end}
 use Rattle.bursts.proofs.Moves.{promote_turn}
 use Rattle.bursts.proofs.reroute.promote.Goals as goal
 

@@ -1,12 +1,7 @@
 -- Assumes nothing.
-
-use mathlib.Core.Path.{refl}
 use Prim.Native.Nat.{◌≤◌, ◌-◌}
-use native.Mathlib.Omega.{arith}
-use Rattle.out.proofs.Laws.{wrote_length}
 use Rattle.bursts.specs.Reroute.{promote_at, promote_all}
-use Rattle.bursts.proofs.Saying.{Going, going_start, going_turn, going_end}
-use Rattle.bursts.proofs.Moves.{promote_turn}
+use Rattle.bursts.proofs.Saying.{Going}
 use Rattle.bursts.proofs.reroute.promote.Given as goal
 
 abbrev pub invariant-loop-i : goal.invariant-loop-i

@@ -1,5 +1,4 @@
 -- Assumes nothing.
-
 use Rattle.bursts.proofs.reroute.promote_member.Goals as goal
 
 pub promoted-requires : goal.promoted-requires

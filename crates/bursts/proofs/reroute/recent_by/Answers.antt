@@ -1,5 +1,4 @@
 -- Assumes nothing.
-
 use Rattle.bursts.proofs.reroute.recent_by.Goals as goal
 
 pub empty-requires : goal.empty-requires

@@ -1,5 +1,4 @@
 -- Assumes nothing.
-
 use mathlib.Core.Path.{sym, ap, ◌∙◌}
 use Rattle.out.proofs.Laws.{wrote_length}
 use Rattle.bursts.specs.declared.reroute.Surveyed.{Surveyed}

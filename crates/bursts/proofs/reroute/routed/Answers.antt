@@ -1,5 +1,4 @@
 -- Assumes nothing.
-
 use Rattle.out.proofs.Laws.{wrote_none}
 use Rattle.bursts.proofs.reroute.routed.Goals as goal
 

@@ -1,10 +1,9 @@
-use mathlib.Core.Path.{◌≡◌, refl, sym, ◌∙◌}
-use Prim.Native.Nat.{◌≤◌, ◌-◌}
+use mathlib.Core.Path.{refl, sym, ◌∙◌}
+use Prim.Native.Nat.{◌-◌}
 use native.Mathlib.Omega.{arith}
-use Rattle.bits.specs.Loop.{fold}
 use Rattle.bits.proofs.Loops.{fold_turn, fold_end}
 use Rattle.bursts.specs.Rows.{mark_if, mask_where}
-use Rattle.bursts.specs.Reroute.{able_at, able_of, needs_at, needs_of, tried_at, tried_of}
+use Rattle.bursts.specs.Reroute.{able_at, needs_at, tried_at, tried_of}
 use Rattle.bursts.proofs.reroute.survey.Goals as goal
 
 pub loop-i-init : goal.loop-i-init

@@ -1,5 +1,4 @@
 -- Assumes nothing.
-
 use Rattle.bursts.proofs.reroute.with_if.Goals as goal
 
 pub with-requires : goal.with-requires

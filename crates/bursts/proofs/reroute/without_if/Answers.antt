@@ -1,5 +1,4 @@
 -- Assumes nothing.
-
 use Rattle.bursts.proofs.reroute.without_if.Goals as goal
 
 pub without-requires : goal.without-requires

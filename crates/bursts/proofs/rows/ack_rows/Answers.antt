@@ -1,5 +1,4 @@
 -- Assumes nothing.
-
 use native.Mathlib.Omega.{arith}
 use Rattle.bursts.proofs.rows.ack_rows.Goals as goal
 

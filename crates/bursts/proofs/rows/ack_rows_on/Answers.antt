@@ -1,12 +1,7 @@
-use mathlib.Core.Path.{◌≡◌, refl}
-use Prim.Native.Nat.{◌≤◌, ◌-◌}
+use mathlib.Core.Path.{refl}
+use Prim.Native.Nat.{◌-◌}
 use native.Mathlib.Omega.{arith}
-use mathlib.Core.List.{◌∷◌}
-use lib.ListN.{length, get_or, take}
-use Rattle.wire.specs.Call.{pack_call}
-use Rattle.roster.specs.Members.{no_member}
-use Rattle.bursts.specs.Rows.{ack_at}
-use Rattle.bursts.proofs.Filling.{Rows, front_most, rows_from, rows_turn, rows_end}
+use Rattle.bursts.proofs.Filling.{front_most, rows_from, rows_turn, rows_end}
 use borrow.Author.Rules.{rules}
 use Rattle.bursts.proofs.rows.ack_rows_on.Goals as goal
 

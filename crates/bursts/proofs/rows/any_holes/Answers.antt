@@ -1,9 +1,8 @@
-use mathlib.Core.Path.{◌≡◌, refl, sym, ◌∙◌}
-use Prim.Native.Nat.{◌≤◌, ◌-◌}
+use mathlib.Core.Path.{refl, sym, ◌∙◌}
+use Prim.Native.Nat.{◌-◌}
 use native.Mathlib.Omega.{arith}
-use Rattle.bits.specs.Loop.{any}
 use Rattle.bits.proofs.Loops.{any_pass, any_stop, any_end}
-use Rattle.bursts.specs.Rows.{hole_at, any_holes}
+use Rattle.bursts.specs.Rows.{hole_at}
 use Rattle.bursts.proofs.rows.any_holes.Goals as goal
 
 pub loop-i-init : goal.loop-i-init

@@ -1,10 +1,7 @@
 -- Assumes nothing.
-
-use mathlib.Core.Path.{◌≡◌, refl, sym, ◌∙◌}
+use mathlib.Core.Path.{◌≡◌}
 use Prim.Native.Nat.{◌≤◌, ◌-◌}
-use native.Mathlib.Omega.{arith}
 use Rattle.bits.specs.Loop.{any}
-use Rattle.bits.proofs.Loops.{any_pass, any_stop, any_end}
 use Rattle.bursts.specs.Rows.{hole_at, any_holes}
 use Rattle.bursts.proofs.rows.any_holes.Given as goal
 

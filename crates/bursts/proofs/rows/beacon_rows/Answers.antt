@@ -1,5 +1,4 @@
 -- Assumes nothing.
-
 use mathlib.Core.Path.{refl}
 use mathlib.Core.List.{[]}
 use native.Mathlib.Omega.{arith}

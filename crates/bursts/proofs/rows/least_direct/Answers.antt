@@ -1,9 +1,8 @@
-use mathlib.Core.Path.{◌≡◌, refl, sym, ap, ◌∙◌}
-use Prim.Native.Nat.{◌≤◌, ◌-◌}
+use mathlib.Core.Path.{refl, sym, ap, ◌∙◌}
+use Prim.Native.Nat.{◌-◌}
 use native.Mathlib.Omega.{arith}
-use Rattle.bits.specs.Loop.{fold}
 use Rattle.bits.proofs.Loops.{fold_turn, fold_end}
-use Rattle.bursts.specs.Rows.{or_floor, direct_at, least_direct}
+use Rattle.bursts.specs.Rows.{or_floor, least_direct}
 use Rattle.bursts.proofs.rows.least_direct.Goals as goal
 
 pub loop-i-init : goal.loop-i-init

@@ -1,10 +1,7 @@
 -- Assumes nothing.
-
-use mathlib.Core.Path.{◌≡◌, refl, sym, ap, ◌∙◌}
+use mathlib.Core.Path.{◌≡◌}
 use Prim.Native.Nat.{◌≤◌, ◌-◌}
-use native.Mathlib.Omega.{arith}
 use Rattle.bits.specs.Loop.{fold}
-use Rattle.bits.proofs.Loops.{fold_turn, fold_end}
 use Rattle.bursts.specs.Rows.{or_floor, direct_at, least_direct}
 use Rattle.bursts.proofs.rows.least_direct.Given as goal
 

@@ -1,5 +1,4 @@
 -- Assumes nothing.
-
 use Rattle.bursts.proofs.rows.least_if.Goals as goal
 
 pub least-requires : goal.least-requires

@@ -1,10 +1,9 @@
-use mathlib.Core.Path.{◌≡◌, refl, sym, ap, ◌∙◌}
-use Prim.Native.Nat.{◌≤◌, ◌-◌}
+use mathlib.Core.Path.{refl, sym, ap, ◌∙◌}
+use Prim.Native.Nat.{◌-◌}
 use native.Mathlib.Omega.{arith}
-use Rattle.bits.specs.Loop.{fold}
 use Rattle.bits.proofs.Loops.{fold_turn, fold_end}
 use Rattle.net.proofs.Laws.{index_lt}
-use Rattle.bursts.specs.Rows.{or_floor, reach_at, least_reach, member_in}
+use Rattle.bursts.specs.Rows.{or_floor, least_reach, member_in}
 use Rattle.bursts.proofs.rows.least_reach.Goals as goal
 
 pub loop-i-init : goal.loop-i-init

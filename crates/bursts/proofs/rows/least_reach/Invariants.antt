@@ -1,12 +1,8 @@
 -- Assumes nothing.
-
-use mathlib.Core.Path.{◌≡◌, refl, sym, ap, ◌∙◌}
+use mathlib.Core.Path.{◌≡◌}
 use Prim.Native.Nat.{◌≤◌, ◌-◌}
-use native.Mathlib.Omega.{arith}
 use Rattle.bits.specs.Loop.{fold}
-use Rattle.bits.proofs.Loops.{fold_turn, fold_end}
-use Rattle.net.proofs.Laws.{index_lt}
-use Rattle.bursts.specs.Rows.{or_floor, reach_at, least_reach, member_in}
+use Rattle.bursts.specs.Rows.{or_floor, reach_at, least_reach}
 use Rattle.bursts.proofs.rows.least_reach.Given as goal
 
 abbrev pub invariant-loop-i : goal.invariant-loop-i

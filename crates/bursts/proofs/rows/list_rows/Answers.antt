@@ -1,9 +1,7 @@
 use mathlib.Core.Path.{refl}
-use mathlib.Core.List.{[]}
-use Prim.Native.Nat.{◌≤◌, ◌-◌}
+use Prim.Native.Nat.{◌-◌}
 use native.Mathlib.Omega.{arith}
-use Rattle.bursts.specs.Rows.{list_at, list_row}
-use Rattle.bursts.proofs.Filling.{Rows, rows_start, rows_turn, rows_end}
+use Rattle.bursts.proofs.Filling.{rows_start, rows_turn, rows_end}
 use Rattle.bursts.proofs.rows.list_rows.Goals as goal
 
 pub loop-i-init : goal.loop-i-init

@@ -1,11 +1,8 @@
 -- Assumes nothing.
-
-use mathlib.Core.Path.{refl}
 use mathlib.Core.List.{[]}
 use Prim.Native.Nat.{◌≤◌, ◌-◌}
-use native.Mathlib.Omega.{arith}
 use Rattle.bursts.specs.Rows.{list_at, list_row}
-use Rattle.bursts.proofs.Filling.{Rows, rows_start, rows_turn, rows_end}
+use Rattle.bursts.proofs.Filling.{Rows}
 use Rattle.bursts.proofs.rows.list_rows.Given as goal
 
 abbrev pub invariant-loop-i : goal.invariant-loop-i

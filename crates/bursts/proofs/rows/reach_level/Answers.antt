@@ -1,5 +1,4 @@
 -- Assumes nothing.
-
 use Rattle.bursts.proofs.rows.reach_level.Goals as goal
 
 pub is_member-requires : goal.is_member-requires

@@ -1,15 +1,12 @@
 -- Assumes nothing.
-
-use mathlib.Core.Path.{refl}
 use mathlib.Core.Bool.{not, ◌&&◌, ◌||◌}
 use mathlib.Core.List.{[], ◌∷◌}
 use Prim.Native.Nat.{◌≤◌, ◌-◌}
-use native.Mathlib.Omega.{arith}
 use lib.Dec.{eqb}
 use lib.ListN.{get_or}
 use Rattle.bits.specs.Mask.{has_bit}
 use Rattle.roster.specs.Members.{no_member}
-use Rattle.bursts.proofs.Filling.{Rows, rows_start, rows_turn, rows_end}
+use Rattle.bursts.proofs.Filling.{Rows}
 use Rattle.bursts.proofs.rows.tree_rows.Given as goal
 
 abbrev pub invariant-loop-i : goal.invariant-loop-i

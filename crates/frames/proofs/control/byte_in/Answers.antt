@@ -1,5 +1,4 @@
 -- Assumes nothing.
-
 use mathlib.Core.Path.{sym, ◌∙◌}
 use lib.ListN.{drop}
 use Rattle.words.proofs.Read.{byte_in}

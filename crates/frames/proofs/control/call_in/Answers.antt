@@ -1,5 +1,4 @@
 -- Assumes nothing.
-
 use Rattle.frames.proofs.control.call_in.Goals as goal
 
 pub returns : goal.returns

@@ -1,6 +1,4 @@
 -- Assumes nothing.
-
-use borrow.Author.Tests.{not-true, not-false}
 use Rattle.frames.specs.Control.{payload_in}
 use Rattle.frames.proofs.Entries.{checkin_is}
 use Rattle.frames.proofs.control.checkin_member.Goals as goal

@@ -1,6 +1,5 @@
 -- Assumes nothing.
-
-use borrow.Author.Tests.{not-true, not-false, ltb-true}
+use borrow.Author.Tests.{ltb-true}
 use lib.Dec.{ltb}
 use native.Mathlib.Omega.{arith}
 use Rattle.bits.proofs.Lists.{and_true}

@@ -1,5 +1,4 @@
 -- Assumes nothing.
-
 use Rattle.frames.proofs.control.heard_as.Goals as goal
 
 pub returns-in-Unheard : goal.returns-in-Unheard

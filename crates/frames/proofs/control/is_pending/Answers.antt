@@ -1,5 +1,4 @@
 -- Assumes nothing.
-
 use Rattle.frames.proofs.control.is_pending.Goals as goal
 
 pub returns : goal.returns

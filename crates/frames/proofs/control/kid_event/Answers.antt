@@ -1,6 +1,5 @@
 -- Assumes nothing.
-
-use borrow.Author.Tests.{not-true, not-false, le-leb, lt-leb}
+use borrow.Author.Tests.{le-leb, lt-leb}
 use Rattle.out.proofs.Laws.{wrote_none}
 use Rattle.frames.proofs.control.kid_event.Goals as goal
 

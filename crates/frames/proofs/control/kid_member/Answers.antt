@@ -1,6 +1,5 @@
 -- Assumes nothing.
-
-use borrow.Author.Tests.{not-true, not-false, le-leb, lt-leb}
+use borrow.Author.Tests.{le-leb, lt-leb}
 use Rattle.frames.proofs.control.kid_member.Goals as goal
 
 pub returns-then-not-ok : goal.returns-then-not-ok

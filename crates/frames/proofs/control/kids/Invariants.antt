@@ -1,15 +1,10 @@
 -- Assumes nothing.
 -- The invariant: the entries from e on are left of what is done. Assumes nothing.
-
-use mathlib.Core.Path.{refl}
 use mathlib.Core.List.{[]}
 use Prim.Native.Nat.{◌≤◌, ◌-◌}
-use native.Mathlib.Omega.{arith}
 use Rattle.net.specs.Net.{said}
-use Rattle.net.proofs.Laws.{index_lt}
-use Rattle.out.proofs.Laws.{wrote_length}
-use Rattle.frames.specs.Control.{payload_in, each_entry, kid_entry, kids_frame}
-use Rattle.frames.proofs.Entries.{Going, rest_on, going_end, kid_stored, did_none}
+use Rattle.frames.specs.Control.{payload_in, each_entry, kid_entry}
+use Rattle.frames.proofs.Entries.{Going}
 use Rattle.frames.proofs.control.kids.Given as goal
 
 abbrev pub invariant-loop-e : goal.invariant-loop-e

@@ -1,6 +1,4 @@
 -- Assumes nothing.
-
-use borrow.Author.Tests.{not-true, not-false}
 use Rattle.frames.proofs.control.new_boat.Goals as goal
 
 pub returns-then-not-fresh : goal.returns-then-not-fresh

@@ -1,12 +1,12 @@
 use mathlib.Core.Path.{refl}
 use mathlib.Core.List.{[]}
-use Prim.Native.Nat.{◌≤◌, ◌-◌}
+use Prim.Native.Nat.{◌-◌}
 use native.Mathlib.Omega.{arith}
 use Rattle.net.specs.Net.{said}
 use Rattle.net.proofs.Laws.{index_lt}
 use Rattle.out.proofs.Laws.{wrote_length}
-use Rattle.frames.specs.Control.{payload_in, each_entry, overheard_entry, overheard_frame}
-use Rattle.frames.proofs.Entries.{Going, rest_on, going_end, over_turn, over_stored, relay_is, did_none}
+use Rattle.frames.specs.Control.{payload_in, overheard_entry, overheard_frame}
+use Rattle.frames.proofs.Entries.{rest_on, going_end, over_turn, over_stored, relay_is, did_none}
 use Rattle.frames.proofs.control.overheard.Goals as goal
 
 pub offset_bounds-s-b : goal.offset_bounds-s-b

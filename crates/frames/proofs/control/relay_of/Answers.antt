@@ -1,5 +1,4 @@
 -- Assumes nothing.
-
 use Rattle.frames.proofs.control.relay_of.Goals as goal
 
 pub returns-then-ok : goal.returns-then-ok

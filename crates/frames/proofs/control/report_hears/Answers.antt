@@ -1,9 +1,8 @@
 use mathlib.Core.Path.{refl, sym}
-use Prim.Native.Nat.{◌≤◌, ◌-◌}
+use Prim.Native.Nat.{◌-◌}
 use native.Mathlib.Omega.{arith}
-use borrow.Author.Tests.{not-true, not-false}
-use Rattle.frames.specs.Control.{payload_in, hear_pair, hear_pairs}
-use Rattle.frames.proofs.Entries.{Rest, hears_turn, rest_end}
+use Rattle.frames.specs.Control.{payload_in}
+use Rattle.frames.proofs.Entries.{hears_turn, rest_end}
 use Rattle.frames.proofs.control.report_hears.Goals as goal
 
 pub returns-then-not-here : goal.returns-then-not-here

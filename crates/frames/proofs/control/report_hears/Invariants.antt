@@ -1,11 +1,7 @@
 -- The invariant: the pairs from e on are left. Assumes nothing.
-
-use mathlib.Core.Path.{refl, sym}
 use Prim.Native.Nat.{◌≤◌, ◌-◌}
-use native.Mathlib.Omega.{arith}
-use borrow.Author.Tests.{not-true, not-false}
 use Rattle.frames.specs.Control.{payload_in, hear_pair, hear_pairs}
-use Rattle.frames.proofs.Entries.{Rest, hears_turn, rest_end}
+use Rattle.frames.proofs.Entries.{Rest}
 use Rattle.frames.proofs.control.report_hears.Given as goal
 
 abbrev pub invariant-loop-e : goal.invariant-loop-e

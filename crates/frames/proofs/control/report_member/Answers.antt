@@ -1,6 +1,4 @@
 -- Assumes nothing.
-
-use borrow.Author.Tests.{not-true, not-false}
 use Rattle.frames.proofs.control.report_member.Goals as goal
 
 pub returns-then-not-here : goal.returns-then-not-here

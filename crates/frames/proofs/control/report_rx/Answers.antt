@@ -1,5 +1,4 @@
 -- Assumes nothing.
-
 use Rattle.frames.proofs.control.report_rx.Goals as goal
 
 pub returns : goal.returns

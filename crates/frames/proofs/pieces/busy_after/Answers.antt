@@ -1,5 +1,4 @@
 -- Assumes nothing.
-
 use Rattle.frames.proofs.pieces.busy_after.Goals as goal
 
 pub returns-then-changed : goal.returns-then-changed

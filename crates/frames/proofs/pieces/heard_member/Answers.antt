@@ -1,5 +1,4 @@
 -- Assumes nothing.
-
 use Rattle.frames.proofs.pieces.heard_member.Goals as goal
 
 pub returns : goal.returns

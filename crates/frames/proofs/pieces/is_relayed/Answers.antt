@@ -1,5 +1,4 @@
 -- Assumes nothing.
-
 use Rattle.frames.proofs.pieces.is_relayed.Goals as goal
 
 pub returns : goal.returns

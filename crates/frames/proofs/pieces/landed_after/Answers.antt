@@ -1,5 +1,4 @@
 -- Assumes nothing.
-
 use Rattle.frames.proofs.pieces.landed_after.Goals as goal
 
 pub returns-then-has_landed : goal.returns-then-has_landed

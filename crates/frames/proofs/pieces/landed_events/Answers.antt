@@ -1,6 +1,4 @@
 -- Assumes nothing.
-
-use borrow.Author.Tests.{not-true, not-false}
 use Rattle.out.proofs.Laws.{then, wrote_none}
 use Rattle.frames.proofs.pieces.landed_events.Goals as goal
 

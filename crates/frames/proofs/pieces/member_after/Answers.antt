@@ -1,5 +1,4 @@
 -- Assumes nothing.
-
 use Rattle.frames.proofs.pieces.member_after.Goals as goal
 
 pub returns-then-silent : goal.returns-then-silent

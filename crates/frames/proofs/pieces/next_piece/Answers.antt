@@ -1,5 +1,4 @@
 -- Assumes nothing.
-
 use mathlib.Core.Path.{◌∙◌}
 use Rattle.frames.proofs.pieces.next_piece.Goals as goal
 

@@ -1,5 +1,4 @@
 -- Assumes nothing.
-
 use Rattle.frames.proofs.pieces.numbered.Goals as goal
 
 pub returns-then-passed : goal.returns-then-passed

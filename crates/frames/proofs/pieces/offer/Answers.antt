@@ -1,5 +1,4 @@
 -- Assumes nothing.
-
 use native.Mathlib.Omega.{arith}
 use Rattle.frames.proofs.Stored.{room_of_store, no_room}
 use Rattle.frames.proofs.pieces.offer.Goals as goal

@@ -1,5 +1,4 @@
 -- Assumes nothing.
-
 use Rattle.frames.specs.Code.Pieces.{piece_of}
 use Rattle.frames.proofs.pieces.piece_of.Goals as goal
 

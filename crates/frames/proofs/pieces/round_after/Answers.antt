@@ -1,5 +1,4 @@
 -- Assumes nothing.
-
 use Rattle.frames.proofs.pieces.round_after.Goals as goal
 
 pub returns : goal.returns

@@ -1,5 +1,4 @@
 -- Assumes nothing.
-
 use Rattle.bits.specs.Stop.{stop}
 use Rattle.frames.proofs.pieces.size_of.Goals as goal
 

@@ -1,6 +1,4 @@
 -- Assumes nothing.
-
-use borrow.Author.Tests.{not-true, not-false}
 use Rattle.frames.proofs.pieces.totals_after.Goals as goal
 
 pub returns-then-not-relayed : goal.returns-then-not-relayed

@@ -1,11 +1,8 @@
-use mathlib.Core.Bool.{Bool}
-use mathlib.Core.Path.{◌≡◌, refl, sym, ◌∙◌}
-use Prim.Native.Nat.{ℕ, ◌-◌, ◌≤◌}
+use mathlib.Core.Path.{refl, sym, ◌∙◌}
+use Prim.Native.Nat.{◌-◌}
 use native.Mathlib.Omega.{arith}
-use lib.Dec.{eqb}
 use borrow.Author.Tests.{eq-eqb, ne_eqb}
-use Rattle.inbox.specs.declared.cell.Cell.{Cell}
-use Rattle.inbox.specs.Cells.{offset, seek, place_at}
+use Rattle.inbox.specs.Cells.{offset}
 use Rattle.inbox.proofs.Search.{seek_turn_here, seek_turn_on, seek_end}
 use borrow.Author.Rules.{rules}
 use Rattle.inbox.proofs.cell.at_offset.Invariants.{starts}

@@ -1,14 +1,10 @@
 -- The loop's invariant: what is left to search is the whole search. Assumes nothing.
-
 use mathlib.Core.Bool.{Bool}
-use mathlib.Core.Path.{◌≡◌, refl, sym, ◌∙◌}
+use mathlib.Core.Path.{◌≡◌}
 use Prim.Native.Nat.{ℕ, ◌-◌, ◌≤◌}
-use native.Mathlib.Omega.{arith}
 use lib.Dec.{eqb}
-use borrow.Author.Tests.{eq-eqb, ne_eqb}
 use Rattle.inbox.specs.declared.cell.Cell.{Cell}
 use Rattle.inbox.specs.Cells.{offset, seek, place_at}
-use Rattle.inbox.proofs.Search.{seek_turn_here, seek_turn_on, seek_end}
 use Rattle.inbox.proofs.cell.at_offset.Given as goal
 
 abbrev pub starts : Cell → ℕ → ℕ → Bool

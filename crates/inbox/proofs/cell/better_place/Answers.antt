@@ -1,5 +1,4 @@
 -- Each answer of the code is the definition's, by the tests that led to it. Assumes nothing.
-
 use native.Mathlib.Omega.{arith}
 use borrow.Author.Tests.{le-leb, lt-leb, lt-ltb, le-ltb}
 use Rattle.inbox.specs.Cells.{end_at}

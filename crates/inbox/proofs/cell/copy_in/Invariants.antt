@@ -1,12 +1,8 @@
 -- The loop's invariant: the first j bytes are copied. Assumes nothing.
-
-use mathlib.Core.List.{List}
-use mathlib.Core.Path.{◌≡◌, refl, ap, ◌∙◌}
-use Prim.Native.Nat.{ℕ, ◌+◌, ◌-◌, ◌≤◌, zero-le}
-use native.Mathlib.Omega.{arith}
-use lib.ListN.{length, get_or, set, length-set}
-use lib.Seq.{paste, paste-zero}
-use Rattle.bits.proofs.Lists.{copy_turn}
+use mathlib.Core.Path.{◌≡◌}
+use Prim.Native.Nat.{◌-◌, ◌≤◌}
+use lib.ListN.{length}
+use lib.Seq.{paste}
 use Rattle.inbox.proofs.cell.copy_in.Given as goal
 
 abbrev pub invariant-loop-j : goal.invariant-loop-j

@@ -1,11 +1,8 @@
-use mathlib.Core.Bool.{Bool}
-use mathlib.Core.Path.{◌≡◌, refl, sym, ◌∙◌}
-use Prim.Native.Nat.{ℕ, ◌-◌, ◌≤◌}
+use mathlib.Core.Path.{refl, sym, ◌∙◌}
+use Prim.Native.Nat.{◌-◌}
 use native.Mathlib.Omega.{arith}
-use lib.Dec.{leb}
 use borrow.Author.Tests.{le-leb, lt-leb}
-use Rattle.inbox.specs.declared.cell.Cell.{Cell}
-use Rattle.inbox.specs.Cells.{end_at, seek, free_place}
+use Rattle.inbox.specs.Cells.{end_at}
 use Rattle.inbox.proofs.Search.{seek_turn_here, seek_turn_on, seek_end}
 use borrow.Author.Rules.{rules}
 use Rattle.inbox.proofs.cell.free_place.Invariants.{ends}

@@ -1,14 +1,10 @@
 -- The loop's invariant: what is left to search is the whole search. Assumes nothing.
-
 use mathlib.Core.Bool.{Bool}
-use mathlib.Core.Path.{◌≡◌, refl, sym, ◌∙◌}
+use mathlib.Core.Path.{◌≡◌}
 use Prim.Native.Nat.{ℕ, ◌-◌, ◌≤◌}
-use native.Mathlib.Omega.{arith}
 use lib.Dec.{leb}
-use borrow.Author.Tests.{le-leb, lt-leb}
 use Rattle.inbox.specs.declared.cell.Cell.{Cell}
 use Rattle.inbox.specs.Cells.{end_at, seek, free_place}
-use Rattle.inbox.proofs.Search.{seek_turn_here, seek_turn_on, seek_end}
 use Rattle.inbox.proofs.cell.free_place.Given as goal
 
 abbrev pub ends : Cell → ℕ → Bool

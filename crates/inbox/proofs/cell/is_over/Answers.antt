@@ -1,5 +1,4 @@
 -- Assumes nothing.
-
 use Rattle.inbox.proofs.cell.is_over.Goals as goal
 
 pub returns : goal.returns

@@ -1,12 +1,8 @@
 -- The loop's invariant: the first j bytes are copied; none of those still to be read has been written. Assumes nothing.
-
-use mathlib.Core.List.{List}
-use mathlib.Core.Path.{◌≡◌, refl, ap, ◌∙◌}
-use Prim.Native.Nat.{ℕ, ◌+◌, ◌-◌, ◌≤◌, zero-le}
-use native.Mathlib.Omega.{arith}
-use lib.ListN.{length, get_or, set, take, drop, length-set}
-use lib.Seq.{paste, paste-zero}
-use Rattle.bits.proofs.Lists.{move_turn}
+use mathlib.Core.Path.{◌≡◌}
+use Prim.Native.Nat.{◌-◌, ◌≤◌}
+use lib.ListN.{length, take, drop}
+use lib.Seq.{paste}
 use Rattle.inbox.proofs.cell.move_down.Given as goal
 
 abbrev pub invariant-loop-j : goal.invariant-loop-j

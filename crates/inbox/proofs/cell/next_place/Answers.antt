@@ -1,8 +1,7 @@
-use mathlib.Core.Logic.{⊎_elim}
-use mathlib.Core.Path.{◌≡◌, refl, sym, ap, ◌∙◌}
-use Prim.Native.Nat.{ℕ, ◌+◌, ◌-◌, ◌≤◌}
+use mathlib.Core.Path.{refl, sym, ap, ◌∙◌}
+use Prim.Native.Nat.{ℕ, ◌+◌, ◌-◌}
 use native.Mathlib.Omega.{arith}
-use Rattle.inbox.specs.Cells.{next, next_place}
+use Rattle.inbox.specs.Cells.{next}
 use Rattle.inbox.proofs.Search.{next_turn_this, next_turn_on, next_end}
 use borrow.Author.Rules.{rules}
 use Rattle.inbox.proofs.cell.next_place.Goals as goal
@@ -24,16 +23,16 @@ loop-k-preserved c =
     let b = c.better_place in (
       omega arith,
       elim c.if-better_place.branch [
-        then-better_place w ↦
-          ap (λ (x : ℕ). next (16 - (l.k + 1)) a.cell (l.k + 1) x c.if-better_place.from) w.best-is
-          ∙ ap (λ (x : ℕ). next (16 - (l.k + 1)) a.cell (l.k + 1) l.k x) w.from-is
-          ∙ sym (next_turn_this 16 a.cell l.k l.best l.from (search rules) (sym b.ensures ∙ w.if-better_place.true))
-          ∙ l.invariant.1
+        | then-better_place w ↦
+            ap (λ (x : ℕ). next (16 - (l.k + 1)) a.cell (l.k + 1) x c.if-better_place.from) w.best-is
+            ∙ ap (λ (x : ℕ). next (16 - (l.k + 1)) a.cell (l.k + 1) l.k x) w.from-is
+            ∙ sym (next_turn_this 16 a.cell l.k l.best l.from (search rules) (sym b.ensures ∙ w.if-better_place.true))
+            ∙ l.invariant.1
         | else-better_place w ↦
-          ap (λ (x : ℕ). next (16 - (l.k + 1)) a.cell (l.k + 1) x c.if-better_place.from) w.best-is
-          ∙ ap (λ (x : ℕ). next (16 - (l.k + 1)) a.cell (l.k + 1) l.best x) w.from-is
-          ∙ sym (next_turn_on 16 a.cell l.k l.best l.from (search rules) (sym b.ensures ∙ w.if-better_place.false))
-          ∙ l.invariant.1
+            ap (λ (x : ℕ). next (16 - (l.k + 1)) a.cell (l.k + 1) x c.if-better_place.from) w.best-is
+            ∙ ap (λ (x : ℕ). next (16 - (l.k + 1)) a.cell (l.k + 1) l.best x) w.from-is
+            ∙ sym (next_turn_on 16 a.cell l.k l.best l.from (search rules) (sym b.ensures ∙ w.if-better_place.false))
+            ∙ l.invariant.1
       ],
     )
 

@@ -1,11 +1,7 @@
 -- The loop's invariant: what is left to search, with the best so far, is the whole search. Assumes nothing.
-
-use mathlib.Core.Logic.{⊎_elim}
-use mathlib.Core.Path.{◌≡◌, refl, sym, ap, ◌∙◌}
-use Prim.Native.Nat.{ℕ, ◌+◌, ◌-◌, ◌≤◌}
-use native.Mathlib.Omega.{arith}
+use mathlib.Core.Path.{◌≡◌}
+use Prim.Native.Nat.{◌-◌, ◌≤◌}
 use Rattle.inbox.specs.Cells.{next, next_place}
-use Rattle.inbox.proofs.Search.{next_turn_this, next_turn_on, next_end}
 use Rattle.inbox.proofs.cell.next_place.Given as goal
 
 abbrev pub invariant-loop-k : goal.invariant-loop-k

@@ -1,13 +1,8 @@
 -- The loop's invariant: what is left to join, within n turns, is the whole; each turn joins a byte, so n never runs out. Assumes nothing.
-
-use mathlib.Core.List.{List}
-use mathlib.Core.Path.{◌≡◌, refl, sym, ap, ◌∙◌}
+use mathlib.Core.Path.{◌≡◌}
 use Prim.Native.Nat.{ℕ, ◌+◌, ◌-◌, ◌≤◌}
-use native.Mathlib.Omega.{arith}
 use lib.ListN.{length}
-use borrow.Author.Tests.{le-ltb}
-use Rattle.inbox.specs.Cells.{held, settle, next_place}
-use Rattle.inbox.proofs.Steps.{grown_to, goes_at, settle_turn, settle_stop}
+use Rattle.inbox.specs.Cells.{held, settle}
 use Rattle.inbox.proofs.cell.settle_all.Given as goal
 
 abbrev pub invariant-loop-c : goal.invariant-loop-c

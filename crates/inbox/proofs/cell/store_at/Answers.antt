@@ -1,5 +1,4 @@
 -- The code's stores are the definition's. Assumes nothing.
-
 use mathlib.Core.List.{List}
 use mathlib.Core.Path.{ap}
 use Prim.Native.Nat.{ℕ}

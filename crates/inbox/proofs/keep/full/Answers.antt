@@ -1,5 +1,4 @@
 -- Each answer of the code is the definition's, by the tests that led to it. Assumes nothing.
-
 use mathlib.Core.Path.{ap}
 use native.Mathlib.Omega.{arith}
 use lib.Dec.{leb}

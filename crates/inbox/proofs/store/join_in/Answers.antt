@@ -1,5 +1,4 @@
 -- What is said of the lent part is said of the whole. Assumes nothing.
-
 use mathlib.Core.List.{List}
 use mathlib.Core.Path.{ap, ◌∙◌}
 use Prim.Native.Nat.{ℕ, ◌-◌, ◌*◌}

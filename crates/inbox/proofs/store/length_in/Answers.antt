@@ -1,5 +1,4 @@
 -- The two bytes read are the cell's first two. Assumes nothing.
-
 use native.Mathlib.Omega.{arith}
 use Rattle.inbox.proofs.Parts.{announced_in}
 use Rattle.inbox.proofs.store.length_in.Goals as goal

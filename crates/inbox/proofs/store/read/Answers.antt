@@ -1,5 +1,4 @@
 -- The part of the store that is handed out is the cell's part after its two bytes. Assumes nothing.
-
 use mathlib.Core.Path.{◌≡◌, ap, ◌∙◌}
 use Prim.Native.Nat.{ℕ, ◌+◌, ◌-◌, ◌*◌}
 use native.Mathlib.Omega.{arith}

@@ -1,5 +1,4 @@
 -- Assumes nothing.
-
 use native.Mathlib.Omega.{arith}
 use Rattle.outbox.specs.Marks as M
 use Rattle.outbox.specs.Senders as S

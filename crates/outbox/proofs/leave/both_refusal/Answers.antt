@@ -1,5 +1,4 @@
 -- By cases. Assumes nothing.
-
 use borrow.Author.Tests.{lt-ltb, le-ltb}
 use Rattle.outbox.proofs.leave.both_refusal.Goals as goal
 

@@ -1,5 +1,4 @@
 -- The loop's invariant: the messages behind i, to j, moved down. Assumes nothing.
-
 use mathlib.Core.Path.{◌≡◌}
 use Prim.Native.Nat.{◌-◌, ◌≤◌}
 use lib.ListN.{length}

@@ -1,5 +1,4 @@
 -- The loop's invariant: what stays so far, with what is to be asked, is the whole. Assumes nothing.
-
 use mathlib.Core.Path.{◌≡◌}
 use mathlib.Core.List.{◌++◌}
 use Prim.Native.Nat.{◌-◌, ◌≤◌}

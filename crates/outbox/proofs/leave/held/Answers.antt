@@ -1,5 +1,4 @@
 -- The checks, then what the outbox does. Assumes nothing.
-
 use mathlib.Core.Path.{refl, sym, ap, ◌∙◌}
 use mathlib.Core.List.{List}
 use Prim.Native.Nat.{ℕ}

@@ -1,5 +1,4 @@
 -- The loop's invariant: what was passed, with what is to be done, is the whole. Assumes nothing.
-
 use mathlib.Core.Path.{◌≡◌}
 use mathlib.Core.List.{List, ◌++◌}
 use Prim.Native.Nat.{ℕ, ◌-◌, ◌≤◌}

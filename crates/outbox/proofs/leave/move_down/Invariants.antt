@@ -1,5 +1,4 @@
 -- The loop's invariant: the first j bytes are copied; none of those still to be read has been written. Assumes nothing.
-
 use mathlib.Core.Path.{◌≡◌}
 use Prim.Native.Nat.{◌-◌, ◌≤◌}
 use lib.ListN.{length, take, drop}

@@ -1,5 +1,4 @@
 -- The code's stores are the definition's. Assumes nothing.
-
 use mathlib.Core.Path.{refl}
 use borrow.Author.Rules.{rules}
 use Rattle.outbox.proofs.leave.move_one.Goals as goal

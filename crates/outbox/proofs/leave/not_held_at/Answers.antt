@@ -1,5 +1,4 @@
 -- By cases. Assumes nothing.
-
 use mathlib.Core.Path.{sym, ap, ◌∙◌}
 use Rattle.outbox.proofs.Leaving as leaving
 use mathlib.Core.Bool.{not}

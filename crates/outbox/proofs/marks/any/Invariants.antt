@@ -1,5 +1,4 @@
 -- The loop's invariant: what is left to search says what the whole does. Assumes nothing.
-
 use mathlib.Core.Path.{◌≡◌}
 use Prim.Native.Nat.{◌-◌, ◌≤◌}
 use lib.ListN.{length, drop}

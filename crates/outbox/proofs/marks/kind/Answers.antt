@@ -1,5 +1,4 @@
 -- By cases. Assumes nothing.
-
 use borrow.Author.Tests.{eq-eqb, ne_eqb}
 use Rattle.outbox.proofs.marks.kind.Goals as goal
 

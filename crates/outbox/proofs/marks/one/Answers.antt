@@ -1,5 +1,4 @@
 -- By cases. Assumes nothing.
-
 use mathlib.Core.Path.{sym, ◌∙◌}
 use Rattle.bits.proofs.Lists.{cond_true, cond_false}
 use Rattle.outbox.specs.Marks as M

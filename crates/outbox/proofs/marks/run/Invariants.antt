@@ -1,5 +1,4 @@
 -- The loop's invariant: what was counted, with what is left to count, is the whole. Assumes nothing.
-
 use mathlib.Core.Path.{◌≡◌}
 use Prim.Native.Nat.{◌+◌, ◌-◌, ◌≤◌}
 use lib.ListN.{length, drop}

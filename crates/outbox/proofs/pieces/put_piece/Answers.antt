@@ -1,5 +1,4 @@
 -- The frame's words are the piece's. Assumes nothing.
-
 use mathlib.Core.Path.{ap, ◌∙◌}
 use mathlib.Core.List.{List}
 use Prim.Native.Nat.{ℕ, ◌-◌}

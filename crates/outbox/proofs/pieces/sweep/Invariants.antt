@@ -1,5 +1,4 @@
 -- The loop's invariant: what was done and what is to be done from i on is the whole. Assumes nothing.
-
 use Prim.Native.Nat.{◌-◌}
 use lib.ListN.{length}
 use Rattle.outbox.proofs.Passes as P

@@ -1,5 +1,4 @@
 -- No message is held. Assumes nothing.
-
 use mathlib.Core.List.{List}
 use mathlib.Core.Path.{ap}
 use Rattle.outbox.specs.Outbox.{OutMsg}

@@ -1,5 +1,4 @@
 -- The message is put behind the others. Assumes nothing.
-
 use mathlib.Core.Path.{refl, sym, ap, ◌∙◌}
 use mathlib.Core.List.{List}
 use Prim.Native.Nat.{ℕ}

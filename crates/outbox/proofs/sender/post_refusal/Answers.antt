@@ -1,5 +1,4 @@
 -- By cases. Assumes nothing.
-
 use borrow.Author.Tests.{lt-ltb, le-ltb, le-leb, lt-leb}
 use Rattle.outbox.proofs.sender.post_refusal.Goals as goal
 

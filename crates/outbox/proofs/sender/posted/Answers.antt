@@ -1,5 +1,4 @@
 -- The stores are the definition's. Assumes nothing.
-
 use mathlib.Core.Path.{ap}
 use Prim.Native.Nat.{ℕ, ◌+◌}
 use lib.ListN.{set}

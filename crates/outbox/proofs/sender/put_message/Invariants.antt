@@ -1,5 +1,4 @@
 -- The loop's invariant: the first k bytes are written. Assumes nothing.
-
 use mathlib.Core.Path.{◌≡◌}
 use Prim.Native.Nat.{◌-◌, ◌≤◌}
 use lib.ListN.{length}

@@ -1,5 +1,4 @@
 -- The loop's invariant: what is done, with what is to be done, is the whole. Assumes nothing.
-
 use mathlib.Core.Path.{◌≡◌}
 use mathlib.Core.List.{◌++◌}
 use Prim.Native.Nat.{◌-◌, ◌≤◌}

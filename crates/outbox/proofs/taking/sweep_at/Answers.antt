@@ -1,5 +1,4 @@
 -- What is said of the lent parts is said of the whole. Assumes nothing.
-
 use mathlib.Core.Path.{◌≡◌, ap, ◌∙◌}
 use mathlib.Core.List.{List, map}
 use Prim.Native.Nat.{ℕ, ◌+◌, ◌-◌, ◌*◌}

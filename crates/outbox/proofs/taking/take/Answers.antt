@@ -1,5 +1,4 @@
 -- The checks, then the passes one after the other. Assumes nothing.
-
 use mathlib.Core.Path.{◌≡◌, refl, sym, ap, ◌∙◌, subst}
 use mathlib.Core.Bool.{true}
 use mathlib.Core.List.{List, []}

@@ -1,5 +1,4 @@
 -- By cases. Assumes nothing.
-
 use borrow.Author.Tests.{eq-eqb, ne_eqb, lt-ltb, le-ltb}
 use Rattle.outbox.proofs.taking.take_refusal.Goals as goal
 

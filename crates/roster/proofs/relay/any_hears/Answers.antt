@@ -1,7 +1,6 @@
 use Rattle.bits.proofs.Loops.{any_pass, any_stop, any_end}
-use Rattle.bits.specs.Loop.{any}
-use mathlib.Core.Path.{◌≡◌, refl, sym, ◌∙◌}
-use Prim.Native.Nat.{◌≤◌, ◌-◌}
+use mathlib.Core.Path.{refl, sym, ◌∙◌}
+use Prim.Native.Nat.{◌-◌}
 use native.Mathlib.Omega.{arith}
 use Rattle.roster.specs.Relays.{hears_it, any_hears}
 use Rattle.roster.proofs.relay.any_hears.Goals as goal

@@ -1,10 +1,7 @@
 -- Assumes nothing.
-
-use Rattle.bits.proofs.Loops.{any_pass, any_stop, any_end}
 use Rattle.bits.specs.Loop.{any}
-use mathlib.Core.Path.{◌≡◌, refl, sym, ◌∙◌}
+use mathlib.Core.Path.{◌≡◌}
 use Prim.Native.Nat.{◌≤◌, ◌-◌}
-use native.Mathlib.Omega.{arith}
 use Rattle.roster.specs.Relays.{hears_it, any_hears}
 use Rattle.roster.proofs.relay.any_hears.Given as goal
 

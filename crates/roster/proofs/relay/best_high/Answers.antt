@@ -1,7 +1,6 @@
 use Rattle.bits.proofs.Loops.{fold_turn, fold_end}
-use Rattle.bits.specs.Loop.{fold}
-use mathlib.Core.Path.{◌≡◌, refl, sym, ◌∙◌, ap}
-use Prim.Native.Nat.{◌≤◌, ◌-◌}
+use mathlib.Core.Path.{refl, sym, ◌∙◌, ap}
+use Prim.Native.Nat.{◌-◌}
 use native.Mathlib.Omega.{arith}
 use Rattle.roster.specs.declared.relay.Pick.{Pick}
 use Rattle.roster.specs.Relays.{high_step, best_high}

@@ -1,5 +1,4 @@
 -- Assumes nothing.
-
 use borrow.Author.Tests.{lt-ltb, le-ltb}
 use Rattle.roster.specs.Relays.{heard_at}
 use Rattle.roster.proofs.relay.heard_at.Goals as goal

@@ -1,5 +1,4 @@
 -- Assumes nothing.
-
 use Rattle.roster.proofs.relay.hears_it.Goals as goal
 
 pub returns : goal.returns

@@ -1,5 +1,4 @@
 -- Assumes nothing.
-
 use Rattle.roster.proofs.relay.is_leaf.Goals as goal
 
 pub returns : goal.returns

@@ -1,5 +1,4 @@
 -- Assumes nothing.
-
 use Rattle.roster.proofs.relay.loud_enough.Goals as goal
 
 pub returns : goal.returns

@@ -1,6 +1,4 @@
 -- Assumes nothing.
-
-use borrow.Author.Tests.{not-true, not-false}
 use Rattle.roster.proofs.relay.low_step.Goals as goal
 
 pub returns-then-not-has : goal.returns-then-not-has

@@ -1,5 +1,4 @@
 -- Assumes nothing.
-
 use Rattle.roster.proofs.relay.needs_relay.Goals as goal
 
 pub returns : goal.returns

@@ -1,5 +1,4 @@
 -- Assumes nothing.
-
 use Rattle.roster.proofs.relay.promotable.Goals as goal
 
 pub returns-in-Unheard : goal.returns-in-Unheard

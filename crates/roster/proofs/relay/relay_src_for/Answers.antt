@@ -1,10 +1,9 @@
 use Rattle.bits.proofs.Loops.{first_pass, first_stop, first_end}
-use Rattle.bits.specs.Loop.{first}
-use mathlib.Core.Path.{◌≡◌, sym, ◌∙◌, ap}
-use Prim.Native.Nat.{◌≤◌, ◌-◌}
+use mathlib.Core.Path.{sym, ◌∙◌, ap}
+use Prim.Native.Nat.{◌-◌}
 use native.Mathlib.Omega.{arith}
 use Rattle.roster.proofs.Laws.{none_left, no_slot, at_slot}
-use Rattle.roster.specs.Relays.{is_source, relay_src_for, slot_or63}
+use Rattle.roster.specs.Relays.{is_source, slot_or63}
 use Rattle.roster.proofs.relay.relay_src_for.Goals as goal
 
 pub returns-then-slot-ge62 : goal.returns-then-slot-ge62

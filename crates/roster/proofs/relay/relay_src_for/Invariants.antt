@@ -1,11 +1,7 @@
 -- Assumes nothing.
-
-use Rattle.bits.proofs.Loops.{first_pass, first_stop, first_end}
 use Rattle.bits.specs.Loop.{first}
-use mathlib.Core.Path.{◌≡◌, sym, ◌∙◌, ap}
+use mathlib.Core.Path.{◌≡◌}
 use Prim.Native.Nat.{◌≤◌, ◌-◌}
-use native.Mathlib.Omega.{arith}
-use Rattle.roster.proofs.Laws.{none_left, no_slot, at_slot}
 use Rattle.roster.specs.Relays.{is_source, relay_src_for, slot_or63}
 use Rattle.roster.proofs.relay.relay_src_for.Given as goal
 

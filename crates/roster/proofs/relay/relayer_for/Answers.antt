@@ -1,5 +1,4 @@
 -- Assumes nothing.
-
 use borrow.Author.Tests.{eq-eqb, ne_eqb}
 use Rattle.roster.specs.Relays.{relayer_for}
 use Rattle.roster.proofs.relay.relayer_for.Goals as goal

@@ -1,5 +1,4 @@
 -- Assumes nothing.
-
 use Rattle.roster.proofs.relay.tried_with.Goals as goal
 
 pub returns-then-any_hears : goal.returns-then-any_hears

@@ -1,5 +1,4 @@
 -- Assumes nothing.
-
 use Rattle.roster.specs.Relays.{turn_over}
 use Rattle.roster.proofs.relay.turn_over.Goals as goal
 

@@ -1,5 +1,4 @@
 -- Assumes nothing.
-
 use Rattle.rx.proofs.ending.ack_level.Goals as goal
 
 pub returns-then-here : goal.returns-then-here

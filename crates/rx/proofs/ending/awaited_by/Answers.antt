@@ -1,5 +1,4 @@
 -- Assumes nothing.
-
 use mathlib.Core.Path.{ap, ◌∙◌}
 use Rattle.net.specs.declared.Reply.{Reply}
 use Rattle.rx.specs.Code.Ending.{awaits}

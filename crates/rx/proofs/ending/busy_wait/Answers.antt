@@ -1,5 +1,4 @@
 -- Assumes nothing.
-
 use mathlib.Core.Path.{◌∙◌}
 use Rattle.rx.proofs.ending.busy_wait.Goals as goal
 

@@ -1,5 +1,4 @@
 -- Assumes nothing.
-
 use borrow.Author.Tests.{eq-eqb, ne_eqb}
 use Rattle.rx.proofs.ending.end_member.Goals as goal
 

@@ -1,5 +1,4 @@
 -- Assumes nothing.
-
 use Rattle.rx.proofs.ending.end_recent.Goals as goal
 
 pub returns-then-e-here : goal.returns-then-e-here

@@ -1,5 +1,4 @@
 -- Assumes nothing.
-
 use Rattle.rx.proofs.ending.end_source.Goals as goal
 
 pub returns-then-e-is_member : goal.returns-then-e-is_member

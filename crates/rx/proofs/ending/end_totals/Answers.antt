@@ -1,5 +1,4 @@
 -- Assumes nothing.
-
 use Rattle.rx.proofs.ending.end_totals.Goals as goal
 
 pub returns-then-e : goal.returns-then-e

@@ -1,5 +1,4 @@
 -- Assumes nothing.
-
 use mathlib.Core.Path.{sym, ap}
 use Rattle.rx.specs.declared.ending.Awaited.{Awaited}
 use Rattle.rx.proofs.Endings.{ending_reply, ending_none}

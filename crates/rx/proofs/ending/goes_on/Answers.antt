@@ -1,5 +1,4 @@
 -- Assumes nothing.
-
 use mathlib.Core.Path.{refl}
 use Rattle.rx.proofs.ending.goes_on.Goals as goal
 

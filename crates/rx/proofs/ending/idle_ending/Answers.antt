@@ -1,5 +1,4 @@
 -- Assumes nothing.
-
 use Rattle.rx.proofs.ending.idle_ending.Goals as goal
 
 pub returns : goal.returns

@@ -1,5 +1,4 @@
 -- Assumes nothing.
-
 use Rattle.rx.proofs.ending.is_reply.Goals as goal
 
 pub returns : goal.returns

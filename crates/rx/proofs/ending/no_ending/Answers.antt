@@ -1,5 +1,4 @@
 -- Assumes nothing.
-
 use Rattle.rx.proofs.ending.no_ending.Goals as goal
 
 pub returns : goal.returns

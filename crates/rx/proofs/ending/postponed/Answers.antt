@@ -1,5 +1,4 @@
 -- Assumes nothing.
-
 use Rattle.rx.proofs.ending.postponed.Goals as goal
 
 pub returns-in-Waiting : goal.returns-in-Waiting

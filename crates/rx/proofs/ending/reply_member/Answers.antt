@@ -1,5 +1,4 @@
 -- Assumes nothing.
-
 use Rattle.rx.proofs.ending.reply_member.Goals as goal
 
 pub returns : goal.returns

@@ -1,5 +1,4 @@
 -- Assumes nothing.
-
 use borrow.Author.Tests.{eq-eqb, ne_eqb}
 use Rattle.script.specs.Actions.{by_number}
 use Rattle.script.proofs.action.by_number.Goals as goal

@@ -1,5 +1,4 @@
 -- Assumes nothing.
-
 use mathlib.Core.Path.{sym, ◌∙◌}
 use Rattle.bits.proofs.Lists.{cond_true, cond_false}
 use Rattle.script.proofs.action.command_of.Goals as goal

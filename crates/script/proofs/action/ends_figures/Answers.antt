@@ -1,5 +1,4 @@
 -- Assumes nothing.
-
 use Rattle.script.proofs.action.ends_figures.Goals as goal
 
 pub returns : goal.returns

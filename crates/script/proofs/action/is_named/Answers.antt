@@ -1,5 +1,4 @@
 -- Assumes nothing.
-
 use Rattle.script.proofs.action.is_named.Goals as goal
 
 pub returns : goal.returns

@@ -1,5 +1,4 @@
 -- Assumes nothing.
-
 use borrow.Author.Tests.{lt-ltb, le-ltb}
 use Rattle.script.proofs.action.level_word.Goals as goal
 

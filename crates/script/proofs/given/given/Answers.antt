@@ -1,5 +1,4 @@
 -- Assumes nothing.
-
 use Rattle.script.proofs.given.given.Goals as goal
 
 pub returns : goal.returns

@@ -1,5 +1,4 @@
 -- Assumes nothing.
-
 use Rattle.script.proofs.Floats.{either}
 use Rattle.script.proofs.given.has_nan.Goals as goal
 

@@ -1,10 +1,7 @@
 -- Assumes nothing.
-
-use mathlib.Core.Path.{◌≡◌, refl, sym, ◌∙◌}
+use mathlib.Core.Path.{◌≡◌}
 use Prim.Native.Nat.{◌≤◌, ◌+◌, ◌-◌, ◌*◌}
-use native.Mathlib.Omega.{arith}
 use Rattle.bits.specs.Loop.{any}
-use Rattle.bits.proofs.Loops.{any_pass, any_stop, any_end}
 use Rattle.script.specs.Numbers.{nan32_at}
 use Rattle.script.specs.Settings.{has_nan32}
 use Rattle.script.proofs.given.has_nan32.Given as goal

@@ -1,5 +1,4 @@
 -- Assumes nothing.
-
 use Rattle.script.proofs.Settings.{settings_is}
 use Rattle.script.proofs.given.settings.Goals as goal
 

@@ -1,11 +1,8 @@
 -- Assumes nothing.
-
-use mathlib.Core.Path.{◌≡◌, refl, ◌∙◌}
+use mathlib.Core.Path.{◌≡◌}
 use Prim.Native.Nat.{◌≤◌, ◌-◌}
-use native.Mathlib.Omega.{arith}
-use lib.ListN.{length, take, length-set}
+use lib.ListN.{length, take}
 use Rattle.script.specs.Settings.{f32s_at}
-use Rattle.script.proofs.Numbers.{read_next, read_all}
 use Rattle.script.proofs.given.thresholds.Given as goal
 
 abbrev pub invariant-loop-i : goal.invariant-loop-i

@@ -1,5 +1,4 @@
 -- Assumes nothing.
-
 use Rattle.script.proofs.Floats.{real, number, no_number}
 use Rattle.script.specs.Numbers.{bits64}
 use Rattle.script.proofs.number.bits64.Goals as goal

@@ -1,5 +1,4 @@
 -- Assumes nothing.
-
 use Rattle.script.proofs.Floats.{refuted}
 use lib.Ieee.{binary64}
 use Rattle.script.proofs.Numbers.{float_none, float_some}

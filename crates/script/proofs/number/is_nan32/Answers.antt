@@ -1,5 +1,4 @@
 -- Assumes nothing.
-
 use mathlib.Core.Path.{refl}
 use lib.Ieee.{nan_bits}
 use Rattle.script.proofs.number.is_nan32.Goals as goal

@@ -1,6 +1,5 @@
 -- Assumes nothing.
-
-use mathlib.Core.Path.{◌≡◌, ap, ◌∙◌}
+use mathlib.Core.Path.{ap, ◌∙◌}
 use lib.Ieee.{binary32, nan_bits}
 use Rattle.script.proofs.number.nan32_at.Goals as goal
 

@@ -1,5 +1,4 @@
 -- Assumes nothing.
-
 use native.Mathlib.Omega.{arith}
 use Rattle.script.proofs.Numbers.{u32_none, u32_some}
 use Rattle.script.proofs.number.u32_at.Goals as goal

@@ -1,5 +1,4 @@
 -- Assumes nothing.
-
 use native.Mathlib.Omega.{arith}
 use Rattle.script.proofs.Numbers.{u64_none, u64_some}
 use Rattle.script.proofs.number.u64_at.Goals as goal

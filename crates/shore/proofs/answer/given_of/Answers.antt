@@ -1,5 +1,4 @@
 -- Assumes nothing.
-
 use Rattle.shore.proofs.answer.given_of.Goals as goal
 
 pub returns : goal.returns

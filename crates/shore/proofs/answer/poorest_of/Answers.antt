@@ -1,5 +1,4 @@
 -- Assumes nothing.
-
 use Rattle.shore.proofs.answer.poorest_of.Goals as goal
 
 pub returns-in-Refused : goal.returns-in-Refused

@@ -1,5 +1,4 @@
 -- Assumes nothing.
-
 use Rattle.shore.proofs.pack.await_made.Goals as goal
 
 pub returns : goal.returns

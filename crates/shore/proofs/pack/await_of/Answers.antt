@@ -1,5 +1,4 @@
 -- Assumes nothing.
-
 use Rattle.shore.proofs.pack.await_of.Goals as goal
 
 pub returns-in-Idle : goal.returns-in-Idle

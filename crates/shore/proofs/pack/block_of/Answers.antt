@@ -1,5 +1,4 @@
 -- Assumes nothing.
-
 use Rattle.shore.specs.Blocks.{block_of}
 use Rattle.shore.proofs.pack.block_of.Goals as goal
 

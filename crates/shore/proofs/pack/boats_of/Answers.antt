@@ -1,9 +1,9 @@
-use mathlib.Core.Path.{◌≡◌, ◌∙◌}
-use Prim.Native.Nat.{◌-◌, ◌≤◌}
+use mathlib.Core.Path.{◌∙◌}
+use Prim.Native.Nat.{◌-◌}
 use native.Mathlib.Omega.{arith}
-use lib.ListN.{length, length-replicate, length-set}
+use lib.ListN.{length-replicate, length-set}
 use Rattle.shore.specs.Blocks.{boat_of}
-use Rattle.shore.proofs.Arrays.{Filled, one_more, whole}
+use Rattle.shore.proofs.Arrays.{one_more, whole}
 use Rattle.roster.specs.Members.{no_member}
 use Rattle.shore.proofs.pack.boats_of.Goals as goal
 

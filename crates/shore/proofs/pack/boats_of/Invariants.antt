@@ -1,11 +1,9 @@
 -- The invariant: the first i elements are done. Assumes nothing.
-
-use mathlib.Core.Path.{◌≡◌, ◌∙◌}
+use mathlib.Core.Path.{◌≡◌}
 use Prim.Native.Nat.{◌-◌, ◌≤◌}
-use native.Mathlib.Omega.{arith}
-use lib.ListN.{length, length-replicate, length-set}
+use lib.ListN.{length}
 use Rattle.shore.specs.Blocks.{boat_of}
-use Rattle.shore.proofs.Arrays.{Filled, one_more, whole}
+use Rattle.shore.proofs.Arrays.{Filled}
 use Rattle.roster.specs.Members.{no_member}
 use Rattle.shore.proofs.pack.boats_of.Given as goal
 

@@ -1,5 +1,4 @@
 -- Assumes nothing.
-
 use Rattle.shore.proofs.pack.reading_of.Goals as goal
 
 pub returns-in-Unheard : goal.returns-in-Unheard

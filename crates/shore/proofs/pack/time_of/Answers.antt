@@ -1,5 +1,4 @@
 -- Assumes nothing.
-
 use Rattle.shore.proofs.pack.time_of.Goals as goal
 
 pub returns-in-Never : goal.returns-in-Never

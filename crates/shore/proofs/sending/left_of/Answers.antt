@@ -1,5 +1,4 @@
 -- Assumes nothing.
-
 use Rattle.shore.proofs.sending.left_of.Goals as goal
 
 pub returns : goal.returns

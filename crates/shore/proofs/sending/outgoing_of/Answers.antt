@@ -1,5 +1,4 @@
 -- Assumes nothing.
-
 use mathlib.Core.Path.{refl}
 use Rattle.shore.specs.Sending.{outgoing_of}
 use Rattle.shore.proofs.sending.outgoing_of.Goals as goal

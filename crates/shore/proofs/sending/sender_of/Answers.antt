@@ -1,5 +1,4 @@
 -- Assumes nothing.
-
 use mathlib.Core.Path.{refl}
 use Rattle.shore.specs.Sending.{sender_of}
 use Rattle.shore.proofs.sending.sender_of.Goals as goal

@@ -1,5 +1,4 @@
 -- Assumes nothing.
-
 use mathlib.Core.Path.{ap}
 use Rattle.shore.specs.Blocks.{flag_of}
 use Rattle.shore.proofs.sending.shore_sender_has_new.Goals as goal

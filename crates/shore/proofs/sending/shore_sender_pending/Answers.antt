@@ -1,5 +1,4 @@
 -- Assumes nothing.
-
 use mathlib.Core.Path.{ap}
 use Rattle.shore.specs.Sending.{waiting_of}
 use Rattle.shore.proofs.sending.shore_sender_pending.Goals as goal

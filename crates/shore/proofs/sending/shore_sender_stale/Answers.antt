@@ -1,5 +1,4 @@
 -- Assumes nothing.
-
 use Rattle.shore.proofs.sending.shore_sender_stale.Goals as goal
 
 pub returns : goal.returns

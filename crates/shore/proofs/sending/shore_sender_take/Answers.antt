@@ -1,5 +1,4 @@
 -- Assumes nothing.
-
 use Rattle.shore.proofs.Faithful.{sender_back}
 use Rattle.shore.proofs.sending.shore_sender_take.Goals as goal
 

@@ -1,5 +1,4 @@
 -- Assumes nothing.
-
 use Rattle.shore.proofs.sending.waiting_of.Goals as goal
 
 pub returns-in-Bytes : goal.returns-in-Bytes

@@ -1,14 +1,10 @@
-use mathlib.Core.Path.{◌≡◌, ◌∙◌}
-use Prim.Native.Nat.{◌-◌, ◌≤◌}
+use mathlib.Core.Path.{◌∙◌}
+use Prim.Native.Nat.{◌-◌}
 use native.Mathlib.Omega.{arith}
-use lib.ListN.{length, length-replicate, length-set}
+use lib.ListN.{length-replicate, length-set}
 use Rattle.shore.specs.Blocks.{member_of}
-use Rattle.shore.proofs.Arrays.{Filled, one_more, whole}
-use mathlib.Core.List.{[]}
-use lib.Ieee.{nan}
-use Rattle.shore.specs.declared.block.Reading.{Reading}
-use Rattle.shore.specs.declared.block.Boat.{Boat}
-use Rattle.shore.proofs.unpack.members_of.Invariants.{no_boat, no_reading}
+use Rattle.shore.proofs.Arrays.{one_more, whole}
+use Rattle.shore.proofs.unpack.members_of.Invariants.{no_boat}
 use Rattle.shore.proofs.unpack.members_of.Goals as goal
 
 pub bounds-boats-0 : goal.bounds-boats-0

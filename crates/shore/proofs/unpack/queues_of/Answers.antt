@@ -1,9 +1,9 @@
-use mathlib.Core.Path.{◌≡◌, ◌∙◌}
-use Prim.Native.Nat.{◌-◌, ◌≤◌}
+use mathlib.Core.Path.{◌∙◌}
+use Prim.Native.Nat.{◌-◌}
 use native.Mathlib.Omega.{arith}
-use lib.ListN.{length, length-replicate, length-set}
+use lib.ListN.{length-replicate, length-set}
 use Rattle.shore.specs.Blocks.{line_of, queue_of}
-use Rattle.shore.proofs.Arrays.{Filled, one_more, whole}
+use Rattle.shore.proofs.Arrays.{one_more, whole}
 use Rattle.queue.specs.Queues.{empty_queue}
 use Rattle.shore.proofs.unpack.queues_of.Goals as goal
 

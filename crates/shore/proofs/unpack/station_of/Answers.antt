@@ -1,5 +1,4 @@
 -- Assumes nothing.
-
 use Rattle.shore.specs.Blocks.{station_of}
 use Rattle.shore.proofs.unpack.station_of.Goals as goal
 

@@ -1,5 +1,4 @@
 -- Assumes nothing.
-
 use Rattle.shore.proofs.unpack.wait_of.Goals as goal
 
 pub returns : goal.returns

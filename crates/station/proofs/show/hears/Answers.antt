@@ -1,5 +1,4 @@
 -- Assumes nothing.
-
 use Rattle.station.specs.Shows.{hears_of}
 use Rattle.station.proofs.show.hears.Goals as goal
 

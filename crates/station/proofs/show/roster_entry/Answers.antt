@@ -1,5 +1,4 @@
 -- Assumes nothing.
-
 use Rattle.station.specs.Shows.{entry_of}
 use Rattle.station.proofs.show.roster_entry.Goals as goal
 

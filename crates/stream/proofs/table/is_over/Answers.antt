@@ -1,5 +1,4 @@
 -- Assumes nothing.
-
 use Rattle.stream.proofs.table.is_over.Goals as goal
 
 pub shows_in-requires : goal.shows_in-requires

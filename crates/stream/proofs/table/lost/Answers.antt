@@ -1,5 +1,4 @@
 -- Assumes nothing.
-
 use Rattle.stream.proofs.table.lost.Goals as goal
 
 pub returns-in-Yes : goal.returns-in-Yes

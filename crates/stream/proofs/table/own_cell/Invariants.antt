@@ -1,13 +1,10 @@
 -- The invariant: searching on from c finds what the search was to find. Assumes nothing.
-
-use mathlib.Core.Path.{◌≡◌, sym, ap, ◌∙◌}
+use mathlib.Core.Path.{◌≡◌}
 use mathlib.Core.Bool.{Bool}
 use mathlib.Core.List.{List}
 use Prim.Native.Nat.{ℕ, ◌-◌, ◌≤◌}
-use native.Mathlib.Omega.{arith}
 use lib.ListN.{get_or}
 use Rattle.bits.specs.Loop.{first}
-use Rattle.bits.proofs.Loops.{first_pass, first_stop, first_end}
 use Rattle.stream.specs.Table.{is_own, own_cell}
 use Rattle.stream.proofs.table.own_cell.Given as goal
 

@@ -1,5 +1,4 @@
 -- Assumes nothing.
-
 use Rattle.stream.proofs.Takes.{put_is}
 use Rattle.stream.proofs.table.put.Goals as goal
 

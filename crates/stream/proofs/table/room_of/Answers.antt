@@ -1,5 +1,4 @@
 -- Assumes nothing.
-
 use mathlib.Core.Path.{refl}
 use Rattle.stream.proofs.table.room_of.Goals as goal
 

@@ -1,5 +1,4 @@
 -- Assumes nothing.
-
 use Rattle.stream.proofs.Takes.{take_fits, take_yes, take_no}
 use Rattle.stream.proofs.table.take.Goals as goal
 

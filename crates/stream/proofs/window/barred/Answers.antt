@@ -1,5 +1,4 @@
 -- Assumes nothing.
-
 use borrow.Author.Tests.{lt-leb, le-leb}
 use Rattle.stream.proofs.window.barred.Goals as goal
 

@@ -1,5 +1,4 @@
 -- Assumes nothing.
-
 use Rattle.stream.proofs.Marks.{none_marked}
 use Rattle.stream.proofs.window.holes.Goals as goal
 

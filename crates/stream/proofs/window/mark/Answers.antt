@@ -1,5 +1,4 @@
 -- Assumes nothing.
-
 use native.Mathlib.Omega.{arith}
 use Rattle.stream.proofs.Marks.{mark_low, mark_high}
 use Rattle.stream.proofs.window.mark.Goals as goal

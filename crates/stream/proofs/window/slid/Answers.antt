@@ -1,5 +1,4 @@
 -- Assumes nothing.
-
 use native.Mathlib.Omega.{arith}
 use Rattle.stream.proofs.Marks.{slid_halves, slid_fits}
 use Rattle.stream.proofs.window.slid.Goals as goal

@@ -1,8 +1,7 @@
-use mathlib.Core.Path.{◌≡◌, refl, sym, ◌∙◌}
-use Prim.Native.Nat.{◌-◌, ◌≤◌}
+use mathlib.Core.Path.{refl, sym, ◌∙◌}
+use Prim.Native.Nat.{◌-◌}
 use native.Mathlib.Omega.{arith}
 use borrow.Author.Tests.{eq-eqb, ne_eqb}
-use Rattle.stream.specs.Window.{marks_of, bars_of, slide_of}
 use Rattle.stream.proofs.Marks.{mark_lowest, slide_turn, slide_stop, slide_end}
 use Rattle.stream.proofs.window.slide.Goals as goal
 

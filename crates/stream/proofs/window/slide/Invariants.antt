@@ -1,11 +1,7 @@
 -- The invariant: sliding on from the present window gives what sliding was to give. Assumes nothing.
-
-use mathlib.Core.Path.{◌≡◌, refl, sym, ◌∙◌}
+use mathlib.Core.Path.{◌≡◌}
 use Prim.Native.Nat.{◌-◌, ◌≤◌}
-use native.Mathlib.Omega.{arith}
-use borrow.Author.Tests.{not-true, not-false}
 use Rattle.stream.specs.Window.{marks_of, bars_of, slide_of}
-use Rattle.stream.proofs.Marks.{mark_lowest, slide_turn, slide_stop, slide_end}
 use Rattle.stream.proofs.window.slide.Given as goal
 
 abbrev pub invariant-loop-i : goal.invariant-loop-i

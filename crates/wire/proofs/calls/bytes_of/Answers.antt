@@ -1,5 +1,4 @@
 -- `wire::calls::bytes_of` meets its contract. Assumes nothing.
-
 use mathlib.Core.Path.{◌≡◌}
 use native.Mathlib.Omega.{arith}
 use Prim.Native.Nat.{◌/◌}

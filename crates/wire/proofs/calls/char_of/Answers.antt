@@ -1,5 +1,4 @@
 -- `wire::calls::char_of` meets its contract. Assumes nothing.
-
 use borrow.Author.Tests.{le-leb, lt-leb, eq-eqb, ne_eqb}
 use Rattle.wire.specs.Call.{char}
 use Rattle.wire.proofs.calls.char_of.Goals as goal

@@ -1,5 +1,4 @@
 -- `wire::calls::chars_of` meets its contract. Assumes nothing.
-
 use Rattle.wire.proofs.calls.chars_of.Goals as goal
 
 pub returns : goal.returns

@@ -1,5 +1,4 @@
 -- `wire::calls::digit_of` meets its contract. Assumes nothing.
-
 use native.Mathlib.Omega.{arith}
 use borrow.Author.Tests.{le-leb, lt-leb, ne_eqb}
 use Rattle.wire.specs.Call.{digit}

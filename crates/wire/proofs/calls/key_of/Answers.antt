@@ -1,5 +1,4 @@
 -- `wire::calls::key_of` meets its contract: the sum over an array of seven. Assumes nothing.
-
 use native.Mathlib.Omega.{arith}
 use Rattle.wire.proofs.Packed.{key_seven}
 use Rattle.wire.proofs.calls.key_of.Goals as goal

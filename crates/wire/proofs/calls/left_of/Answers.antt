@@ -1,5 +1,4 @@
 -- `wire::calls::left_of` meets its contract. Assumes nothing.
-
 use Rattle.wire.proofs.Packed.{shifted_not, shifted_space}
 use Rattle.wire.proofs.calls.left_of.Goals as goal
 

@@ -1,5 +1,4 @@
 -- `wire::calls::number_from` meets its contract: the sum over an array of five. Assumes nothing.
-
 use native.Mathlib.Omega.{arith}
 use Rattle.wire.proofs.Packed.{number_five}
 use Rattle.wire.proofs.calls.number_from.Goals as goal

@@ -1,5 +1,4 @@
 -- `wire::calls::number_of` meets its contract. Assumes nothing.
-
 use Rattle.wire.proofs.Packed.{packed_seven}
 use mathlib.Core.Path.{sym}
 use Rattle.wire.proofs.calls.number_of.Goals as goal

@@ -1,5 +1,4 @@
 -- `wire::calls::pack_call` meets its contract. Assumes nothing.
-
 use mathlib.Core.Path.{ap, ◌∙◌}
 use Rattle.wire.specs.Call.{bytes_of}
 use Rattle.wire.proofs.calls.pack_call.Goals as goal

@@ -1,5 +1,4 @@
 -- `wire::calls::unpack_call` meets its contract. Assumes nothing.
-
 use mathlib.Core.Path.{ap, ◌∙◌}
 use Rattle.wire.specs.Call.{unpacked}
 use Rattle.wire.proofs.calls.unpack_call.Goals as goal

@@ -1,5 +1,4 @@
 -- `wire::calls::unpack_number` meets its contract. Assumes nothing.
-
 use mathlib.Core.Path.{ap, ◌∙◌}
 use Rattle.wire.specs.Call.{shifted}
 use Rattle.wire.proofs.Packed.{unpack_done}

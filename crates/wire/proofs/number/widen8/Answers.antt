@@ -1,5 +1,4 @@
 -- `wire::number::widen8` meets its contract. Assumes nothing.
-
 use borrow.Author.Tests.{lt-ltb, le-ltb}
 use Rattle.wire.specs.Numbers.{widened}
 use Rattle.wire.proofs.number.widen8.Goals as goal

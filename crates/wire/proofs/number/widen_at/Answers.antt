@@ -1,5 +1,4 @@
 -- `wire::number::widen_at` meets its contract: each return rewrites with the tests that led there. Assumes nothing.
-
 use borrow.Author.Tests.{lt-ltb, le-ltb}
 use Rattle.wire.specs.Numbers.{widened_at}
 use Rattle.wire.proofs.number.widen_at.Goals as goal
