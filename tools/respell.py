@@ -13,7 +13,7 @@ import os
 import re
 
 DECLARED = re.compile(r"^(\s*)((?:pub |abbrev |unfoldable |data |record )*)([^\s:(){}λ.,;=]+)((?: \{[^{}\n]*\})*)\s*:(?!=)\s+(\S*)")
-NAME = re.compile(r"[^\s(){}.;,@\"«»]+")
+NAME = re.compile(r"[^\s(){}.;,@\"«»`]+")
 # Of Rust and edits only words in lower camel case are turned: no function, field or local of src/ is spelled so.
 CAMEL = re.compile(r"(?<![\w'])[a-z][a-z0-9]*[A-Z][A-Za-z0-9]*(?![\w'])")
 STRING = re.compile(r'"(?:[^"\\]|\\.)*"')

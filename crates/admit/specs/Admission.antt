@@ -14,7 +14,7 @@ use Rattle.net.specs.Net.{is_member, Said, said}
 use Rattle.admit.specs.declared.Seat.{Seat}
 use Rattle.admit.specs.declared.Seat.TheVariants.{Known, Free, Full}
 
--- the boat in slot i has the call of this key (the same seven bytes: law `key-same` of wire)
+-- the boat in slot i has the call of this key (the same seven bytes: law `key_same` of wire)
 abbrev pub has_call : Station → ℕ → ℕ → Bool
 has_call s key i = has_bit s.used i && eqb (key_of (get_or s.members i no_member).call) key
 

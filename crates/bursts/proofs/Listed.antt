@@ -1,4 +1,4 @@
--- Of the boats waiting for acknowledgement a beacon lists exactly those that wait no longer behind it: `listed-wait-no-more`. Assumes nothing.
+-- Of the boats waiting for acknowledgement a beacon lists exactly those that wait no longer behind it: `listed_wait_no_more`. Assumes nothing.
 use mathlib.Core.Path.{◌≡◌, refl, sym, ap, ◌∙◌, subst}
 use mathlib.Core.Bool.{Bool, true, false, not, cond, ◌&&◌}
 use mathlib.Core.List.{List, [], ◌++◌}

@@ -1,4 +1,4 @@
--- A boat's piece, put together: the stores of the code, one element at a time, are what `pieceFrame` says. Assumes nothing.
+-- A boat's piece, put together: the stores of the code, one element at a time, are what `piece_frame` says. Assumes nothing.
 use mathlib.Core.Path.{◌≡◌, refl}
 use mathlib.Core.Bool.{Bool, true, false, not, cond, ◌&&◌, ◌||◌}
 use mathlib.Core.List.{List, [], append-nil}
@@ -236,7 +236,7 @@ module _ (a : Air) (slot : ℕ) (x : Reading) where
     open_by NoCell offset bytes = not_kept NoCell refl refl refl
     open_by NoPlace offset bytes = not_kept NoPlace refl refl refl
 
--- the stores of a piece, as the code makes them, are what `pieceFrame` says
+-- the stores of a piece, as the code makes them, are what `piece_frame` says
 pub piece_whole : (a : Air) (slot field : ℕ) (bytes : List ℕ) (x : Reading)
     → let s = x.station in
     let p = piece_of (member_at s slot).up (is_member s.used slot) slot field s.owners s.busy s.landed s.count in

@@ -1,4 +1,4 @@
--- A cell's numbers and bytes do what the definition over lists does: `box-accept`. Assumes nothing.
+-- A cell's numbers and bytes do what the definition over lists does: `box_accept`. Assumes nothing.
 use mathlib.Core.Bool.{Bool, true, false, cond, ◌&&◌}
 use mathlib.Core.List.{List, ◌∷◌, ◌++◌}
 use mathlib.Core.Logic.{⊎_elim}

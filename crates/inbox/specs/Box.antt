@@ -1,5 +1,5 @@
 -- `Inbox::accept` of stream.rs over lists alone, for readers who compare the two: `joined` is the Rust's `hist`, its length `delivered`, and the
--- places are `pending`, 16 of them. `proofs/Boxes.antt` shows that a cell's numbers and bytes do what this says (`box-accept`).
+-- places are `pending`, 16 of them. `proofs/Boxes.antt` shows that a cell's numbers and bytes do what this says (`box_accept`).
 use Rattle.std.specs.Prelude.{Bool, cond, ◌&&◌, List, [], ◌∷◌, ◌++◌, ℕ, zero, suc, ◌+◌, ◌-◌, length, get_or, set, take, drop, leb, ltb, eqb}
 use Rattle.inbox.specs.Sizes.{message_room}
 use Rattle.inbox.specs.Cells.{Held, seek, offset, size, place}

@@ -108,7 +108,7 @@ unfoldable pub went_all : Air → List Heard → Reading → InCells → InCells
 went_all a [] x f = f
 went_all a (h ∷ hs) x f = went_all a hs (frame_step a h x) (went_in x.station x.store h f)
 
--- a burst, with the station as `ncsRx` has it before the first frame
+-- a burst, with the station as `ncs_rx` has it before the first frame
 abbrev pub went_rx : Station → Burst → Float → Float → List ℕ → InCells → InCells
 went_rx s b snr now store f =
     went_all (air_of s b.head snr now) (frames_by (parsed b)) (first_reading (with_wait s (busy_wait s.wait b.head s.settings now)) store) f

@@ -1,4 +1,4 @@
--- The recursion of `levelBelow`, one turn of the loop at a time; a level is below 17. Assumes nothing.
+-- The recursion of `level_below`, one turn of the loop at a time; a level is below 17. Assumes nothing.
 use mathlib.Core.Path.{◌≡◌, ap, ◌∙◌}
 use mathlib.Core.Bool.{Bool, true, false, cond}
 use mathlib.Core.List.{List}

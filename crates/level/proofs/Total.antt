@@ -1,4 +1,4 @@
--- What is equal to itself, and the order of `totalLt` on finite values. Assumes nothing.
+-- What is equal to itself, and the order of `total_lt` on finite values. Assumes nothing.
 use mathlib.Core.Path.{◌≡◌, refl, sym, ap, ◌∙◌, subst, subst⁻¹}
 use Prim.Native.Nat.{ℕ, ◌*◌, ◌<◌}
 use native.Mathlib.Nat.{mul_right_comm, lt_irrefl, lt_trans, le_of_eq, lt_of_le_of_lt, lt_of_lt_of_le, mul-lt-mul_of_pos_right, lt_of_mul-lt-mul_right}
@@ -24,7 +24,7 @@ nan_alone (inf true) = refl
 nan_alone (inf false) = refl
 nan_alone (fin s m e) = nan_alone_by s (m * up e * down e)
 
--- ---- `totalLt` of two finite values, by the signs
+-- ---- `total_lt` of two finite values, by the signs
 -- the part for equal values, where the signs are not - and +
 no_tie : (a : Bool) → (a && false) ≡ false
 no_tie true = refl

@@ -1,4 +1,4 @@
--- `le` and `totalLt` of two floats that are whole numbers, by their signs and sizes. Assumes nothing.
+-- `le` and `total_lt` of two floats that are whole numbers, by their signs and sizes. Assumes nothing.
 use mathlib.Core.Path.{◌≡◌, sym, ap, ◌∙◌, subst}
 use Prim.Native.Nat.{ℕ, ◌*◌, ◌<◌}
 use native.Mathlib.Nat.{mul-one, mul_assoc, mul_comm, mul-pos, lt_irrefl}

@@ -25,7 +25,7 @@ end_of idle = []
 end_of (runs t) = t ∷ []
 
 -- the turns up to the next mark, in order: runs of one slot. A poll of another slot starts another turn, K_ACK ends one, and a mark breaks one. (Of
--- which slot an acknowledgement is, `insideFrom` asks.)
+-- which slot an acknowledgement is, `inside_from` asks.)
 unfoldable pub turns_from : Running → List Entry → List Turn
 turns_from r [] = end_of r
 turns_from r (mark l ∷ es) = end_of r
@@ -112,7 +112,7 @@ is_accepted Rejected = false
 abbrev pub refusal_of : List ℕ → ℕ
 refusal_of ws = cond (sendings_ok ws) (cond (marks_ok ws) 0 27) 3
 
--- the contract's: its number is `refusalOf`, and it is accepted where no number sends it back and the turns keep to the lists (law `verdict-says`)
+-- the contract's: its number is `refusal_of`, and it is accepted where no number sends it back and the turns keep to the lists (law `verdict_says`)
 unfoldable pub verdict_of : List ℕ → Verdict
 verdict_of ws =
     cond (sendings_ok ws) (cond (marks_ok ws) (cond (accepted (entries_of ws)) Accepted Rejected) (Refused 27)) (Refused 3)

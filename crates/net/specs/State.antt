@@ -48,7 +48,7 @@ abbrev pub with_queues : Station → List Queue → Station
 with_queues s qs =
     record { settings = s.settings; wait = s.wait; round = s.round; totals = s.totals; used = s.used; busy = s.busy; landed = s.landed; count = s.count; members = s.members; recent = s.recent; queues = qs; hears = s.hears; owners = s.owners; cells = s.cells }
 
--- a number that is no slot reads slot 0; whoever asks has tested it (`isMember`)
+-- a number that is no slot reads slot 0; whoever asks has tested it (`is_member`)
 abbrev pub index_of : ℕ → ℕ
 index_of slot = cond (ltb slot 62) slot 0
 

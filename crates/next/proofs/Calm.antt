@@ -1,4 +1,4 @@
--- The end of a round at which nothing is said and nobody is moved: what the code then leaves in place is what `roundThen` gives. Assumes nothing.
+-- The end of a round at which nothing is said and nobody is moved: what the code then leaves in place is what `round_then` gives. Assumes nothing.
 use Rattle.std.proofs.Common.{◌≡◌, ℕ, zero, suc, ◌+◌, ◌%◌, ◌^◌, ◌<◌, ◌≤◌, Bool, true, false, cond, not, ◌&&◌, ◌||◌, eqb, List, [], length, get_or, set, sym, refl, ap, ◌∙◌, ⊎_elim, arith, get_or-set_other, get_or-set_same, eq-eqb}
 use lib.Ieee.{Float}
 use lib.Seq.{set-get_or, set_out}

@@ -1,5 +1,5 @@
 -- With every boat watched item 3 is what it said of all boats together: the definitions below are of that statement, with no boat's being watched in them, polls and
--- acknowledgements counted apart, and `everyone` is it, from `item-3-short`. Assumes nothing.
+-- acknowledgements counted apart, and `everyone` is it, from `item_3_short`. Assumes nothing.
 use mathlib.Core.Path.{◌≡◌, refl, sym, ap, ◌∙◌, subst}
 use mathlib.Core.Bool.{Bool, true, false, not, cond, ◌&&◌}
 use mathlib.Core.Option.{Option, none, some}

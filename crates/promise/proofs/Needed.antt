@@ -1,5 +1,5 @@
 -- The premises of item 3 on messages and calls are needed: calls from a start that break one of them alone (`otherwise`), and of which what is promised does not
--- hold (`broken`, `too-old`). Assumes nothing.
+-- hold (`broken`, `too_old`). Assumes nothing.
 use mathlib.Core.Path.{◌≡◌, refl, sym, ap, ◌∙◌, subst}
 use mathlib.Core.Bool.{Bool, true, false, not, ◌&&◌}
 use mathlib.Core.List.{List, [], ◌∷◌, ◌++◌}

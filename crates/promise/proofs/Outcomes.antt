@@ -35,13 +35,13 @@ pub receive_cases : (P : Parsed Burst → Outcome → Type 0) (s : Station) (wor
     → ((u : Burst) → FineBurst u → 6400 * s.count ≤ length store → P (parsed u) (received_as (ncs_rx s u snr now store)))
     → P (parse words) (receive_of s words snr now store room)
 unfolding receive_of
-receive_cases P s words snr now store room IsSent-back taken =
+receive_cases P s words snr now store room sent_back taken =
     cond_keeps (P (parse words)) (eqb (receive_refusal room (length store) s.count now snr (parse words)) 0) _ _
     (λ q. by (parse words) refl (store_room room s.count now snr store words (eqb-true _ 0 q)))
-    (λ q. IsSent-back (parse words) (receive_refusal room (length store) s.count now snr (parse words)) q)
+    (λ q. sent_back (parse words) (receive_refusal room (length store) s.count now snr (parse words)) q)
   where
     by : (w : Parsed Burst) → parse words ≡ w → 6400 * s.count ≤ length store → P w (receive_by w s snr now store)
-    by malformed e l = IsSent-back malformed 3 refl
+    by malformed e l = sent_back malformed 3 refl
     by (parsed u) e l = taken u (parse_fine words u e) l
 
 -- and, where nobody else writes the store, the one handed on

@@ -1,4 +1,4 @@
--- A sign-off (U3 of document 02), part by part: what the loops of `signOff` leave. Assumes nothing.
+-- A sign-off (U3 of document 02), part by part: what the loops of `sign_off` leave. Assumes nothing.
 use mathlib.Core.Path.{◌≡◌, refl, sym, ap, ◌∙◌, subst}
 use mathlib.Core.Logic.{⊎_elim}
 use Prim.Native.Nat.{ℕ, zero, suc, ◌+◌, ◌/◌, ◌≤◌, ◌<◌}

@@ -1,7 +1,7 @@
 -- Item 3 of document 01, 'Item 3 in full', whole: `Item3`, the last definition, is one statement over every list of calls from a start that is not refused.
 -- In order: turn events, the calls, relay links, lists and turns, the book, the premises, what is promised of messages, and the promise. With U3 of document 02
 -- a boat may sign off: 'what is promised about messages and turns is per stay'.
--- A later request adds its call to `Call`, and a line for it to `result` and `inBook`, which stand next to it.
+-- A later request adds its call to `Call`, and a line for it to `result` and `in_book`, which stand next to it.
 use Rattle.std.specs.Prelude.{ℕ, zero, suc, ◌+◌, ◌/◌, ◌%◌, ◌≤◌, ◌<◌, ◌≡◌, Bool, true, false, not, cond, ◌&&◌, ◌||◌, List, [], ◌∷◌, ◌++◌, T, leb, ltb, eqb, length, get_or, Float}
 use Rattle.std.proofs.Math.Option.{Option, none, some}
 use Rattle.bits.specs.Mask.{has_bit, slots_of}
@@ -516,7 +516,7 @@ Rising [] = Unit {0}
 Rising (m ∷ ms) = Later m ms × Rising ms
 
 -- none of the messages was handed over before, f, nor is it twice among them. It follows from the book alone, of any station, since the book hands a message over
--- only where it has not (`book-once` in proofs/Refuted.antt); what the station promises is `Pairs`: an event for each of them, and no other
+-- only where it has not (`book_once` in proofs/Refuted.antt); what the station promises is `Pairs`: an event for each of them, and no other
 abbrev pub Once : List Message → (ℕ → ℕ → Bool) → Type 0
 Once [] f = Unit {0}
 Once (m ∷ ms) f = (f m.slot m.number ≡ false) × Once ms (also_handed m.slot m.number f)

@@ -1,4 +1,4 @@
--- What `leastOf` gives is one of the readings, and none of them is below it. Assumes nothing.
+-- What `least_of` gives is one of the readings, and none of them is below it. Assumes nothing.
 use mathlib.Core.Path.{◌≡◌, refl, sym, ap, ◌∙◌, subst}
 use mathlib.Core.Logic.{◌⊎◌, inl, inr, ⊎_elim}
 use mathlib.Core.Bool.{Bool, true, false, cond}

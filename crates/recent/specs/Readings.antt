@@ -65,7 +65,7 @@ unfoldable pub back_from : List Float → ℕ → ℕ → List Float
 back_from levels p zero = []
 back_from levels p (suc n) = get_or levels ((p + 31) % 32) nan ∷ back_from levels ((p + 31) % 32) n
 
--- those that the ring holds; with one more they are the newest 32 (law `noted-readings`)
+-- those that the ring holds; with one more they are the newest 32 (law `noted_readings`)
 unfoldable pub readings : Recent → List Float
 readings r = back_from r.levels (r.at % 32) (kept r.count)
 

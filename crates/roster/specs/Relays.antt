@@ -1,6 +1,6 @@
 -- `reroute`, `needs_relay`, `relayer_for`, `relay_src_for` and `turn_over` of ncs.rs: the choices of relays.
 -- Slots that are able to relay, tried, or in need of a relayer are masks. `hears` has 62 level fields for each slot: what slot r hears of slot a stands at
--- r * 62 + a, 0 to 62, or 63 for nothing. A level field rises with its decibels (laws `field-le` and `field_lt` of wire), so the better of two is the one with the greater field.
+-- r * 62 + a, 0 to 62, or 63 for nothing. A level field rises with its decibels (laws `field_le` and `field_lt` of wire), so the better of two is the one with the greater field.
 use Rattle.std.specs.Prelude.{ℕ, ◌+◌, ◌*◌, Bool, not, cond, ◌&&◌, ◌||◌, List, eqb, ltb, leb, get_or, Float}
 use Rattle.std.specs.Float.Ieee.{le}
 use Rattle.bits.specs.Loop.{first, fold, any}

@@ -121,7 +121,7 @@ module _ {a : Air} {ws : List ℕ} {n : ℕ} {s₀ : Station} {store₀ o₀ sto
       let m = (g.left h).most in
       (omega arith, omega arith)
 
-  -- the frame did what `readFrame` says, and the loop goes on with the next
+  -- the frame did what `read_frame` says, and the loop goes on with the next
   pub goes : {store' o' : List ℕ} {s' : Station} {x₁ x' : Rx} (f : Frame) (vs : List ℕ) → f ≡ frame_of (peek_at rest)
       → reading_at s' store' (g.done ++ vs) g.seen x₁ ≡ read_frame a (heard_of (item_at rest) rest) (reading_at s store g.done g.seen x)
       → x₁.word ≡ x.word → x₁.frame ≡ x.frame → Wrote o x.at vs o' x₁.at → s'.count ≡ s.count → length store' ≡ length store → x' ≡ next_rx x₁ f

@@ -1,4 +1,4 @@
--- A reception is refused, or it is a burst: what the code reads then is what `ncsRx` says. Assumes nothing.
+-- A reception is refused, or it is a burst: what the code reads then is what `ncs_rx` says. Assumes nothing.
 use mathlib.Core.Path.{◌≡◌, refl, sym, ap, ◌∙◌}
 use mathlib.Core.Bool.{Bool, true, false, cond}
 use mathlib.Core.List.{List}

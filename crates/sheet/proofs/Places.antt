@@ -7,7 +7,7 @@ use lib.ListN.{length, get_or}
 use Rattle.wire.specs.Call.{digit, char, packed, pad}
 use Rattle.wire.proofs.Trip.{digit_char}
 use Rattle.sheet.specs.Sheet.{counted, characters, calls_from, short_calls}
-use Rattle.sheet.proofs.Rows.{length_map, get_d_map, length_counted, get_or_counted, length_rows, get_d_rows}
+use Rattle.sheet.proofs.Rows.{length_map, get_or_map, length_counted, get_or_counted, length_rows, get_or_rows}
 
 -- the call of the characters of values a and b, where 0 is the space
 abbrev pub pair : ℕ → ℕ → List ℕ
@@ -37,7 +37,7 @@ length_characters = length_map char (counted 37 1) ∙ length_counted 37 1
 pub character_at : (i : ℕ) → i < 37 → get_or characters i 0 ≡ char (suc i)
 unfolding characters
 character_at i h =
-    get_d_map char (counted 37 1) i 0 0 (omega (arith, length_counted 37 1)) ∙ ap char (get_or_counted 37 1 i h ∙ omega arith)
+    get_or_map char (counted 37 1) i 0 0 (omega (arith, length_counted 37 1)) ∙ ap char (get_or_counted 37 1 i h ∙ omega arith)
 
 -- ---- the calls of one first character
 
@@ -49,7 +49,7 @@ from_at : (a b : ℕ) → b < 38 → get_or (calls_from (char a)) b [] ≡ pair 
 unfolding calls_from char
 from_at a zero h = refl
 from_at a (suc b) h =
-    get_d_map (λ c. pad 7 (char a ∷ c ∷ [])) characters b 0 [] (omega (arith, length_characters)) ∙ ap (λ (c : ℕ). pad 7 (char a ∷ c ∷ [])) (character_at b (omega arith))
+    get_or_map (λ c. pad 7 (char a ∷ c ∷ [])) characters b 0 [] (omega (arith, length_characters)) ∙ ap (λ (c : ℕ). pad 7 (char a ∷ c ∷ [])) (character_at b (omega arith))
 
 -- ---- all of them
 
@@ -65,7 +65,7 @@ first_place = refl
 pub place : (a b : ℕ) → a < 37 → b < 38 → get_or short_calls (suc (38 * a + b)) [] ≡ pair (suc a) b
 unfolding short_calls
 place a b h k =
-    get_d_rows calls_from 38 length_from characters a b 0 [] (omega (arith, length_characters)) k
+    get_or_rows calls_from 38 length_from characters a b 0 [] (omega (arith, length_characters)) k
     ∙ ap (λ (c : ℕ). get_or (calls_from c) b []) (character_at a h)
     ∙ from_at (suc a) b k
 

@@ -13,10 +13,10 @@ pub length_map : {A B : Type 0} (f : A → B) (l : List A) → length (map f l) 
 length_map f [] = refl
 length_map f (x ∷ l) = ap suc (length_map f l)
 
-pub get_d_map : {A B : Type 0} (f : A → B) (l : List A) (i : ℕ) (d : A) (e : B) → i < length l → get_or (map f l) i e ≡ f (get_or l i d)
-get_d_map f [] i d e h = absurd (omega arith)
-get_d_map f (x ∷ l) zero d e h = refl
-get_d_map f (x ∷ l) (suc i) d e h = get_d_map f l i d e (omega arith)
+pub get_or_map : {A B : Type 0} (f : A → B) (l : List A) (i : ℕ) (d : A) (e : B) → i < length l → get_or (map f l) i e ≡ f (get_or l i d)
+get_or_map f [] i d e h = absurd (omega arith)
+get_or_map f (x ∷ l) zero d e h = refl
+get_or_map f (x ∷ l) (suc i) d e h = get_or_map f l i d e (omega arith)
 
 pub length_counted : (n i : ℕ) → length (counted n i) ≡ n
 unfolding counted
@@ -37,17 +37,17 @@ module _ {A B : Type 0} (f : A → List B) (m : ℕ) (each : (x : A) → length 
   length_rows [] = omega arith
   length_rows (x ∷ l) = length-append (f x) (flat_map f l) ∙ omega (arith, each x, length_rows l)
 
-  pub get_d_rows : (l : List A) (i j : ℕ) (d : A) (e : B) → i < length l → j < m → get_or (flat_map f l) (m * i + j) e ≡ get_or (f (get_or l i d)) j e
+  pub get_or_rows : (l : List A) (i j : ℕ) (d : A) (e : B) → i < length l → j < m → get_or (flat_map f l) (m * i + j) e ≡ get_or (f (get_or l i d)) j e
   unfolding flat_map
-  get_d_rows [] i j d e h k = absurd (omega arith)
-  get_d_rows (x ∷ l) zero j d e h k =
+  get_or_rows [] i j d e h k = absurd (omega arith)
+  get_or_rows (x ∷ l) zero j d e h k =
       let z : m * 0 + j ≡ j = omega arith in
       ap (λ (n : ℕ). get_or (f x ++ flat_map f l) n e) z ∙ get_or-append (f x) (flat_map f l) e j (omega (arith, each x))
-  get_d_rows (x ∷ l) (suc i) j d e h k =
+  get_or_rows (x ∷ l) (suc i) j d e h k =
       let z : m * suc i + j ≡ length (f x) + (m * i + j) = omega (arith, each x) in
       ap (λ (n : ℕ). get_or (f x ++ flat_map f l) n e) z
       ∙ get_or-append-add (f x) (flat_map f l) (m * i + j) e
-      ∙ get_d_rows l i j d e (omega arith) k
+      ∙ get_or_rows l i j d e (omega arith) k
 
 -- ---- rows of m each, one after the other
 

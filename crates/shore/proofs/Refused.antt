@@ -1,4 +1,4 @@
--- The theorem `refused-keeps`: a refused call gives back the block that it was given. Assumes nothing.
+-- The theorem `refused_keeps`: a refused call gives back the block that it was given. Assumes nothing.
 use mathlib.Core.Path.{◌≡◌, refl, ap, ◌∙◌}
 use borrow.Author.Tests.{ne_eqb}
 use Rattle.net.specs.declared.Station.{Station}

@@ -24,7 +24,7 @@ after j n a b l = ⊎_elim (λ q. absurd (⊎_elim (λ r. a (omega arith)) (λ r
 mod_div_256 : (m : ℕ) → m % 256 + 256 * (m / 256) ≡ m
 mod_div_256 m = omega arith
 
--- `handedOf` of a window with this next and these marks
+-- `handed_of` of a window with this next and these marks
 abbrev pub handed_by : ℕ → ℕ → ℕ → Bool
 handed_by n m k = ltb k n || (ltb n k && has_bit m (k - n - 1))
 
@@ -151,7 +151,7 @@ slide_next (suc f) n m b h = go (has_bit m 0) (slide_next f (stop (n + 1)) (m / 
 
 -- ---- the bars go down with a slide, where no number that it passes is barred
 
--- `barredOf` of a window with this next and these bars
+-- `barred_of` of a window with this next and these bars
 abbrev pub barred_by : ℕ → ℕ → ℕ → Bool
 barred_by n b k = leb n k && has_bit b (k - n)
 

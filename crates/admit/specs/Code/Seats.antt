@@ -1,4 +1,4 @@
--- What a boat at its seat changes, part by part. Laws `seat-station` and `seat-words` (proofs/Seats.antt) say that the parts together are `admitBy`.
+-- What a boat at its seat changes, part by part. Laws `seat_station` and `seat_words_lem` (proofs/Seats.antt) say that the parts together are `admit_by`.
 use Rattle.std.specs.Prelude.{ℕ, Bool, true, false, not, cond, List, [], get_or, set, Float}
 use Rattle.bits.specs.Mask.{with_bit}
 use Rattle.recent.specs.declared.Recent.{Recent}

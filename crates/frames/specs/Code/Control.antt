@@ -1,4 +1,4 @@
--- What a control frame does by its kind, reports apart. Nothing here has to be believed: law `read-kind` shows that it is `readFrame`.
+-- What a control frame does by its kind, reports apart. Nothing here has to be believed: law `read_kind` shows that it is `read_frame`.
 use Rattle.std.specs.Prelude.{ℕ, Bool, cond, ◌&&◌, List, [], eqb}
 use Rattle.roster.specs.declared.Member.{Member}
 use Rattle.roster.specs.Members.{is_willing}

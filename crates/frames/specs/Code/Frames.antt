@@ -1,4 +1,4 @@
--- A frame as the code reads it from the words, and what it does by its kind. Nothing here has to be believed: law `read-kind` shows that it is `readFrame`.
+-- A frame as the code reads it from the words, and what it does by its kind. Nothing here has to be believed: law `read_kind` shows that it is `read_frame`.
 use Rattle.std.specs.Prelude.{ℕ, ◌+◌, ◌/◌, ◌%◌, true, false, not, cond, ◌&&◌, List, eqb, leb}
 use Rattle.wire.specs.Kinds.{t_up, t_ctrl, c_checkin, c_report, c_overheard, c_kids}
 use Rattle.words.specs.Words.{lost, words_for}
@@ -45,7 +45,7 @@ control_kind len b =
 unfoldable pub kind_of : Frame → ℕ → Kind
 kind_of f b = cond (eqb f.ty t_up) Piece (cond (eqb f.ty t_ctrl) (control_kind f.len b) Nothing)
 
--- what a frame of each kind does; p is its payload (law `read-kind`)
+-- what a frame of each kind does; p is its payload (law `read_kind`)
 abbrev pub read_by : Kind → Air → Frame → List ℕ → Reading → Reading
 read_by Nothing a f p x = x
 read_by Piece a f p x = piece_frame a f.slot f.field p x

@@ -1,4 +1,4 @@
--- A boat's piece as the code takes it, one element of the station at a time. Nothing here has to be believed: law `piece-whole` shows that it is `pieceFrame`.
+-- A boat's piece as the code takes it, one element of the station at a time. Nothing here has to be believed: law `piece_whole` shows that it is `piece_frame`.
 use Rattle.std.specs.Prelude.{ℕ, ◌+◌, ◌*◌, ◌/◌, ◌%◌, ◌<◌, ◌≤◌, Bool, true, false, not, cond, ◌&&◌, ◌||◌, List, [], ◌∷◌, ◌++◌, eqb, get_or, set}
 use Rattle.bits.specs.Mask.{with_bit, without_bit}
 use Rattle.bits.specs.Stop.{stop}

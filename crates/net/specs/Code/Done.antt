@@ -1,5 +1,5 @@
--- The end of a sending as the code takes it: what is read of the boat whose reply is waited for is one truth value. Law `done-is` (proofs/Laws.antt) says
--- that it comes to `doneBy`.
+-- The end of a sending as the code takes it: what is read of the boat whose reply is waited for is one truth value. Law `done_is` (proofs/Laws.antt) says
+-- that it comes to `done_by`.
 use Rattle.std.specs.Prelude.{ℕ, Bool, cond, ◌&&◌, eqb, Float}
 use Rattle.level.specs.Levels.{is_heard}
 use Rattle.level.specs.declared.Clock.{Clock}

@@ -1,4 +1,4 @@
--- The calls one after the other, put together by `next-said`: `n` is where the ways round a burst to all meet, `j` where those round the end of a round do, `e` where those round word back do, `k` where those
+-- The calls one after the other, put together by `next_said`: `n` is where the ways round a burst to all meet, `j` where those round the end of a round do, `e` where those round word back do, `k` where those
 -- round the choice of a source do. Assumes nothing.
 use Rattle.std.proofs.Common.{◌-◌}
 use Rattle.next.proofs.Looks.{Looking}

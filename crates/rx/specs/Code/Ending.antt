@@ -1,5 +1,5 @@
 -- The end of a reception (`ncs_rx` of ncs.rs, after the frames) as the code takes it: what the burst is at its end, and one part of the station after the
--- other. Laws `end-station` and `end-burst` (proofs/Endings.antt) say that the parts together are what Ending.antt says.
+-- other. Laws `end_station_lem` and `end_burst_lem` (proofs/Endings.antt) say that the parts together are what Ending.antt says.
 use Rattle.std.specs.Prelude.{ℕ, ◌+◌, ◌%◌, Bool, true, false, not, cond, ◌&&◌, ◌||◌, List, [], ◌∷◌, eqb, set}
 use Rattle.bits.specs.Stop.{stop}
 use Rattle.level.specs.declared.Clock.TheVariants.{Never}

@@ -1,4 +1,4 @@
--- A reception as the code takes it: head and number of frames apart. Nothing here has to be believed: the proofs show that it is `rxOf`.
+-- A reception as the code takes it: head and number of frames apart. Nothing here has to be believed: the proofs show that it is `rx_of`.
 use Rattle.std.specs.Prelude.{ℕ, Bool, cond, List, [], eqb, ltb, length, get_or}
 use Rattle.wire.specs.Kinds.{tiny}
 use Rattle.words.specs.Words.{Heard, Burst, Parsed, malformed, parsed, parse, head_of}
