@@ -87,44 +87,38 @@ fn first_of(a: u32, b: u32) -> u32 {
 
 fn of_members(s: Station) -> u32 {
     let mut f: u32 = 0;
-    let mut i: usize = 0;
-    while i < 62 {
+    for i in 0..62 {
         let m = s.members[i];
         f = first_of(f, of_member(s, m, i as u8));
-        i += 1;
     }
     f
 }
 
 // A free slot hears nobody, and nobody hears the boat that has just signed off. (A later report may name a free slot again.)
-fn of_pair(s: Station, q: u8, r: usize, a: usize, gone: usize) -> u32 {
+fn of_pair(used: u64, q: u8, r: usize, a: usize, gone: usize) -> u32 {
     if q == 63 {
         return 0;
     }
-    if bits::has(s.used, r) & (a != gone) {
+    if bits::has(used, r) & (a != gone) {
         return 0;
     }
     3
 }
 
-fn of_row(s: Station, hears: &[u8; 3844], r: usize, gone: usize) -> u32 {
+fn of_row(used: u64, hears: &[u8; 3844], r: usize, gone: usize) -> u32 {
     let mut f: u32 = 0;
-    let mut a: usize = 0;
-    while a < 62 {
+    for a in 0..62 {
         if r < 62 {
-            f = first_of(f, of_pair(s, hears[r * 62 + a], r, a, gone));
+            f = first_of(f, of_pair(used, hears[r * 62 + a], r, a, gone));
         }
-        a += 1;
     }
     f
 }
 
 fn of_hears(s: Station, gone: usize) -> u32 {
     let mut f: u32 = 0;
-    let mut r: usize = 0;
-    while r < 62 {
-        f = first_of(f, of_row(s, &s.hears, r, gone));
-        r += 1;
+    for r in 0..62 {
+        f = first_of(f, of_row(s.used, &s.hears, r, gone));
     }
     f
 }
@@ -162,13 +156,11 @@ fn of_turn(s: Station) -> u32 {
 
 fn of_cells(s: Station) -> u32 {
     let mut f: u32 = 0;
-    let mut c: usize = 0;
-    while c < 64 {
+    for c in 0..64 {
         let o = s.owners[c];
         if bits::has(s.busy, c) & !net::is_member(s.used, (o / 4294967296 % 256) as u8) {
             f = 7;
         }
-        c += 1;
     }
     f
 }
@@ -177,13 +169,11 @@ fn of_cells(s: Station) -> u32 {
 
 fn of_silent(s: Station) -> u32 {
     let mut n: u32 = 0;
-    let mut i: usize = 0;
-    while i < 62 {
+    for i in 0..62 {
         let m = s.members[i];
         if bits::has(s.used, i) & (s.settings.misslimit <= m.missed) {
             n = bits::one_more(n);
         }
-        i += 1;
     }
     if n == s.totals.silent { 0 } else { 8 }
 }
@@ -191,8 +181,7 @@ fn of_silent(s: Station) -> u32 {
 // From slot i relays lead to a boat without one.
 fn ends(s: Station, i: u8) -> bool {
     let mut at = i;
-    let mut k: usize = 0;
-    while k < 62 {
+    for _ in 0..62 {
         let m = net::member_at(s, at);
         if !net::is_member(s.used, at) {
             return false;
@@ -201,19 +190,16 @@ fn ends(s: Station, i: u8) -> bool {
         if at == 63 {
             return true;
         }
-        k += 1;
     }
     false
 }
 
 fn of_relays(s: Station) -> u32 {
     let mut f: u32 = 0;
-    let mut i: usize = 0;
-    while i < 62 {
+    for i in 0..62 {
         if bits::has(s.used, i) & !ends(s, i as u8) {
             f = 9;
         }
-        i += 1;
     }
     f
 }

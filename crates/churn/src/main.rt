@@ -23,8 +23,7 @@ fn day(s: Station, lent: &mut [u8; 64000], w: &mut [u32; 8192], out: &mut [u32; 
     let mut u = s;
     let mut t = tell::nothing();
     let mut seed: u64 = 20261116;
-    let mut i: u32 = 0;
-    while i < 20000 {
+    for i in 0..20000 {
         let d = chance::draw(seed);
         seed = d.seed;
         let r = act::one(u, d, act::time(i), lent, w, out);
@@ -32,12 +31,11 @@ fn day(s: Station, lent: &mut [u8; 64000], w: &mut [u32; 8192], out: &mut [u32; 
         u = r.station;
         t = tell::counted(t, u.used, d, a, out);
         t = judged(t, i, u, d, a);
-        i += 1;
     }
     t
 }
 
-fn main() {
+fn main(rt: HostRuntime) {
     let mut lent = [0u8; 64000];
     let mut w = [0u32; 8192];
     let mut out = [0u32; 8192];
@@ -46,5 +44,5 @@ fn main() {
     let s = r.station;
     let t = day(s, &mut lent, &mut w, &mut out);
     let n = tell::day(&mut b, t);
-    text::flush(&b, n);
+    text::flush(rt.stdout(), &b, n);
 }

@@ -59,13 +59,11 @@ fn word(t: Tally, w: u32) -> Tally {
 // The first n words returned.
 fn words(t: Tally, out: &[u32; 8192], n: usize) -> Tally {
     let mut k = t;
-    let mut i: usize = 0;
-    while i < 8192 {
+    for i in 0..8192 {
         if n <= i {
             return k;
         }
         k = word(k, out[i]);
-        i += 1;
     }
     k
 }

@@ -1,5 +1,5 @@
 -- What the programs print: the bytes of each line, and where lines stand in the text that is gathered.
-use Rattle.std.specs.Prelude.{◌≡◌, ℕ, ◌/◌, ◌%◌, Bool, true, false, cond, List, [], ◌∷◌, ◌++◌, length, take, nat_lt}
+use Rattle.std.specs.Prelude.{◌≡◌, ℕ, ◌/◌, ◌%◌, Bool, false, cond, List, [], ◌∷◌, ◌++◌, length, take, nat_lt}
 use Rattle.std.proofs.lemmas.List.Edits.{sets}
 use Rattle.out.specs.Encode.{after}
 use Rattle.text.specs.Digits.{digits_of}

@@ -9,6 +9,7 @@ use net::Station;
 use script::action::{Action, Control};
 use script::{action, given, number};
 use station::{Answer, Answered, Heard};
+use std::io::Stdout;
 
 // How many bytes of the store the cells are, of those that there are.
 fn store_of(cells: usize, have: usize) -> usize
@@ -30,19 +31,19 @@ fn least(a: usize, b: usize) -> usize
 // ---- commands of one word
 
 // A landed message.
-fn read(s: Station, c: Control, w: u32, lent: &[u8], t: &mut [u8; 65536]) -> Control {
+fn read(s: Station, c: Control, w: u32, lent: &[u8], to: Stdout, t: &mut [u8; 65536]) -> Control {
     let mut no: u8 = 0;
     let z = store_of(c.cells, lent.len());
     let m = station::read(s, &lent[..z], action::rest_of(w) as usize, &mut no);
     if no != 0 {
-        return print::word(t, c, no as u32);
+        return print::word(to, t, c, no as u32);
     }
-    print::message(t, c, m)
+    print::message(to, t, c, m)
 }
 
-fn roster(s: Station, c: Control, t: &mut [u8; 65536]) -> Control {
+fn roster(s: Station, c: Control, to: Stdout, t: &mut [u8; 65536]) -> Control {
     let mut k = c;
-    k.end = dump::roster(s, t, c.end);
+    k.end = dump::roster(s, to, t, c.end);
     k
 }
 
@@ -53,15 +54,16 @@ pub fn shown(
     a: Action,
     w: u32,
     lent: &[u8],
+    to: Stdout,
     t: &mut [u8; 65536],
 ) -> Control {
     if let Action::Read = a {
-        return read(s, c, w, lent, t);
+        return read(s, c, w, lent, to, t);
     }
     if let Action::Ask = a {
-        return panel::asked(s, c, w, t);
+        return panel::asked(s, c, w, to, t);
     }
-    roster(s, c, t)
+    roster(s, c, to, t)
 }
 
 // ---- commands whose words follow
@@ -124,12 +126,10 @@ fn numbers_in(words: &[u32], p: &[u8; 255]) -> usize {
 // One of the first n numbers is a NaN's pattern.
 fn any_nan(p: &[u8; 255], n: usize) -> bool {
     let m = least(n, 31);
-    let mut i: usize = 0;
-    while i < m {
+    for i in 0..m {
         if number::nan64_at(p, 8 * i) {
             return true;
         }
-        i += 1;
     }
     false
 }
@@ -145,41 +145,49 @@ fn place_in(words: &[u32]) -> usize {
 
 fn hold(held: &mut [f64; 1088], at: usize, p: &[u8; 255], n: usize) {
     let m = least(n, 31);
-    let mut i: usize = 0;
-    while i < m {
+    for i in 0..m {
         let j = at % 1088 + i;
         if j < 1088 {
             held[j] = number::f64_at(p, 8 * i);
         }
-        i += 1;
     }
 }
 
-fn durations(c: Control, words: &[u32], held: &mut [f64; 1088], t: &mut [u8; 65536]) -> Control {
+fn durations(
+    c: Control,
+    words: &[u32],
+    held: &mut [f64; 1088],
+    to: Stdout,
+    t: &mut [u8; 65536],
+) -> Control {
     let p = words::payload(words, 0, 248);
     let n = numbers_in(words, &p);
     if n == 0 {
-        return print::word(t, action::closed(c), 3);
+        return print::word(to, t, action::closed(c), 3);
     }
     hold(held, place_in(words), &p, n);
     action::closed(c)
 }
 
-fn largest(c: Control, words: &[u32], payloads: &mut [u8; 17], t: &mut [u8; 65536]) -> Control {
+fn largest(
+    c: Control,
+    words: &[u32],
+    payloads: &mut [u8; 17],
+    to: Stdout,
+    t: &mut [u8; 65536],
+) -> Control {
     if 255 < flags_of(words, 12) {
-        return print::word(t, action::closed(c), 3);
+        return print::word(to, t, action::closed(c), 3);
     }
     let p = words::payload(words, 0, 17);
-    let mut i: usize = 0;
-    while i < 17 {
+    for i in 0..17 {
         payloads[i] = p[i];
-        i += 1;
     }
     action::closed(c)
 }
 
 // The clock or the level from here on, if the words are one frame with no NaN in it.
-fn set(c: Control, words: &[u32], t: &mut [u8; 65536]) -> Control {
+fn set(c: Control, words: &[u32], to: Stdout, t: &mut [u8; 65536]) -> Control {
     let p = words::payload(words, 0, 8);
     let clock = c.command == 9;
     let nan = if clock {
@@ -188,7 +196,7 @@ fn set(c: Control, words: &[u32], t: &mut [u8; 65536]) -> Control {
         number::nan32_at(&p, 0)
     };
     if (255 < flags_of(words, c.command)) | nan {
-        return print::word(t, action::closed(c), 3);
+        return print::word(to, t, action::closed(c), 3);
     }
     let mut k = action::closed(c);
     if clock {
@@ -206,6 +214,7 @@ pub fn setting(
     words: &[u32],
     held: &mut [f64; 1088],
     payloads: &mut [u8; 17],
+    to: Stdout,
     t: &mut [u8; 65536],
 ) -> Control {
     if !action::ends_setting(w, c) {
@@ -214,12 +223,12 @@ pub fn setting(
     let m = least(c.words, words.len());
     let mine = &words[..m];
     if c.command == 11 {
-        return durations(c, mine, held, t);
+        return durations(c, mine, held, to, t);
     }
     if c.command == 12 {
-        return largest(c, mine, payloads, t);
+        return largest(c, mine, payloads, to, t);
     }
-    set(c, mine, t)
+    set(c, mine, to, t)
 }
 
 // ---- posting
@@ -257,13 +266,11 @@ fn post_slot(words: &[u32]) -> u32 {
 fn join(message: &mut [u8; 2300], n: usize, words: &[u32], at: usize, len: usize) {
     let p = words::payload(words, at, len);
     let m = least(len, 255);
-    let mut i: usize = 0;
-    while i < m {
+    for i in 0..m {
         let j = n % 2301 + i;
         if j < 2300 {
             message[j] = p[i];
         }
-        i += 1;
     }
 }
 
@@ -357,15 +364,13 @@ pub fn fill(s: Station, w: u32, queue: &mut [u8; 126976]) -> Answered {
     let slot = (rest / 16 % 256) as u8;
     let zeros = [0u8; 2300];
     let mut u = s;
-    let mut left = rest / 4096;
-    while 0 < left {
+    for _ in 0..rest / 4096 {
         let r = posted_of(u, slot, &zeros, 2046, queue);
         let a = r.answer;
         if is_refused(a) {
             return r;
         }
         u = reported(r.station, slot);
-        left -= 1;
     }
     Answered {
         station: u,
@@ -374,19 +379,26 @@ pub fn fill(s: Station, w: u32, queue: &mut [u8; 126976]) -> Answered {
 }
 
 // A reception's answer printed, and the command closed.
-pub fn heard(c: Control, a: Answer, mask: u64, t: &mut [u8; 65536], out: &[u32; 8192]) -> Control
+pub fn heard(
+    c: Control,
+    a: Answer,
+    mask: u64,
+    to: Stdout,
+    t: &mut [u8; 65536],
+    out: &[u32; 8192],
+) -> Control
     ensures { Said t.old (closed c) (heard_by c.drive out.now mask a) t.new result }
 {
     match a {
-        Answer::Refused(n) => print::word(t, action::closed(c), n as u32),
-        Answer::Words(n) => print::heard(t, action::closed(c), out, n, mask),
+        Answer::Refused(n) => print::word(to, t, action::closed(c), n as u32),
+        Answer::Words(n) => print::heard(to, t, action::closed(c), out, n, mask),
     }
 }
 
 // The dues of the figures that were kept for them, printed, and the command closed.
-pub fn charged(s: Station, c: Control, words: &[u32], t: &mut [u8; 65536]) -> Control {
+pub fn charged(s: Station, c: Control, words: &[u32], to: Stdout, t: &mut [u8; 65536]) -> Control {
     let m = least(c.words, words.len());
-    panel::billed(s, c, &words[..m], t)
+    panel::billed(s, c, &words[..m], to, t)
 }
 
 fn admit(s: Station, words: &[u32], now: f64, out: &mut [u32; 8192]) -> Answered {
@@ -449,16 +461,17 @@ pub fn settled(
     c: Control,
     words: &[u32],
     a: Answer,
+    to: Stdout,
     t: &mut [u8; 65536],
     out: &[u32; 8192],
 ) -> Control
     ensures { Said t.old (closed (settled_by c words.now a)) (answer_lines out.now a) t.new result }
 {
     match a {
-        Answer::Refused(n) => print::word(t, action::closed(c), n as u32),
+        Answer::Refused(n) => print::word(to, t, action::closed(c), n as u32),
         Answer::Words(n) => {
             let k = kept(c, words);
-            print::all(t, action::closed(k), out, n)
+            print::all(to, t, action::closed(k), out, n)
         }
     }
 }

@@ -4,6 +4,7 @@ use net::{Station, Totals};
 use queue::Queue;
 use roster::Member;
 use script::number::{bits32, bits64};
+use std::io::Stdout;
 use stream::window;
 
 // The last `digits` digits of v behind a space.
@@ -85,13 +86,11 @@ fn put_hears(t: &mut [u8; 65536], at: usize, hears: &[u8; 3844], r: usize) -> us
         return at;
     }
     let mut e = at;
-    let mut a: usize = 0;
-    while a < 62 {
+    for a in 0..62 {
         let q = hears[r * 62 + a];
         if q < wire::UNHEARD {
             e = put_hear(t, e, e == at, a, q);
         }
-        a += 1;
     }
     if e == at {
         return dash(t, at);
@@ -128,8 +127,8 @@ fn put_queue(t: &mut [u8; 65536], at: usize, q: Queue) -> usize {
     word_field(t, b, q.reported)
 }
 
-fn put_totals(t: &mut [u8; 65536], at: usize, x: Totals) -> usize {
-    let s = text::room(t, at);
+fn put_totals(to: Stdout, t: &mut [u8; 65536], at: usize, x: Totals) -> usize {
+    let s = text::room(to, t, at);
     let a = text::put(t, s, b'T');
     let b = word_field(t, a, x.polls);
     let c = word_field(t, b, x.relays);
@@ -139,21 +138,19 @@ fn put_totals(t: &mut [u8; 65536], at: usize, x: Totals) -> usize {
     text::put(t, f, b'\n')
 }
 
-pub fn roster(s: Station, t: &mut [u8; 65536], at: usize) -> usize {
+pub fn roster(s: Station, to: Stdout, t: &mut [u8; 65536], at: usize) -> usize {
     let mut e = at;
-    let mut i: usize = 0;
-    while i < 62 {
+    for i in 0..62 {
         if bits::has(s.used, i) {
             let m = s.members[i];
-            let a = text::room(t, e);
+            let a = text::room(to, t, e);
             let b = put_member(t, a, m, i);
             let c = put_hears(t, b, &s.hears, i);
             let q = s.queues[i];
             let d = put_queue(t, c, q);
             e = text::put(t, d, b'\n');
         }
-        i += 1;
     }
     let x = s.totals;
-    put_totals(t, e, x)
+    put_totals(to, t, e, x)
 }

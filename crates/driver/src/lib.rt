@@ -7,6 +7,7 @@ use net::Station;
 use script::action;
 use script::action::{Action, Control};
 use station::Answer;
+use std::io::{Stdin, Stdout};
 
 mod command;
 mod dump;
@@ -40,13 +41,20 @@ fn push(c: Control, words: &mut [u32; 8192], w: u32) -> Control {
 }
 
 // What asks nothing of the station.
-fn aside(c: Control, a: Action, w: u32, words: &mut [u32; 8192], t: &mut [u8; 65536]) -> Control {
+fn aside(
+    c: Control,
+    a: Action,
+    w: u32,
+    words: &mut [u32; 8192],
+    to: Stdout,
+    t: &mut [u8; 65536],
+) -> Control {
     match a {
         Action::Push => push(c, words, w),
         Action::Open(n) => action::opened(c, n),
         Action::Time => action::timed(c, w),
         Action::Level => action::leveled(c, w),
-        Action::Bad => print::word(t, c, 3),
+        Action::Bad => print::word(to, t, c, 3),
         Action::Next => c,
         Action::Sent => c,
         Action::Close => c,
@@ -95,68 +103,67 @@ pub fn feed(
     queue: &mut [u8; 126976],
     words: &mut [u32; 8192],
     out: &mut [u32; 8192],
+    to: Stdout,
     t: &mut [u8; 65536],
 ) -> Ran {
     let end = end_of(b, n, last);
-    let mut i: usize = 0;
-    while i < end {
+    for i in 0..end {
         let w = word_or_end(b, i, n);
-        k = command::setting(k, w, words, held, payloads, t);
+        k = command::setting(k, w, words, held, payloads, to, t);
         if action::ends_burst(w, k) {
             let r = command::receive(u, k, words, lent, out);
             let h = r.answer;
             u = r.station;
-            k = command::heard(k, h, r.mask, t, out);
+            k = command::heard(k, h, r.mask, to, t, out);
         } else if action::ends_post(w, k) {
             let r = command::post(u, k, words, queue);
             let h = r.answer;
             u = r.station;
-            k = print::answer(t, action::closed(k), out, h);
+            k = print::answer(to, t, action::closed(k), out, h);
         } else if action::ends_figures(w, k) {
-            k = command::charged(u, k, words, t);
+            k = command::charged(u, k, words, to, t);
         } else if action::ends(w, k) {
             let r = command::finish(u, k, words, lent, held, payloads, out);
             let h = r.answer;
             u = r.station;
-            k = command::settled(k, words, h, t, out);
+            k = command::settled(k, words, h, to, t, out);
         }
         let a = action::action_of(w, k);
         if let Action::Next = a {
             let r = station::next(u, k.now, queue, out);
             let h = r.answer;
             u = r.station;
-            k = print::answer(t, k, out, h);
+            k = print::answer(to, t, k, out, h);
         } else if let Action::Sent = a {
             let r = station::sent(u, k.now);
             let h = r.answer;
             u = r.station;
-            k = print::answer(t, k, out, h);
+            k = print::answer(to, t, k, out, h);
         } else if let Action::Free = a {
             let r = station::free(u, action::rest_of(w) as usize);
             let h = r.answer;
             u = r.station;
-            k = print::answer(t, k, out, h);
+            k = print::answer(to, t, k, out, h);
         } else if let Action::Close = a {
             let r = station::close(u, action::rest_of(w));
             let h = r.answer;
             u = r.station;
-            k = print::answer(t, k, out, h);
+            k = print::answer(to, t, k, out, h);
         } else if let Action::SignOff = a {
             let r = station::sign_off(u, action::slot_of(w));
             let h = r.answer;
             u = r.station;
-            k = print::answer(t, k, out, h);
+            k = print::answer(to, t, k, out, h);
         } else if let Action::Fill = a {
             let r = command::fill(u, w, queue);
             let h = r.answer;
             u = r.station;
-            k = print::answer(t, k, out, h);
+            k = print::answer(to, t, k, out, h);
         } else if action::is_shown(a) {
-            k = command::shown(u, k, a, w, lent, t);
+            k = command::shown(u, k, a, w, lent, to, t);
         } else {
-            k = aside(k, a, w, words, t);
+            k = aside(k, a, w, words, to, t);
         }
-        i += 1;
     }
     Ran {
         station: u,
@@ -165,26 +172,32 @@ pub fn feed(
 }
 
 // A last word that was cut short is malformed.
-fn cut_short(c: Control, cut: bool, t: &mut [u8; 65536]) -> Control {
+fn cut_short(c: Control, cut: bool, to: Stdout, t: &mut [u8; 65536]) -> Control {
     if cut {
-        return print::word(t, c, 3);
+        return print::word(to, t, c, 3);
     }
     c
 }
 
 // Standard input to its end, at most 2^64 - 1 parts of 65,536 bytes.
-fn read_all(s: Station, c: Control, lent: &mut [u8; 409600], t: &mut [u8; 65536]) -> Control {
+fn read_all(
+    from: Stdin,
+    s: Station,
+    c: Control,
+    lent: &mut [u8; 409600],
+    to: Stdout,
+    t: &mut [u8; 65536],
+) -> Control {
     let mut words = [0u32; 8192];
     let mut out = [0u32; 8192];
     let mut queue = [0u8; 126976];
     let mut held = [1.0f64; 1088];
     let mut payloads = preset::payloads();
-    let mut b = io::large_buffer();
+    let mut b = [0u8; 65536];
     let mut u = s;
     let mut k = c;
-    let mut left: u64 = 18446744073709551615;
-    while 0 < left {
-        let n = io::read_full(0, &mut b);
+    for _ in 0..u64::MAX {
+        let n = text::read_full(from, &mut b);
         let r = feed(
             u,
             k,
@@ -197,20 +210,20 @@ fn read_all(s: Station, c: Control, lent: &mut [u8; 409600], t: &mut [u8; 65536]
             &mut queue,
             &mut words,
             &mut out,
+            to,
             t,
         );
         u = r.station;
         k = r.control;
         if n < 65536 {
-            return cut_short(k, n % 4 != 0, t);
+            return cut_short(k, n % 4 != 0, to, t);
         }
-        left -= 1;
     }
     k
 }
 
 // The program `tape`, or `drive`, or `panel`, which takes all of `drive`'s commands, with the settings of `tape`. Were its first start refused, that alone would be printed.
-pub fn run(drive: bool, panel: bool) {
+pub fn run(from: Stdin, to: Stdout, drive: bool, panel: bool) {
     let mut lent = [0u8; 409600];
     let mut t = [0u8; 65536];
     let g = preset::tape_settings();
@@ -218,19 +231,21 @@ pub fn run(drive: bool, panel: bool) {
     let s = r.station;
     let a = r.answer;
     let c = action::first_control(drive, panel);
-    let k = begun(s, c, a, &mut lent, &mut t);
-    text::flush(&t, k.end);
+    let k = begun(from, s, c, a, &mut lent, to, &mut t);
+    text::flush(to, &t, k.end);
 }
 
 fn begun(
+    from: Stdin,
     s: Station,
     c: Control,
     a: Answer,
     lent: &mut [u8; 409600],
+    to: Stdout,
     t: &mut [u8; 65536],
 ) -> Control {
     match a {
-        Answer::Refused(n) => print::word(t, c, n as u32),
-        Answer::Words(_) => read_all(s, c, lent, t),
+        Answer::Refused(n) => print::word(to, t, c, n as u32),
+        Answer::Words(_) => read_all(from, s, c, lent, to, t),
     }
 }

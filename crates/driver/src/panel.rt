@@ -7,6 +7,7 @@ use script::action::Control;
 use script::{action, number};
 use station::show::Entry;
 use station::{Lowest, show};
+use std::io::Stdout;
 
 // Text and a number behind it.
 fn count(t: &mut [u8; 65536], at: usize, s: &[u8], x: u32) -> usize {
@@ -72,13 +73,11 @@ fn put_clock(t: &mut [u8; 65536], at: usize, x: Clock, now: f64) -> usize {
 // A call with the spaces at its end left out.
 fn trimmed(t: &mut [u8; 65536], at: usize, c: [u8; 7]) -> usize {
     let mut e = at;
-    let mut i: usize = 0;
-    while i < 7 {
+    for i in 0..7 {
         if c[i] == 32 {
             return e;
         }
         e = text::put(t, e, c[i]);
-        i += 1;
     }
     e
 }
@@ -162,9 +161,9 @@ fn byte_of(x: u32) -> u8 {
 
 // The answer to a question: 0 the silent boats, 1 the boat in the slot of bits 15-8, 2 how it hears the one of bits 23-16,
 // 4 its lowest level of late.
-pub fn asked(s: Station, c: Control, w: u32, t: &mut [u8; 65536]) -> Control {
+pub fn asked(s: Station, c: Control, w: u32, to: Stdout, t: &mut [u8; 65536]) -> Control {
     let rest = action::rest_of(w);
-    let a = text::room(t, c.end);
+    let a = text::room(to, t, c.end);
     let e = match rest % 16 {
         0 => silent(t, a, s),
         1 => boat(t, a, s, byte_of(rest / 16), c.now),
@@ -193,10 +192,8 @@ fn figures_in(words: &[u32]) -> usize {
 // The figures, lowest byte first.
 fn figures(p: &[u8; 255]) -> [u32; 63] {
     let mut f = [0u32; 63];
-    let mut i: usize = 0;
-    while i < 63 {
+    for i in 0..63 {
         f[i] = number::u32_at(p, 4 * i);
-        i += 1;
     }
     f
 }
@@ -210,15 +207,13 @@ fn put_due(t: &mut [u8; 65536], at: usize, charge: u32, credit: u32) -> usize {
 // A line for each boat, then the port's takings.
 fn put_bill(t: &mut [u8; 65536], at: usize, s: Station, b: Bill) -> usize {
     let mut e = at;
-    let mut i: usize = 0;
-    while i < 62 {
+    for i in 0..62 {
         if bits::has(s.used, i) {
             let m = s.members[i];
             let call = m.call;
             let a = named(t, e, i as u8, call);
             e = put_due(t, a, b.charges[i], b.credits[i]);
         }
-        i += 1;
     }
     let f = text::put_text(t, e, b"takings: ");
     let g = text::put_decimal(t, f, b.takings);
@@ -226,19 +221,19 @@ fn put_bill(t: &mut [u8; 65536], at: usize, s: Station, b: Bill) -> usize {
 }
 
 // The dues of the figures in the words, and the command closed.
-pub fn billed(s: Station, c: Control, words: &[u32], t: &mut [u8; 65536]) -> Control {
+pub fn billed(s: Station, c: Control, words: &[u32], to: Stdout, t: &mut [u8; 65536]) -> Control {
     let mut k = action::closed(c);
     let n = figures_in(words);
     if 63 < n {
-        return print::word(t, k, 3);
+        return print::word(to, t, k, 3);
     }
     let p = words::payload(words, 0, 252);
     let f = figures(&p);
     let b = dues::dues(s, &f[..n]);
     if b.refusal != 0 {
-        return print::word(t, k, b.refusal as u32);
+        return print::word(to, t, k, b.refusal as u32);
     }
-    let a = text::room(t, k.end);
+    let a = text::room(to, t, k.end);
     k.end = put_bill(t, a, s, b);
     k
 }

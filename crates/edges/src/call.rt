@@ -1,29 +1,30 @@
 // Calls and their numbers.
 use crate::print;
+use std::io::Stdout;
 
-fn packed(call: [u8; 7]) {
-    print::text(b"  \"");
-    print::text(&call);
-    print::text(b"\" is ");
-    print::number(wire::calls::number_of(call));
-    print::text(b"\n");
+fn packed(to: Stdout, call: [u8; 7]) {
+    print::text(to, b"  \"");
+    print::text(to, &call);
+    print::text(to, b"\" is ");
+    print::number(to, wire::calls::number_of(call));
+    print::text(to, b"\n");
 }
 
-fn read(v: u64) {
-    print::text(b"  ");
-    print::number(v);
-    print::text(b" reads \"");
+fn read(to: Stdout, v: u64) {
+    print::text(to, b"  ");
+    print::number(to, v);
+    print::text(to, b" reads \"");
     let call = wire::calls::unpack_number(v);
-    print::text(&call);
-    print::text(b"\"\n");
+    print::text(to, &call);
+    print::text(to, b"\"\n");
 }
 
-pub fn p_calls() {
-    print::text(b"Calls: document 01, P calls\n");
-    packed([32, 32, 32, 32, 32, 32, 32]);
-    packed([48, 32, 32, 32, 32, 32, 32]);
-    packed([65, 32, 32, 32, 32, 32, 32]);
-    packed([47, 47, 47, 47, 47, 47, 47]);
-    read(114415582591);
-    read(114415582592);
+pub fn p_calls(to: Stdout) {
+    print::text(to, b"Calls: document 01, P calls\n");
+    packed(to, [32, 32, 32, 32, 32, 32, 32]);
+    packed(to, [48, 32, 32, 32, 32, 32, 32]);
+    packed(to, [65, 32, 32, 32, 32, 32, 32]);
+    packed(to, [47, 47, 47, 47, 47, 47, 47]);
+    read(to, 114415582591);
+    read(to, 114415582592);
 }

@@ -7,13 +7,14 @@ mod print;
 mod serial;
 mod short;
 
-fn main() {
-    number::p_numbers();
-    number::ends();
-    call::p_calls();
-    short::calls();
-    serial::two_bits();
-    serial::eight_bits();
-    serial::pairs();
-    serial::sums();
+fn main(rt: HostRuntime) {
+    let to = rt.stdout();
+    number::p_numbers(to);
+    number::ends(to);
+    call::p_calls(to);
+    short::calls(to);
+    serial::two_bits(to);
+    serial::eight_bits(to);
+    serial::pairs(to);
+    serial::sums(to);
 }

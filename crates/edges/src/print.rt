@@ -1,8 +1,10 @@
-// Words and numbers to standard output.
-pub fn text(t: &[u8]) {
-    io::write_all(1, t);
+// Words and numbers to standard output. What cannot be written is dropped.
+use std::io::{Stdout, Write};
+
+pub fn text(mut to: Stdout, t: &[u8]) {
+    let _ = to.write_all(t);
 }
 
-pub fn number(n: u64) {
-    io::print_decimal(1, n);
+pub fn number(mut to: Stdout, n: u64) {
+    let _ = write!(to, "{n}");
 }

@@ -3,6 +3,7 @@ ghost use Rattle.std.specs.Prelude.{◌≡◌, ◌+◌, ◌≤◌, length};
 ghost use Rattle.edges.specs.Filled.{filled};
 
 use crate::print;
+use std::io::Stdout;
 
 // The bytes before the first that is 0.
 fn filled(out: &[u8]) -> usize
@@ -19,34 +20,37 @@ fn filled(out: &[u8]) -> usize
 }
 
 // What an output gets.
-fn lent(out: &mut [u8]) {
-    print::text(b"  ");
-    print::number(out.len() as u64);
-    print::text(b" bytes: ");
-    print::number(sheet::short_calls(out) as u64);
-    print::text(b", calls written: ");
-    print::number((filled(out) / 7) as u64);
-    print::text(b"\n");
+fn lent(to: Stdout, out: &mut [u8]) {
+    print::text(to, b"  ");
+    print::number(to, out.len() as u64);
+    print::text(to, b" bytes: ");
+    print::number(to, sheet::short_calls(out) as u64);
+    print::text(to, b", calls written: ");
+    print::number(to, (filled(out) / 7) as u64);
+    print::text(to, b"\n");
 }
 
 // The seven bytes from `at` on.
-fn call(out: &[u8], at: usize)
+fn call(to: Stdout, out: &[u8], at: usize)
     requires { at + 7 ≤ length out.now }
 {
-    print::text(b"  \"");
+    print::text(to, b"  \"");
     let end = at + 7;
-    print::text(&out[at..end]);
-    print::text(b"\"\n");
+    print::text(to, &out[at..end]);
+    print::text(to, b"\"\n");
 }
 
-pub fn calls() {
-    print::text(b"Short calls: the sheet, its first three and its last\n");
+pub fn calls(to: Stdout) {
+    print::text(
+        to,
+        b"Short calls: the sheet, its first three and its last\n",
+    );
     let mut small = [0u8; 9848];
-    lent(&mut small);
+    lent(to, &mut small);
     let mut out = [0u8; 9856];
-    lent(&mut out);
-    call(&out, 0);
-    call(&out, 7);
-    call(&out, 14);
-    call(&out, 9842);
+    lent(to, &mut out);
+    call(to, &out, 0);
+    call(to, &out, 7);
+    call(to, &out, 14);
+    call(to, &out, 9842);
 }

@@ -30,11 +30,9 @@ fn idle(t: &mut [u8; 65536], at: usize, who: &[u8; 441], x: u32) -> usize {
 fn marks(t: &mut [u8; 65536], at: usize, x: u32) -> usize {
     let mut e = at;
     let mut rest = x;
-    let mut i: usize = 0;
-    while i < 8 {
+    for _ in 0..8 {
         e = text::put(t, e, if rest % 2 == 1 { b'x' } else { b'.' });
         rest = rest / 2;
-        i += 1;
     }
     e
 }

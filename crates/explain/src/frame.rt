@@ -245,13 +245,11 @@ fn entries(
 
 fn raw(t: &mut [u8; 65536], at: usize, p: &[u8; 255], len: usize) -> usize {
     let mut e = text::put_text(t, at, b"bytes");
-    let mut i: usize = 0;
-    while i < 255 {
+    for i in 0..255 {
         if len <= i {
             return e;
         }
         e = spaced(t, e, p[i]);
-        i += 1;
     }
     e
 }

@@ -2,6 +2,7 @@
 ghost use Rattle.std.specs.Prelude.{◌≡◌};
 
 use super::{burst, event, frame, input, message, roster, who};
+use std::io::Stdout;
 
 // end: where the text ends so far. word: the digits of the line so far, count how many, plain: the line is no word.
 // part: how far a line with a message is, 5 in a line of the roster, of which `posted` and `kept` are the last fields so far. command: the last one of a script, 2 before any and in a burst.
@@ -214,12 +215,10 @@ fn word(s: State, bytes: &mut [u8; 255], who: &mut [u8; 441], t: &mut [u8; 65536
 fn given_back(s: State, kept: &[u8; 8], t: &mut [u8; 65536]) -> State {
     let mut u = cut(s, t);
     let mut e = u.end;
-    let mut i: usize = 0;
-    while i < 8 {
+    for i in 0..8 {
         if i < s.count {
             e = text::put(t, e, kept[i]);
         }
-        i += 1;
     }
     u.end = e;
     u.plain = true;
@@ -235,9 +234,9 @@ fn fresh(s: State) -> State {
 }
 
 // A byte of a line that passes.
-pub fn passed(s: State, b: u8, t: &mut [u8; 65536]) -> State {
+pub fn passed(s: State, b: u8, to: Stdout, t: &mut [u8; 65536]) -> State {
     let mut u = s;
-    let a = text::room(t, s.end);
+    let a = text::room(to, t, s.end);
     u.end = text::put(t, a, b);
     u
 }
@@ -247,23 +246,24 @@ fn line_end(
     kept: &[u8; 8],
     bytes: &mut [u8; 255],
     who: &mut [u8; 441],
+    to: Stdout,
     t: &mut [u8; 65536],
 ) -> State {
     let mut u = s;
-    u.end = text::room(t, s.end);
+    u.end = text::room(to, t, s.end);
     if s.part == 5 {
-        return fresh(passed(roster::end(u, t), b'\n', t));
+        return fresh(passed(roster::end(u, t), b'\n', to, t));
     }
     if s.part != 0 {
-        return fresh(passed(message::end(u, t), b'\n', t));
+        return fresh(passed(message::end(u, t), b'\n', to, t));
     }
     if s.plain {
-        return fresh(passed(u, b'\n', t));
+        return fresh(passed(u, b'\n', to, t));
     }
     if s.count == 8 {
         return fresh(word(u, bytes, who, t));
     }
-    fresh(passed(given_back(u, kept, t), b'\n', t))
+    fresh(passed(given_back(u, kept, t), b'\n', to, t))
 }
 
 fn digit_in(s: State, b: u8, d: u32, kept: &mut [u8; 8]) -> State {
@@ -284,31 +284,32 @@ pub fn step(
     kept: &mut [u8; 8],
     bytes: &mut [u8; 255],
     who: &mut [u8; 441],
+    to: Stdout,
     t: &mut [u8; 65536],
 ) -> State {
     if b == b'\n' {
-        return line_end(s, kept, bytes, who, t);
+        return line_end(s, kept, bytes, who, to, t);
     }
     if s.part == 5 {
-        return roster::step(s, b, t);
+        return roster::step(s, b, to, t);
     }
     if s.part != 0 {
-        return message::step(s, b, t);
+        return message::step(s, b, to, t);
     }
     if s.plain {
-        return passed(s, b, t);
+        return passed(s, b, to, t);
     }
     if (b == b'R') & (s.count == 0) {
         return message::begun(cut(s, t));
     }
     if (b == b'S') & (s.count == 0) {
-        return roster::begun(cut(s, t), t);
+        return roster::begun(cut(s, t), to, t);
     }
     let d = digit(b);
     if (d < 16) & (s.count < 8) {
         return digit_in(s, b, d, kept);
     }
-    passed(given_back(s, kept, t), b, t)
+    passed(given_back(s, kept, t), b, to, t)
 }
 
 // What is left at the end of the input.
@@ -317,10 +318,11 @@ pub fn last(
     kept: &[u8; 8],
     bytes: &mut [u8; 255],
     who: &mut [u8; 441],
+    to: Stdout,
     t: &mut [u8; 65536],
 ) -> usize {
     if s.plain | (s.part != 0) | (0 < s.count) {
-        return line_end(s, kept, bytes, who, t).end;
+        return line_end(s, kept, bytes, who, to, t).end;
     }
     cut(s, t).end
 }

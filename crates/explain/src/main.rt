@@ -12,6 +12,7 @@ mod say;
 mod who;
 
 use line::State;
+use std::io::{Stdin, Stdout};
 
 fn byte_at(b: &[u8], i: usize) -> u8 {
     if i < b.len() { b[i] } else { b'\n' }
@@ -25,38 +26,35 @@ fn feed(
     kept: &mut [u8; 8],
     bytes: &mut [u8; 255],
     who: &mut [u8; 441],
+    to: Stdout,
     t: &mut [u8; 65536],
 ) -> State {
     let mut u = s;
-    let mut i: usize = 0;
-    while i < n {
-        u = line::step(u, byte_at(b, i), kept, bytes, who, t);
-        i += 1;
+    for i in 0..n {
+        u = line::step(u, byte_at(b, i), kept, bytes, who, to, t);
     }
     u
 }
 
 // Standard input to its end, at most 2^64 - 1 parts of 65,536 bytes. A last line needs no line end.
-fn read_all(t: &mut [u8; 65536]) -> usize {
+fn read_all(from: Stdin, to: Stdout, t: &mut [u8; 65536]) -> usize {
     let mut kept = [0u8; 8];
     let mut bytes = [0u8; 255];
     let mut who = [0u8; 441];
-    let mut b = io::large_buffer();
+    let mut b = [0u8; 65536];
     let mut s = line::first();
-    let mut left: u64 = 18446744073709551615;
-    while 0 < left {
-        let n = io::read_full(0, &mut b);
-        s = feed(s, &b, n, &mut kept, &mut bytes, &mut who, t);
+    for _ in 0..u64::MAX {
+        let n = text::read_full(from, &mut b);
+        s = feed(s, &b, n, &mut kept, &mut bytes, &mut who, to, t);
         if n < 65536 {
-            return line::last(s, &kept, &mut bytes, &mut who, t);
+            return line::last(s, &kept, &mut bytes, &mut who, to, t);
         }
-        left -= 1;
     }
     s.end
 }
 
-fn main() {
+fn main(rt: HostRuntime) {
     let mut t = [0u8; 65536];
-    let n = read_all(&mut t);
-    text::flush(&t, n);
+    let n = read_all(rt.stdin(), rt.stdout(), &mut t);
+    text::flush(rt.stdout(), &t, n);
 }

@@ -1,6 +1,7 @@
 // A line `R ` and a message's bytes in hexadecimal digits: the bytes as text, one that no line can show as a backslash and its digits.
 use super::line;
 use super::line::State;
+use std::io::Stdout;
 
 // How far the line is: 1 behind the R, 2 behind the blank, 3 behind a byte, 4 behind the first digit of one, which is in `word`.
 pub fn begun(s: State) -> State {
@@ -10,11 +11,11 @@ pub fn begun(s: State) -> State {
 }
 
 // It is no such line after all: the rest passes.
-fn other(s: State, b: u8, t: &mut [u8; 65536]) -> State {
+fn other(s: State, b: u8, to: Stdout, t: &mut [u8; 65536]) -> State {
     let mut u = s;
     u.part = 0;
     u.plain = true;
-    line::passed(u, b, t)
+    line::passed(u, b, to, t)
 }
 
 fn after_blank(s: State, d: u32, t: &mut [u8; 65536]) -> State {
@@ -34,9 +35,9 @@ fn shown(t: &mut [u8; 65536], at: usize, b: u8) -> usize {
     text::put(t, at, b)
 }
 
-fn second(s: State, d: u32, t: &mut [u8; 65536]) -> State {
+fn second(s: State, d: u32, to: Stdout, t: &mut [u8; 65536]) -> State {
     let mut u = s;
-    let a = text::room(t, s.end);
+    let a = text::room(to, t, s.end);
     u.end = shown(t, a, (16 * (s.word % 16) + d % 16) as u8);
     u.part = 3;
     u
@@ -50,12 +51,12 @@ fn first(s: State, d: u32) -> State {
 }
 
 // A digit of a message that has begun.
-fn digit(s: State, d: u32, t: &mut [u8; 65536]) -> State {
+fn digit(s: State, d: u32, to: Stdout, t: &mut [u8; 65536]) -> State {
     let part = s.part;
     match part {
         2 => after_blank(s, d, t),
         3 => first(s, d),
-        _ => second(s, d, t),
+        _ => second(s, d, to, t),
     }
 }
 
@@ -73,15 +74,15 @@ fn so_far(t: &mut [u8; 65536], at: usize, s: State) -> usize {
     }
 }
 
-fn given_back(s: State, b: u8, t: &mut [u8; 65536]) -> State {
+fn given_back(s: State, b: u8, to: Stdout, t: &mut [u8; 65536]) -> State {
     let mut u = s;
-    let a = text::room(t, s.end);
+    let a = text::room(to, t, s.end);
     u.end = so_far(t, a, s);
-    other(u, b, t)
+    other(u, b, to, t)
 }
 
 // One byte of the line.
-pub fn step(s: State, b: u8, t: &mut [u8; 65536]) -> State {
+pub fn step(s: State, b: u8, to: Stdout, t: &mut [u8; 65536]) -> State {
     let d = line::digit(b);
     if (s.part == 1) & (b == b' ') {
         let mut u = s;
@@ -89,9 +90,9 @@ pub fn step(s: State, b: u8, t: &mut [u8; 65536]) -> State {
         return u;
     }
     if (1 < s.part) & (d < 16) {
-        return digit(s, d, t);
+        return digit(s, d, to, t);
     }
-    given_back(s, b, t)
+    given_back(s, b, to, t)
 }
 
 // The line's end. A message may have no byte.

@@ -1,10 +1,11 @@
 // A line of the roster passes; behind it stands what its last three fields say of word back to the boat.
 use super::line;
 use super::line::State;
+use std::io::Stdout;
 
 // part 5: `kept` has the field before the one that is read, `posted` the one before that.
-pub fn begun(s: State, t: &mut [u8; 65536]) -> State {
-    let mut u = line::passed(s, b'S', t);
+pub fn begun(s: State, to: Stdout, t: &mut [u8; 65536]) -> State {
+    let mut u = line::passed(s, b'S', to, t);
     u.part = 5;
     u.word = 0;
     u.posted = 0;
@@ -12,8 +13,8 @@ pub fn begun(s: State, t: &mut [u8; 65536]) -> State {
     u
 }
 
-pub fn step(s: State, b: u8, t: &mut [u8; 65536]) -> State {
-    let mut u = line::passed(s, b, t);
+pub fn step(s: State, b: u8, to: Stdout, t: &mut [u8; 65536]) -> State {
+    let mut u = line::passed(s, b, to, t);
     let d = line::digit(b);
     if d < 16 {
         u.word = s.word % 268435456 * 16 + d % 16;

@@ -55,13 +55,11 @@ pub fn call(t: &mut [u8; 65536], at: usize, packed: [u8; 5]) -> usize {
 
 pub fn trimmed(t: &mut [u8; 65536], at: usize, c: [u8; 7]) -> usize {
     let mut e = at;
-    let mut i: usize = 0;
-    while i < 7 {
+    for i in 0..7 {
         if c[i] == 32 {
             return e;
         }
         e = shown(t, e, c[i]);
-        i += 1;
     }
     e
 }

@@ -46,20 +46,16 @@ pub fn forget(who: &mut [u8; 441], x: u32) {
 }
 
 pub fn forget_all(who: &mut [u8; 441]) {
-    let mut i: usize = 0;
-    while i < 441 {
+    for i in 0..441 {
         who[i] = 0;
-        i += 1;
     }
 }
 
 fn same(a: [u8; 7], b: [u8; 7]) -> bool {
-    let mut i: usize = 0;
-    while i < 7 {
+    for i in 0..7 {
         if a[i] != b[i] {
             return false;
         }
-        i += 1;
     }
     true
 }

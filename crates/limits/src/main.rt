@@ -16,7 +16,7 @@ fn refusals(t: &mut [u8; 65536], lent: &mut [u8; 64000], out: &mut [u32; 8192]) 
     refused::level(t, e, lent, out)
 }
 
-fn main() {
+fn main(rt: HostRuntime) {
     let mut t = [0u8; 65536];
     let mut lent = [0u8; 64000];
     let mut out = [0u32; 8192];
@@ -25,5 +25,5 @@ fn main() {
     let c = count::claims(&mut t, b, &mut lent, &mut out);
     let d = count::counters(&mut t, c, &lent, &mut out);
     let e = slip::ties(&mut t, d);
-    text::flush(&t, e);
+    text::flush(rt.stdout(), &t, e);
 }

@@ -22,8 +22,7 @@ fn length_of(i: Item) -> usize {
 // The n bytes of the frame at `from` behind the first `at` of the body.
 fn append(body: &mut [u8; 2300], at: usize, words: &[u32], from: usize, n: usize) {
     let p = words::payload(words, from, n);
-    let mut k: usize = 0;
-    while k < 255 {
+    for k in 0..255 {
         if n <= k {
             return;
         }
@@ -32,7 +31,6 @@ fn append(body: &mut [u8; 2300], at: usize, words: &[u32], from: usize, n: usize
                 body[at + k] = p[k];
             }
         }
-        k += 1;
     }
 }
 

@@ -4,6 +4,7 @@ ghost use Rattle.std.specs.Prelude.{◌≤◌};
 use super::{argument, print};
 use outbox::sender::Sender;
 use outbox::{leave, sender, taking};
+use std::io::Stdout;
 
 // open: the command whose words are being read, 7 for none; words: how many there are so far; end: where the gathered text ends.
 pub const NONE: u32 = 7;
@@ -32,30 +33,30 @@ fn printed(r: Ran, end: usize) -> Ran {
 }
 
 // A refusal's word; nothing where there is none.
-fn refused(r: Ran, s: Sender, no: u8, t: &mut [u8; 65536]) -> Ran {
+fn refused(r: Ran, s: Sender, no: u8, to: Stdout, t: &mut [u8; 65536]) -> Ran {
     let mut q = r;
     q.sender = s;
     if no == 0 {
         return q;
     }
-    let end = print::word(t, r.end, no as u32);
+    let end = print::word(to, t, r.end, no as u32);
     printed(q, end)
 }
 
-fn malformed(r: Ran, t: &mut [u8; 65536]) -> Ran {
-    let end = print::word(t, r.end, 3);
+fn malformed(r: Ran, to: Stdout, t: &mut [u8; 65536]) -> Ran {
+    let end = print::word(to, t, r.end, 3);
     printed(r, end)
 }
 
 // ---- commands whose words follow
 
-fn post(r: Ran, mine: &[u32], bytes: &mut [u8; 16384], t: &mut [u8; 65536]) -> Ran {
+fn post(r: Ran, mine: &[u32], bytes: &mut [u8; 16384], to: Stdout, t: &mut [u8; 65536]) -> Ran {
     let mut body = [0u8; 2300];
     let n = argument::joined(mine, &mut body);
     if 2300 < n {
-        return malformed(r, t);
+        return malformed(r, to, t);
     }
-    post_body(r, n, &body, bytes, t)
+    post_body(r, n, &body, bytes, to, t)
 }
 
 fn post_body(
@@ -63,16 +64,24 @@ fn post_body(
     n: usize,
     body: &[u8; 2300],
     bytes: &mut [u8; 16384],
+    to: Stdout,
     t: &mut [u8; 65536],
 ) -> Ran {
-    post_first(r, n, body, bytes, t)
+    post_first(r, n, body, bytes, to, t)
 }
 
 // The first n bytes of the body.
-fn post_first(r: Ran, n: usize, body: &[u8], bytes: &mut [u8; 16384], t: &mut [u8; 65536]) -> Ran {
+fn post_first(
+    r: Ran,
+    n: usize,
+    body: &[u8],
+    bytes: &mut [u8; 16384],
+    to: Stdout,
+    t: &mut [u8; 65536],
+) -> Ran {
     let m = least(n, body.len());
     let a = sender::post(r.sender, bytes, &body[..m]);
-    refused(r, a.sender, a.refusal, t)
+    refused(r, a.sender, a.refusal, to, t)
 }
 
 fn ack(
@@ -80,24 +89,23 @@ fn ack(
     mine: &[u32],
     bytes: &mut [u8; 16384],
     marks: &mut [u8; 16384],
+    to: Stdout,
     t: &mut [u8; 65536],
 ) -> Ran {
     if argument::single(mine) != 8 {
-        return malformed(r, t);
+        return malformed(r, to, t);
     }
     let seq = argument::number(mine, 0);
     let off = argument::number(mine, 1) as usize;
     let a = leave::ack(r.sender, bytes, marks, seq, off);
-    refused(r, a.sender, a.refusal, t)
+    refused(r, a.sender, a.refusal, to, t)
 }
 
 // The numbers behind the first.
 fn others(mine: &[u32]) -> [u32; 63] {
     let mut also = [0u32; 63];
-    let mut k: usize = 0;
-    while k < 63 {
+    for k in 0..63 {
         also[k] = argument::number(mine, k + 1);
-        k += 1;
     }
     also
 }
@@ -107,14 +115,15 @@ fn held(
     mine: &[u32],
     bytes: &mut [u8; 16384],
     marks: &mut [u8; 16384],
+    to: Stdout,
     t: &mut [u8; 65536],
 ) -> Ran {
     let n = argument::single(mine);
     if (252 < n) | (n % 4 != 0) {
-        return malformed(r, t);
+        return malformed(r, to, t);
     }
     if n < 4 {
-        return malformed(r, t);
+        return malformed(r, to, t);
     }
     let also = others(mine);
     held_first(
@@ -124,6 +133,7 @@ fn held(
         &also,
         bytes,
         marks,
+        to,
         t,
     )
 }
@@ -136,11 +146,12 @@ fn held_first(
     also: &[u32],
     bytes: &mut [u8; 16384],
     marks: &mut [u8; 16384],
+    to: Stdout,
     t: &mut [u8; 65536],
 ) -> Ran {
     let m = least(n, also.len());
     let a = leave::held(r.sender, bytes, marks, next, &also[..m]);
-    refused(r, a.sender, a.refusal, t)
+    refused(r, a.sender, a.refusal, to, t)
 }
 
 fn least(a: usize, b: usize) -> usize
@@ -155,6 +166,7 @@ pub fn finish(
     bytes: &mut [u8; 16384],
     marks: &mut [u8; 16384],
     words: &[u32],
+    to: Stdout,
     t: &mut [u8; 65536],
 ) -> Ran {
     let open = r.open;
@@ -166,14 +178,14 @@ pub fn finish(
         return q;
     }
     if 8192 < n {
-        return malformed(q, t);
+        return malformed(q, to, t);
     }
     let m = least(n, words.len());
     let mine = &words[..m];
     match open {
-        0 => post(q, mine, bytes, t),
-        3 => ack(q, mine, bytes, marks, t),
-        _ => held(q, mine, bytes, marks, t),
+        0 => post(q, mine, bytes, to, t),
+        3 => ack(q, mine, bytes, marks, to, t),
+        _ => held(q, mine, bytes, marks, to, t),
     }
 }
 
@@ -184,11 +196,12 @@ pub fn ended(
     bytes: &mut [u8; 16384],
     marks: &mut [u8; 16384],
     words: &[u32; 8192],
+    to: Stdout,
     t: &mut [u8; 65536],
 ) -> Ran {
     let kind = w / 268435456;
     if (kind == 7) | (kind == 14) | (kind == 15) {
-        return finish(r, bytes, marks, words, t);
+        return finish(r, bytes, marks, words, to, t);
     }
     r
 }
@@ -201,6 +214,7 @@ fn take(
     room: u32,
     bytes: &[u8; 16384],
     marks: &mut [u8; 16384],
+    to: Stdout,
     t: &mut [u8; 65536],
 ) -> Ran {
     let mut out = [0u32; 8192];
@@ -212,30 +226,30 @@ fn take(
         room as usize,
         &mut out,
     );
-    let q = refused(r, a.sender, a.refusal, t);
-    let end = print::words(t, q.end, &out, a.words);
+    let q = refused(r, a.sender, a.refusal, to, t);
+    let end = print::words(to, t, q.end, &out, a.words);
     printed(q, end)
 }
 
-fn stale(r: Ran, marks: &mut [u8; 16384], t: &mut [u8; 65536]) -> Ran {
+fn stale(r: Ran, marks: &mut [u8; 16384], to: Stdout, t: &mut [u8; 65536]) -> Ran {
     let no = sender::stale(r.sender, marks);
-    refused(r, r.sender, no, t)
+    refused(r, r.sender, no, to, t)
 }
 
-fn pending(r: Ran, marks: &[u8; 16384], t: &mut [u8; 65536]) -> Ran {
+fn pending(r: Ran, marks: &[u8; 16384], to: Stdout, t: &mut [u8; 65536]) -> Ran {
     let a = sender::pending(r.sender, marks);
     match a {
         sender::Waiting::Bytes(n) => {
-            let end = print::pending(t, r.end, n);
+            let end = print::pending(to, t, r.end, n);
             printed(r, end)
         }
-        sender::Waiting::Refused(no) => refused(r, r.sender, no, t),
+        sender::Waiting::Refused(no) => refused(r, r.sender, no, to, t),
     }
 }
 
-fn has_new(r: Ran, t: &mut [u8; 65536]) -> Ran {
+fn has_new(r: Ran, to: Stdout, t: &mut [u8; 65536]) -> Ran {
     let new = sender::has_new(r.sender);
-    let end = print::has_new(t, r.end, new);
+    let end = print::has_new(to, t, r.end, new);
     printed(r, end)
 }
 
@@ -253,23 +267,24 @@ fn command(
     rest: u32,
     bytes: &[u8; 16384],
     marks: &mut [u8; 16384],
+    to: Stdout,
     t: &mut [u8; 65536],
 ) -> Ran {
     if (low != 1) & (rest != 0) {
-        return malformed(r, t);
+        return malformed(r, to, t);
     }
     match low {
         1 => {
             if 65535 < rest {
-                return malformed(r, t);
+                return malformed(r, to, t);
             }
-            take(r, rest % 256, rest / 256, bytes, marks, t)
+            take(r, rest % 256, rest / 256, bytes, marks, to, t)
         }
-        2 => stale(r, marks, t),
-        5 => pending(r, marks, t),
-        6 => has_new(r, t),
+        2 => stale(r, marks, to, t),
+        5 => pending(r, marks, to, t),
+        6 => has_new(r, to, t),
         0 | 3 | 4 => opened(r, low),
-        _ => malformed(r, t),
+        _ => malformed(r, to, t),
     }
 }
 
@@ -293,14 +308,15 @@ pub fn word(
     bytes: &[u8; 16384],
     marks: &mut [u8; 16384],
     words: &mut [u32; 8192],
+    to: Stdout,
     t: &mut [u8; 65536],
 ) -> Ran {
     let kind = w / 268435456;
     if kind == 7 {
-        return command(r, w % 16, w / 16 % 16777216, bytes, marks, t);
+        return command(r, w % 16, w / 16 % 16777216, bytes, marks, to, t);
     }
     if (r.open == NONE) | (kind == 14) | (kind == 15) {
-        return malformed(r, t);
+        return malformed(r, to, t);
     }
     push(r, words, w)
 }

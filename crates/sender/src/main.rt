@@ -12,6 +12,7 @@ mod print;
 
 use command::Ran;
 use outbox::sender;
+use std::io::{Stdin, Stdout};
 
 fn wide(x: u8) -> u32
     ensures { result < 256 }
@@ -43,16 +44,15 @@ fn feed(
     bytes: &mut [u8; 16384],
     marks: &mut [u8; 16384],
     words: &mut [u32; 8192],
+    to: Stdout,
     t: &mut [u8; 65536],
 ) -> Ran {
     let end = end_of(n);
     let mut q = r;
-    let mut i: usize = 0;
-    while i < end {
+    for i in 0..end {
         let w = word_at(b, i);
-        q = command::ended(q, w, bytes, marks, words, t);
-        q = command::word(q, w, bytes, marks, words, t);
-        i += 1;
+        q = command::ended(q, w, bytes, marks, words, to, t);
+        q = command::word(q, w, bytes, marks, words, to, t);
     }
     q
 }
@@ -64,36 +64,41 @@ fn at_end(
     bytes: &mut [u8; 16384],
     marks: &mut [u8; 16384],
     words: &[u32; 8192],
+    to: Stdout,
     t: &mut [u8; 65536],
 ) -> usize {
-    let q = command::finish(r, bytes, marks, words, t);
+    let q = command::finish(r, bytes, marks, words, to, t);
     if cut {
-        return print::word(t, q.end, 3);
+        return print::word(to, t, q.end, 3);
     }
     q.end
 }
 
 // Standard input to its end, at most 2^64 - 1 parts of 65,536 bytes.
-fn read_all(bytes: &mut [u8; 16384], marks: &mut [u8; 16384], t: &mut [u8; 65536]) -> usize {
+fn read_all(
+    from: Stdin,
+    bytes: &mut [u8; 16384],
+    marks: &mut [u8; 16384],
+    to: Stdout,
+    t: &mut [u8; 65536],
+) -> usize {
     let mut words = [0u32; 8192];
-    let mut b = io::large_buffer();
+    let mut b = [0u8; 65536];
     let mut r = command::first(sender::new());
-    let mut left: u64 = 18446744073709551615;
-    while 0 < left {
-        let n = io::read_full(0, &mut b);
-        r = feed(r, &b, n / 4, bytes, marks, &mut words, t);
+    for _ in 0..u64::MAX {
+        let n = text::read_full(from, &mut b);
+        r = feed(r, &b, n / 4, bytes, marks, &mut words, to, t);
         if n < 65536 {
-            return at_end(r, n % 4 != 0, bytes, marks, &words, t);
+            return at_end(r, n % 4 != 0, bytes, marks, &words, to, t);
         }
-        left -= 1;
     }
     0
 }
 
-fn main() {
+fn main(rt: HostRuntime) {
     let mut bytes = [171u8; 16384];
     let mut marks = [205u8; 16384];
     let mut t = [0u8; 65536];
-    let n = read_all(&mut bytes, &mut marks, &mut t);
-    text::flush(&t, n);
+    let n = read_all(rt.stdin(), &mut bytes, &mut marks, rt.stdout(), &mut t);
+    text::flush(rt.stdout(), &t, n);
 }

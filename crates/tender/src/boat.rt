@@ -13,10 +13,8 @@ pub struct Sends {
 // Eight messages posted; a ninth would be refused.
 pub fn posted(bytes: &mut [u8; 16384]) -> Sender {
     let mut s = sender::new();
-    let mut k: u32 = 0;
-    while k < 8 {
+    for k in 0..8 {
         s = post(s, k, bytes);
-        k += 1;
     }
     s
 }
@@ -101,8 +99,7 @@ pub fn acked(
 ) -> Sender {
     let mut q = s;
     let mut at: usize = 1;
-    let mut i: u32 = 0;
-    while i < 6 {
+    for i in 0..6 {
         if n <= at {
             return q;
         }
@@ -112,7 +109,6 @@ pub fn acked(
             q = a.sender;
         }
         at = channel::plus(at, channel::frame_size(mine, at));
-        i += 1;
     }
     q
 }

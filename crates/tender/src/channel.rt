@@ -33,15 +33,13 @@ fn put(b: &mut [u32; 8192], at: usize, w: u32) -> usize {
 // The n words of `from` from place `at` on, to place `to` of b.
 pub fn copy(from: &[u32; 8192], at: usize, n: usize, b: &mut [u32; 8192], to: usize) -> usize {
     let mut e = to;
-    let mut k: usize = 0;
-    while k < 8192 {
+    for k in 0..8192 {
         if n <= k {
             return e;
         }
         if at < 8192 - k {
             e = put(b, e, from[at + k]);
         }
-        k += 1;
     }
     e
 }
@@ -70,8 +68,7 @@ pub fn through(burst: &[u32; 8192], n: usize, air: &mut [u32; 8192], seed: u64) 
     let mut at: usize = 1;
     let mut lost: usize = 0;
     let mut dice = seed;
-    let mut k: usize = 0;
-    while k < 64 {
+    for _ in 0..64 {
         if n <= at {
             break;
         }
@@ -84,7 +81,6 @@ pub fn through(burst: &[u32; 8192], n: usize, air: &mut [u32; 8192], seed: u64) 
             to = copy(burst, at, size, air, to);
         }
         at = plus(at, size);
-        k += 1;
     }
     Arrived {
         words: to,

@@ -8,8 +8,8 @@ mod message;
 mod shore;
 mod tell;
 
-fn main() {
+fn main(rt: HostRuntime) {
     let mut t = [0u8; 65536];
-    let n = shore::whole(&mut t);
-    text::flush(&t, n);
+    let n = shore::whole(rt.stdout(), &mut t);
+    text::flush(rt.stdout(), &t, n);
 }

@@ -23,10 +23,8 @@ pub fn byte(k: u32, i: usize) -> u8 {
 // The bytes of message k, zeros behind them.
 pub fn bytes(k: u32) -> [u8; 2046] {
     let mut b = [0u8; 2046];
-    let mut i: usize = 0;
-    while i < 2046 {
+    for i in 0..2046 {
         b[i] = byte(k, i);
-        i += 1;
     }
     b
 }
@@ -36,12 +34,10 @@ pub fn is(m: &[u8], k: u32) -> bool {
     if m.len() != size(k) {
         return false;
     }
-    let mut i: usize = 0;
-    while i < m.len() {
+    for i in 0..m.len() {
         if m[i] != byte(k, i) {
             return false;
         }
-        i += 1;
     }
     true
 }

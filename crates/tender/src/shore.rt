@@ -6,6 +6,7 @@ use net::Station;
 use outbox::sender;
 use outbox::sender::Sender;
 use station::Answer;
+use std::io::Stdout;
 
 // What the run holds beside the station: the sending end, the dice, the number of its burst, how many words it has, as it was sent and as it arrived, and how
 // many the one before had, the head of the station's last answer, what was counted, and where the gathered text ends. polled: the boat heard that it is to send.
@@ -71,15 +72,13 @@ fn words_of(a: Answer) -> usize {
 // The head among the first n words, the last if there are more; 0 for none.
 fn head_in(out: &[u32; 8192], n: usize) -> u32 {
     let mut h: u32 = 0;
-    let mut i: usize = 0;
-    while i < 8192 {
+    for i in 0..8192 {
         if n <= i {
             return h;
         }
         if out[i] / 268435456 == 8 {
             h = out[i];
         }
-        i += 1;
     }
     h
 }
@@ -100,12 +99,12 @@ fn is_ack(h: u32, id: u32) -> bool {
 }
 
 // Event 2: the message is read and held to what was posted.
-fn show(s: Station, w: u32, lent: &[u8], t: &mut [u8; 65536], at: usize) -> usize {
+fn show(s: Station, w: u32, lent: &[u8], to: Stdout, t: &mut [u8; 65536], at: usize) -> usize {
     let cell = (w / 64 % 128) as usize;
     let k = w / 8192 % 256;
     let mut no: u8 = 0;
     let m = station::read(s, lent, cell, &mut no);
-    tell::landed(t, at, k, cell, m.len(), message::is(m, k) & (no == 0))
+    tell::landed(to, t, at, k, cell, m.len(), message::is(m, k) & (no == 0))
 }
 
 // The events 2 among the first n words.
@@ -115,21 +114,20 @@ fn landings(
     n: usize,
     lent: &[u8; 64000],
     out: &[u32; 8192],
+    to: Stdout,
     t: &mut [u8; 65536],
 ) -> State {
     let mut q = r;
-    let mut i: usize = 0;
-    while i < 8192 {
+    for i in 0..8192 {
         if n <= i {
             return q;
         }
         if out[i] / 268435456 == 2 {
-            let end = show(s, out[i], lent, t, q.end);
+            let end = show(s, out[i], lent, to, t, q.end);
             q.end = end;
             let k = one_more(q.landed);
             q.landed = k;
         }
-        i += 1;
     }
     q
 }
@@ -183,6 +181,7 @@ fn hears(
     words: &[u32; 8192],
     n: usize,
     lent: &mut [u8; 64000],
+    to: Stdout,
     t: &mut [u8; 65536],
 ) -> Both {
     let mut out = [0u32; 8192];
@@ -190,7 +189,7 @@ fn hears(
     let u = x.station;
     let a = x.answer;
     let k = words_of(a);
-    let mut q = landings(u, r, k, lent, &out, t);
+    let mut q = landings(u, r, k, lent, &out, to, t);
     let h = head_in(&out, k);
     q.head = h;
     q.now = r.now + 1.0;
@@ -256,6 +255,7 @@ fn arrives(
     mine: &[u32; 8192],
     air: &mut [u32; 8192],
     lent: &mut [u8; 64000],
+    to: Stdout,
     t: &mut [u8; 65536],
 ) -> Both {
     let mut q = r;
@@ -269,7 +269,7 @@ fn arrives(
     q.seed = a.seed;
     q.lost = channel::plus(r.lost, a.lost);
     q.arrived = a.words;
-    hears(s, q, air, a.words, lent, t)
+    hears(s, q, air, a.words, lent, to, t)
 }
 
 // What arrived comes once more, one time in eight; the boat has heard the first answer.
@@ -278,6 +278,7 @@ fn again(
     r: State,
     air: &[u32; 8192],
     lent: &mut [u8; 64000],
+    to: Stdout,
     t: &mut [u8; 65536],
 ) -> Both {
     let h = r.head;
@@ -287,7 +288,7 @@ fn again(
         return Both { station: s, run: q };
     }
     q.twice = one_more(r.twice);
-    let b = hears(s, q, air, r.arrived, lent, t);
+    let b = hears(s, q, air, r.arrived, lent, to, t);
     let u = b.station;
     let mut v = b.run;
     v.head = h;
@@ -300,6 +301,7 @@ fn late(
     r: State,
     old: &[u32; 8192],
     lent: &mut [u8; 64000],
+    to: Stdout,
     t: &mut [u8; 65536],
 ) -> Both {
     let h = r.head;
@@ -309,7 +311,7 @@ fn late(
         return Both { station: s, run: q };
     }
     q.late = one_more(r.late);
-    let b = hears(s, q, old, r.before, lent, t);
+    let b = hears(s, q, old, r.before, lent, to, t);
     let u = b.station;
     let mut v = b.run;
     v.head = h;
@@ -331,18 +333,19 @@ fn exchange(
     bytes: &mut [u8; 16384],
     marks: &mut [u8; 16384],
     old: &mut [u32; 8192],
+    to: Stdout,
     t: &mut [u8; 65536],
 ) -> Both {
     let mut mine = [0u32; 8192];
     let mut air = [0u32; 8192];
     let p = prepared(r, bytes, marks, &mut mine);
-    let b = arrives(s, p, &mine, &mut air, lent, t);
+    let b = arrives(s, p, &mine, &mut air, lent, to, t);
     let u = b.station;
     let k = b.run;
-    let c = again(u, k, &air, lent, t);
+    let c = again(u, k, &air, lent, to, t);
     let v = c.station;
     let l = c.run;
-    let d = late(v, l, old, lent, t);
+    let d = late(v, l, old, lent, to, t);
     let w = d.station;
     let q = d.run;
     let h = heard_back(q);
@@ -353,9 +356,10 @@ fn exchange(
 
 // ---- the run
 
-fn summary(r: State, marks: &[u8; 16384], t: &mut [u8; 65536]) -> usize {
-    let a = tell::line(t, r.end, b"", r.landed, b" messages have landed");
+fn summary(r: State, marks: &[u8; 16384], to: Stdout, t: &mut [u8; 65536]) -> usize {
+    let a = tell::line(to, t, r.end, b"", r.landed, b" messages have landed");
     let b = tell::line(
+        to,
         t,
         a,
         b"the sending end has ",
@@ -363,16 +367,24 @@ fn summary(r: State, marks: &[u8; 16384], t: &mut [u8; 65536]) -> usize {
         b" bytes left to send or in flight",
     );
     let c = tell::line(
+        to,
         t,
         b,
         b"it sent ",
         r.bursts,
         b" bursts of at most nine pieces",
     );
-    let d = tell::line(t, c, b"", r.gone, b" of them were lost whole");
-    let e = tell::line(t, d, b"", r.late, b" times the burst before came behind it");
-    let f = tell::line(t, e, b"", r.twice, b" came twice");
-    tell::line(t, f, b"", r.lost, b" frames were lost in the others")
+    let d = tell::line(to, t, c, b"", r.gone, b" of them were lost whole");
+    let e = tell::line(
+        to,
+        t,
+        d,
+        b"",
+        r.late,
+        b" times the burst before came behind it",
+    );
+    let f = tell::line(to, t, e, b"", r.twice, b" came twice");
+    tell::line(to, t, f, b"", r.lost, b" frames were lost in the others")
 }
 
 // The boat with call `A` is admitted to slot 0.
@@ -389,28 +401,26 @@ fn is_over(r: State, marks: &[u8; 16384]) -> bool {
     (7 < r.landed) & (boat::pending(r.sender, marks) == 0)
 }
 
-pub fn whole(t: &mut [u8; 65536]) -> usize {
+pub fn whole(to: Stdout, t: &mut [u8; 65536]) -> usize {
     let mut lent = [0u8; 64000];
     let mut bytes = [0u8; 16384];
     let mut marks = [0u8; 16384];
     let mut old = [0u32; 8192];
     let mut u = admitted(&lent);
     let mut q = first(boat::posted(&mut bytes));
-    let mut k: usize = 0;
-    while k < 3000 {
+    for _ in 0..3000 {
         if !q.polled {
             let b = decides(u, q);
             u = b.station;
             q = b.run;
         } else {
-            let b = exchange(u, q, &mut lent, &mut bytes, &mut marks, &mut old, t);
+            let b = exchange(u, q, &mut lent, &mut bytes, &mut marks, &mut old, to, t);
             u = b.station;
             q = b.run;
         }
         if is_over(q, &marks) {
-            return summary(q, &marks, t);
+            return summary(q, &marks, to, t);
         }
-        k += 1;
     }
-    summary(q, &marks, t)
+    summary(q, &marks, to, t)
 }

@@ -1,4 +1,4 @@
-// Lines of text, gathered in a lent buffer before they are written to standard output.
+// Lines of text, gathered in a lent buffer before they are written to standard output, and standard input in large parts.
 //
 // Each function takes the place where the text ends so far and answers the place where it ends now. A byte past the buffer's end is dropped:
 // a line that begins at `room` and has 8,192 bytes at most is never cut.
@@ -8,25 +8,32 @@ ghost use Rattle.std.specs.Prelude.{◌≡◌, cond, true, false, [], ◌∷◌,
 ghost use Rattle.out.specs.Encode.{Wrote};
 ghost use Rattle.text.specs.Digits.{glyph, digit_of, digits_of, Decimal};
 
-// Writes the first n bytes.
-pub fn flush(t: &[u8; 65536], n: usize) {
-    write_first(t, n);
+mod input;
+mod number;
+
+pub use input::read_full;
+pub use number::decimal;
+use std::io::{Stdout, Write};
+
+// Writes the first n bytes. What cannot be written is dropped.
+pub fn flush(to: Stdout, t: &[u8; 65536], n: usize) {
+    write_first(to, t, n);
 }
 
-fn write_first(t: &[u8], n: usize) {
+fn write_first(mut to: Stdout, t: &[u8], n: usize) {
     if n <= t.len() {
-        let ok = io::write_all(1, &t[..n]);
+        let _ = to.write_all(&t[..n]);
     }
 }
 
 // Where the next line starts: where less than 8,192 bytes are left, what is gathered is written first.
-pub fn room(t: &[u8; 65536], n: usize) -> usize
+pub fn room(to: Stdout, t: &[u8; 65536], n: usize) -> usize
     ensures { result ≡ cond (ltb n 57344) n 0 }
 {
     if n < 57344 {
         return n;
     }
-    flush(t, n);
+    flush(to, t, n);
     0
 }
 
@@ -51,10 +58,8 @@ pub fn put_text(t: &mut [u8; 65536], at: usize, s: &[u8]) -> usize
     ensures { Wrote t.old at s.now t.new result }
 {
     let mut e = at;
-    let mut i: usize = 0;
-    while i < s.len() {
-        e = put(t, e, s[i]);
-        i += 1;
+    for b in s {
+        e = put(t, e, *b);
     }
     e
 }
@@ -64,7 +69,7 @@ pub fn put_decimal(t: &mut [u8; 65536], at: usize, v: u64) -> usize
     ensures { Decimal t.old at v t.new result }
 {
     let mut digits = [0u8; 20];
-    let n = io::decimal(v, &mut digits);
+    let n = decimal(v, &mut digits);
     put_text(t, at, &digits[..n])
 }
 

@@ -2,6 +2,7 @@
 ghost use Rattle.std.specs.Prelude.{◌≡◌};
 
 use super::say;
+use std::io::Stdout;
 
 // end: where the gathered text ends. count: the words of the log so far, over: it has more than there is room for. word: the digits of the line so far,
 // digits how many, plain: the line is no word. told: logs so far.
@@ -66,15 +67,15 @@ fn fresh(s: State) -> State {
 }
 
 // The end of a log: what is said of it.
-fn log_end(s: State, words: &[u32; 262144], t: &mut [u8; 65536]) -> State {
+fn log_end(s: State, words: &[u32; 262144], to: Stdout, t: &mut [u8; 65536]) -> State {
     let mut u = first();
-    let a = text::room(t, s.end);
+    let a = text::room(to, t, s.end);
     u.end = say::log(t, a, words, s.count, s.over);
     u.told = true;
     u
 }
 
-fn line_end(s: State, words: &mut [u32; 262144], t: &mut [u8; 65536]) -> State {
+fn line_end(s: State, words: &mut [u32; 262144], to: Stdout, t: &mut [u8; 65536]) -> State {
     if !s.plain & (s.digits == 8) {
         return fresh(push(s, s.word, words));
     }
@@ -82,7 +83,7 @@ fn line_end(s: State, words: &mut [u32; 262144], t: &mut [u8; 65536]) -> State {
         return fresh(push(s, 0, words));
     }
     if 0 < s.count {
-        return log_end(s, words, t);
+        return log_end(s, words, to, t);
     }
     s
 }
@@ -100,9 +101,9 @@ fn digit_in(s: State, d: u32) -> State {
 }
 
 // One byte of the input.
-pub fn step(s: State, b: u8, words: &mut [u32; 262144], t: &mut [u8; 65536]) -> State {
+pub fn step(s: State, b: u8, words: &mut [u32; 262144], to: Stdout, t: &mut [u8; 65536]) -> State {
     if b == b'\n' {
-        return line_end(s, words, t);
+        return line_end(s, words, to, t);
     }
     let d = digit(b);
     let mut u = digit_in(s, d);
@@ -113,14 +114,14 @@ pub fn step(s: State, b: u8, words: &mut [u32; 262144], t: &mut [u8; 65536]) -> 
 }
 
 // What is left at the end of the input; an empty one is an empty log.
-pub fn last(s: State, words: &mut [u32; 262144], t: &mut [u8; 65536]) -> usize {
+pub fn last(s: State, words: &mut [u32; 262144], to: Stdout, t: &mut [u8; 65536]) -> usize {
     let u = if s.plain | (0 < s.digits) {
-        line_end(s, words, t)
+        line_end(s, words, to, t)
     } else {
         s
     };
     if (0 < u.count) | !u.told {
-        return log_end(u, words, t).end;
+        return log_end(u, words, to, t).end;
     }
     u.end
 }

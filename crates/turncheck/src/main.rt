@@ -7,41 +7,45 @@ mod place;
 mod say;
 
 use lines::State;
+use std::io::{Stdin, Stdout};
 
 fn byte_at(b: &[u8], i: usize) -> u8 {
     if i < b.len() { b[i] } else { b'\n' }
 }
 
 // The first n bytes of b.
-fn feed(s: State, b: &[u8], n: usize, words: &mut [u32; 262144], t: &mut [u8; 65536]) -> State {
+fn feed(
+    s: State,
+    b: &[u8],
+    n: usize,
+    words: &mut [u32; 262144],
+    to: Stdout,
+    t: &mut [u8; 65536],
+) -> State {
     let mut u = s;
-    let mut i: usize = 0;
-    while i < n {
-        u = lines::step(u, byte_at(b, i), words, t);
-        i += 1;
+    for i in 0..n {
+        u = lines::step(u, byte_at(b, i), words, to, t);
     }
     u
 }
 
 // Standard input to its end, at most 2^64 - 1 parts of 65,536 bytes.
-fn read_all(words: &mut [u32; 262144], t: &mut [u8; 65536]) -> usize {
-    let mut b = io::large_buffer();
+fn read_all(from: Stdin, words: &mut [u32; 262144], to: Stdout, t: &mut [u8; 65536]) -> usize {
+    let mut b = [0u8; 65536];
     let mut s = lines::first();
-    let mut left: u64 = 18446744073709551615;
-    while 0 < left {
-        let n = io::read_full(0, &mut b);
-        s = feed(s, &b, n, words, t);
+    for _ in 0..u64::MAX {
+        let n = text::read_full(from, &mut b);
+        s = feed(s, &b, n, words, to, t);
         if n < 65536 {
-            return lines::last(s, words, t);
+            return lines::last(s, words, to, t);
         }
-        left -= 1;
     }
     s.end
 }
 
-fn main() {
+fn main(rt: HostRuntime) {
     let mut words = [0u32; 262144];
     let mut t = [0u8; 65536];
-    let n = read_all(&mut words, &mut t);
-    text::flush(&t, n);
+    let n = read_all(rt.stdin(), &mut words, rt.stdout(), &mut t);
+    text::flush(rt.stdout(), &t, n);
 }
