@@ -1,5 +1,5 @@
 /* How long a call takes: 100,000 of each of next, sent and receive, in microseconds of processor time.
-   cc -O2 -Ihost/include host/time.c crates/shore/out/libshore.a && ./a.out */
+   cc -O2 -Ihost/include host/time.c target/staticlib/libshore.a && ./a.out */
 #define _POSIX_C_SOURCE 200809L
 #include "plan.h"
 #include <stdio.h>

@@ -106,16 +106,14 @@ fn waiting_of(w: Waiting) -> Unsent
 }
 
 // A fresh start.
-#[unsafe(no_mangle)]
-pub extern "C" fn shore_sender_new() -> Outgoing
+pub fn shore_sender_new() -> Outgoing
     ensures { (bytes marks : List ℕ) → outbox (sender_of result) bytes marks ≡ none }
 {
     outgoing_of(outbox::sender::new())
 }
 
 // A message queued.
-#[unsafe(no_mangle)]
-pub extern "C" fn shore_sender_post(o: Outgoing, bytes: &mut [u8], body: &[u8]) -> Left
+pub fn shore_sender_post(o: Outgoing, bytes: &mut [u8], body: &[u8]) -> Left
     ensures refusal { result.refusal ≡ post_refusal (sender_of o).count (length bytes.old) (length body.now) }
     ensures outbox { (marks : List ℕ) → outbox (sender_of result.sender) bytes.new marks
         ≡ unless result.refusal (outbox (sender_of o) bytes.old marks) (push_msg (outbox (sender_of o) bytes.old marks) body.now) }
@@ -126,8 +124,7 @@ pub extern "C" fn shore_sender_post(o: Outgoing, bytes: &mut [u8], body: &[u8]) 
 }
 
 // Up to `room` pieces of at most `max` bytes: lost ones first, then new, then stale.
-#[unsafe(no_mangle)]
-pub extern "C" fn shore_sender_take(
+pub fn shore_sender_take(
     o: Outgoing,
     bytes: &[u8],
     marks: &mut [u8],
@@ -148,8 +145,7 @@ pub extern "C" fn shore_sender_take(
 }
 
 // The piece of message seq at off was acknowledged.
-#[unsafe(no_mangle)]
-pub extern "C" fn shore_sender_ack(
+pub fn shore_sender_ack(
     o: Outgoing,
     bytes: &mut [u8],
     marks: &mut [u8],
@@ -167,8 +163,7 @@ pub extern "C" fn shore_sender_ack(
 }
 
 // The far end holds every message below `next`, and those in `also`.
-#[unsafe(no_mangle)]
-pub extern "C" fn shore_sender_held(
+pub fn shore_sender_held(
     o: Outgoing,
     bytes: &mut [u8],
     marks: &mut [u8],
@@ -187,8 +182,7 @@ pub extern "C" fn shore_sender_held(
 }
 
 // Our last burst got no answer at all.
-#[unsafe(no_mangle)]
-pub extern "C" fn shore_sender_stale(o: Outgoing, marks: &mut [u8]) -> u8
+pub fn shore_sender_stale(o: Outgoing, marks: &mut [u8]) -> u8
     ensures refusal { result ≡ memory_refusal (length marks.old) }
     ensures outbox { (bytes : List ℕ) → outbox (sender_of o) bytes marks.new
         ≡ unless result (outbox (sender_of o) bytes marks.old) (stale (outbox (sender_of o) bytes marks.old)) }
@@ -199,8 +193,7 @@ pub extern "C" fn shore_sender_stale(o: Outgoing, marks: &mut [u8]) -> u8
 }
 
 // How many bytes are not sent yet, or in flight.
-#[unsafe(no_mangle)]
-pub extern "C" fn shore_sender_pending(o: Outgoing, marks: &[u8]) -> Unsent
+pub fn shore_sender_pending(o: Outgoing, marks: &[u8]) -> Unsent
     ensures { (bytes : List ℕ) → 16384 ≤ length bytes → result ≡ waiting_of (pending_of (sender_of o) bytes marks.now) }
 {
     let s = sender_of(o);
@@ -208,8 +201,7 @@ pub extern "C" fn shore_sender_pending(o: Outgoing, marks: &[u8]) -> Unsent
 }
 
 // Whether there are bytes never sent yet: 1 or 0.
-#[unsafe(no_mangle)]
-pub extern "C" fn shore_sender_has_new(o: Outgoing) -> u8
+pub fn shore_sender_has_new(o: Outgoing) -> u8
     ensures { (bytes marks : List ℕ) → 16384 ≤ length bytes → result ≡ flag_of (has_new (outbox (sender_of o) bytes marks)) }
 {
     let s = sender_of(o);
