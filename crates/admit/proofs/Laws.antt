@@ -1,5 +1,6 @@
 -- Seats: a seat's slot is below 62, a known boat's is in use and a newcomer's is free. Relays: one step of the way.
 -- Assumes nothing.
+use Rattle.std.specs.Prelude.{Option, Some, None}
 use mathlib.Core.Path.{◌≡◌}
 use mathlib.Core.Bool.{true, false}
 use mathlib.Core.List.{List}
@@ -8,8 +9,6 @@ use native.Mathlib.Omega.{arith}
 use lib.Dec.{eqb}
 use lib.ListN.{get_or}
 use borrow.Author.Tests.{eq-eqb, ne_eqb}
-use Rattle.bits.specs.declared.Found.{Found}
-use Rattle.bits.specs.declared.Found.TheVariants.{At, Nothing}
 use Rattle.bits.specs.Mask.{has_bit, lowest_free}
 use Rattle.bits.proofs.Laws.{free_lt, free_is}
 use Rattle.bits.proofs.Lists.{and_true}
@@ -24,7 +23,7 @@ use Rattle.admit.specs.Admission.{has_call, find_call, seat_by, seat_of, leads_t
 
 -- ### Seats
 
-module _ (s : Station) (key i : ℕ) (e : find_call s key ≡ At i) where
+module _ (s : Station) (key i : ℕ) (e : find_call s key ≡ Some i) where
   pub find_lt : i < 62
   unfolding find_call
   find_lt = first_lt (has_call s key) 62 i e
@@ -33,22 +32,22 @@ module _ (s : Station) (key i : ℕ) (e : find_call s key ≡ At i) where
   unfolding find_call
   find_has = (first_found (has_call s key) 62 0 i e).1
 
-known_by : (f g : Found) (i : ℕ) → seat_by f g ≡ Known i → f ≡ At i
-known_by (At j) g i e = cc
-known_by Nothing (At j) i e = cc
-known_by Nothing Nothing i e = cc
+known_by : (f g : Option ℕ) (i : ℕ) → seat_by f g ≡ Known i → f ≡ Some i
+known_by (Some j) g i e = cc
+known_by None (Some j) i e = cc
+known_by None None i e = cc
 
-free_by : (f g : Found) (i : ℕ) → seat_by f g ≡ Free i → g ≡ At i
-free_by (At j) g i e = cc
-free_by Nothing (At j) i e = cc
-free_by Nothing Nothing i e = cc
+free_by : (f g : Option ℕ) (i : ℕ) → seat_by f g ≡ Free i → g ≡ Some i
+free_by (Some j) g i e = cc
+free_by None (Some j) i e = cc
+free_by None None i e = cc
 
 module _ (s : Station) (call : List ℕ) (i : ℕ) where
-  known_found : seat_of s call ≡ Known i → find_call s (key_of call) ≡ At i
+  known_found : seat_of s call ≡ Known i → find_call s (key_of call) ≡ Some i
   unfolding seat_of
   known_found e = known_by (find_call s (key_of call)) (lowest_free s.used 62) i e
 
-  free_found : seat_of s call ≡ Free i → lowest_free s.used 62 ≡ At i
+  free_found : seat_of s call ≡ Free i → lowest_free s.used 62 ≡ Some i
   unfolding seat_of
   free_found e = free_by (find_call s (key_of call)) (lowest_free s.used 62) i e
 
@@ -69,19 +68,19 @@ module _ (s : Station) (call : List ℕ) (i : ℕ) where
 
 -- a slot found is below 256, so that a byte holds it
 module _ (s : Station) (call : List ℕ) (key : ℕ) (k : key ≡ key_of call) where
-  pub seat_known : (i : ℕ) → find_call s key ≡ At i → Known (i % 256) ≡ seat_of s call
+  pub seat_known : (i : ℕ) → find_call s key ≡ Some i → Known (i % 256) ≡ seat_of s call
   unfolding seat_of
   seat_known i e =
       let m : i % 256 ≡ i = omega (arith, find_lt s key i e) in
       rw (m, ← k, e)
 
-  pub seat_newcomer : (i : ℕ) → find_call s key ≡ Nothing → lowest_free s.used 62 ≡ At i → Free (i % 256) ≡ seat_of s call
+  pub seat_newcomer : (i : ℕ) → find_call s key ≡ None → lowest_free s.used 62 ≡ Some i → Free (i % 256) ≡ seat_of s call
   unfolding seat_of
   seat_newcomer i e f =
       let m : i % 256 ≡ i = omega (arith, free_lt s.used 62 i f) in
       rw (m, ← k, e, f)
 
-  pub seat_none : find_call s key ≡ Nothing → lowest_free s.used 62 ≡ Nothing → Full ≡ seat_of s call
+  pub seat_none : find_call s key ≡ None → lowest_free s.used 62 ≡ None → Full ≡ seat_of s call
   unfolding seat_of
   seat_none e f = rw (← k, e, f)
 

@@ -1,9 +1,7 @@
 -- `admit` of ncs.rs: a known boat keeps its slot, an unknown one takes the lowest free slot.
-use Rattle.std.specs.Prelude.{ℕ, zero, suc, Bool, true, false, cond, ◌&&◌, ◌||◌, List, [], ◌∷◌, eqb, get_or, Float}
+use Rattle.std.specs.Prelude.{ℕ, zero, suc, Bool, true, false, cond, ◌&&◌, ◌||◌, List, [], ◌∷◌, eqb, get_or, Float, Option, Some, None}
 use Rattle.bits.specs.Loop.{first}
 use Rattle.bits.specs.Mask.{has_bit, with_bit, lowest_free}
-use Rattle.bits.specs.declared.Found.{Found}
-use Rattle.bits.specs.declared.Found.TheVariants.{At, Nothing}
 use Rattle.wire.specs.Call.{key_of}
 use Rattle.queue.specs.Queues.{empty_queue}
 use Rattle.out.specs.Encode.{event_word}
@@ -19,13 +17,13 @@ abbrev pub has_call : Station → ℕ → ℕ → Bool
 has_call s key i = has_bit s.used i && eqb (key_of (get_or s.members i no_member).call) key
 
 -- the least slot of a call
-unfoldable pub find_call : Station → ℕ → Found
+unfoldable pub find_call : Station → ℕ → Option ℕ
 find_call s key = first (has_call s key) 62 0
 
-abbrev pub seat_by : Found → Found → Seat
-seat_by (At i) free = Known i
-seat_by Nothing (At i) = Free i
-seat_by Nothing Nothing = Full
+abbrev pub seat_by : Option ℕ → Option ℕ → Seat
+seat_by (Some i) free = Known i
+seat_by None (Some i) = Free i
+seat_by None None = Full
 
 -- where a boat sits, or would sit
 unfoldable pub seat_of : Station → List ℕ → Seat

@@ -1,19 +1,15 @@
 // Admission (admit of ncs.rs): a known boat keeps its slot, an unknown one takes the lowest free slot.
 #![tactic(auto)]
 
-ghost use Rattle.std.specs.Prelude.{◌≡◌, cond, [], ◌%◌};
+ghost use Rattle.std.specs.Prelude.{◌≡◌, cond, []};
 ghost use Rattle.out.specs.Encode.{Wrote};
-ghost use Rattle.bits.specs.Mask.{with_bit};
-ghost use Rattle.recent.specs.Readings.{empty};
 ghost use Rattle.queue.specs.Queues.{empty_queue};
 ghost use Rattle.roster.specs.Members.{new_member};
 ghost use Rattle.admit.specs.Admission.{find_call, seat_of, is_full, slot_of, admit_events, leads_to, via_for};
 ghost use Rattle.admit.specs.Code.Seats.{is_free};
 
-use bits::Found;
 use net::Station;
 use queue::Queue;
-use recent::Recent;
 use roster::Member;
 
 // Where a boat with some call sits, or would sit.
@@ -24,37 +20,29 @@ pub enum Seat {
     Full,
 }
 
-fn low(i: usize) -> u8
-    ensures { result ≡ i % 256 }
-{
-    (i % 256) as u8
-}
-
 // The least slot whose member has the call with this key.
-fn find_call(s: Station, key: u64) -> Found
+fn find_call(s: Station, key: u64) -> Option<usize>
     ensures { result ≡ find_call s key }
 {
     let ms = s.members;
-    let mut i: usize = 0;
-    while i < 62 {
+    for i in 0..62 {
         let m = ms[i];
         let call = m.call;
         if bits::has(s.used, i) & (wire::calls::key_of(call) == key) {
-            return Found::At(i);
+            return Some(i);
         }
-        i += 1;
     }
-    Found::Nothing
+    None
 }
 
 pub fn seat_of(s: Station, call: [u8; 7]) -> Seat
     ensures { result ≡ seat_of s call }
 {
     match find_call(s, wire::calls::key_of(call)) {
-        Found::At(i) => Seat::Known(low(i)),
-        Found::Nothing => match bits::lowest_free(s.used, 62) {
-            Found::At(i) => Seat::Free(low(i)),
-            Found::Nothing => Seat::Full,
+        Some(i) => Seat::Known((i % 256) as u8),
+        None => match bits::lowest_free(s.used, 62) {
+            Some(i) => Seat::Free((i % 256) as u8),
+            None => Seat::Full,
         },
     }
 }
@@ -62,22 +50,14 @@ pub fn seat_of(s: Station, call: [u8; 7]) -> Seat
 pub fn is_full(seat: Seat) -> bool
     ensures { result ≡ is_full seat }
 {
-    match seat {
-        Seat::Known(_) => false,
-        Seat::Free(_) => false,
-        Seat::Full => true,
-    }
+    matches!(seat, Seat::Full)
 }
 
 // A newcomer's seat.
 pub fn is_free(seat: Seat) -> bool
     ensures { result ≡ is_free seat }
 {
-    match seat {
-        Seat::Known(_) => false,
-        Seat::Free(_) => true,
-        Seat::Full => false,
-    }
+    matches!(seat, Seat::Free(_))
 }
 
 // The slot of a seat; 255 for none.
@@ -85,8 +65,7 @@ pub fn slot_of(seat: Seat) -> u8
     ensures { result ≡ slot_of seat }
 {
     match seat {
-        Seat::Known(i) => i,
-        Seat::Free(i) => i,
+        Seat::Known(i) | Seat::Free(i) => i,
         Seat::Full => 255,
     }
 }
@@ -124,15 +103,6 @@ pub fn member_if(m: Member, fresh: bool, call: [u8; 7], via: u8, time: f64) -> M
     m
 }
 
-pub fn recent_if(r: Recent, fresh: bool) -> Recent
-    ensures { result ≡ cond fresh empty r }
-{
-    if fresh {
-        return recent::empty();
-    }
-    r
-}
-
 pub fn queue_if(q: Queue, fresh: bool) -> Queue
     ensures { result ≡ cond fresh empty_queue q }
 {
@@ -142,21 +112,13 @@ pub fn queue_if(q: Queue, fresh: bool) -> Queue
     q
 }
 
-// The boats in use, and those to be acknowledged.
-pub fn with_if(mask: u64, yes: bool, i: usize) -> u64
-    ensures { result ≡ cond yes (with_bit mask i) mask }
-{
-    if yes { bits::with(mask, i) } else { mask }
-}
-
 // Whether the relays from slot `from` on lead to slot `to`.
 fn leads_to(s: Station, from: u8, to: u8) -> bool
     ensures { result ≡ leads_to 62 s from to }
 {
     let ms = s.members;
     let mut at = from;
-    let mut n: usize = 0;
-    while n < 62 {
+    for _ in 0..62usize {
         if at == to {
             return true;
         }
@@ -166,7 +128,6 @@ fn leads_to(s: Station, from: u8, to: u8) -> bool
         let i = net::index(at);
         let m = ms[i];
         at = m.via;
-        n += 1;
     }
     false
 }

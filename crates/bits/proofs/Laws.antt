@@ -1,5 +1,6 @@
 -- The laws of the masks' definitions, for callers: no proof above this crate opens those definitions.
 -- Assumes nothing.
+use Rattle.std.specs.Prelude.{Some, None}
 use mathlib.Core.Path.{◌≡◌, refl, sym, ap, ◌∙◌}
 use mathlib.Core.Logic.{◌≢◌, ⊎_elim}
 use mathlib.Core.Bool.{Bool, true, false, not, cond, ◌&&◌, ◌||◌}
@@ -13,7 +14,6 @@ use lib.ListN.{length, get_or}
 use lib.Bits.{bit_and, bit_or, or_zero_l, and_shr, or_shr, and_mod, or_mod, and_lt, or_lt, and_le_l}
 use borrow.Author.Tests.{eqb-true, eqb-false, eq-eqb, ne_eqb, lt-ltb, le-ltb, ltb-true, not-true, not-false}
 use Rattle.bits.specs.Mask.{has_bit, with_bit, without_bit, both_of, either_of, minus_of, lowest_free, slots_of}
-use Rattle.bits.specs.declared.Found.TheVariants.{At, Nothing}
 use Rattle.bits.proofs.Loops.{first_lt, first_found, first_nothing}
 use Rattle.bits.proofs.Lists.{le_or_lt}
 use Rattle.bits.proofs.Bits.{bit, bit_zero, bit_suc, bit_lt, bit_high, bit_below, bit_above, add_same, add_other, add_fits, sub_same, sub_other, bit_ext, not_bit, trailing_below, trailing_at}
@@ -170,15 +170,15 @@ pub free_next : (m : ℕ) → m < 2 ^ 64 → not (has_bit m (free_at m)) ≡ tru
 free_next m h =
     ⊎_elim (λ q. ap not (has_high m (free_at m) h q)) (λ q. free_at_lem m h q) (le_or_lt 64 (free_at m))
 
-pub free_lt : (m n s : ℕ) → lowest_free m n ≡ At s → s < n
+pub free_lt : (m n s : ℕ) → lowest_free m n ≡ Some s → s < n
 unfolding lowest_free
 free_lt m n s e = first_lt _ n s e
 
-pub free_is : (m n s : ℕ) → lowest_free m n ≡ At s → has_bit m s ≡ false
+pub free_is : (m n s : ℕ) → lowest_free m n ≡ Some s → has_bit m s ≡ false
 unfolding lowest_free
 free_is m n s e = not-true (has_bit m s) (first_found (λ s. not (has_bit m s)) n 0 s e).1
 
-pub free_none : (m n : ℕ) → lowest_free m n ≡ Nothing → (j : ℕ) → j < n → has_bit m j ≡ true
+pub free_none : (m n : ℕ) → lowest_free m n ≡ None → (j : ℕ) → j < n → has_bit m j ≡ true
 unfolding lowest_free
 free_none m n e j l = not-false (has_bit m j) (first_nothing (λ s. not (has_bit m s)) n 0 e j (omega arith) (omega arith))
 

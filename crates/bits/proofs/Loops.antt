@@ -1,6 +1,7 @@
 -- Laws of `first`, `fold`, `every` and `any` for a loop that counts i up to n by one. Its invariant says that what is left to do from the present
 -- state gives what the whole was to give: `first p (n - i) i ≡ first p n 0`, `fold f (n - i) i a ≡ fold f n 0 a₀`.
 -- Assumes nothing.
+use Rattle.std.specs.Prelude.{Some, None}
 use mathlib.Core.Path.{◌≡◌, refl, sym, ap, ap₂, ◌∙◌}
 use mathlib.Core.Bool.{Bool, true, false, cond, ◌&&◌, ◌||◌}
 use Prim.Native.Nat.{ℕ, zero, suc, ◌+◌, ◌-◌, ◌≤◌, ◌<◌}
@@ -8,7 +9,6 @@ use native.Mathlib.Numerals.{add-one}
 use native.Mathlib.Omega.{arith}
 use mathlib.Core.Logic.{⊎_elim}
 use Rattle.bits.proofs.Lists.{cases, le_or_lt, and_true, or_false, never_both}
-use Rattle.bits.specs.declared.Found.TheVariants.{At, Nothing}
 use Rattle.bits.specs.Loop.{first, fold, every, any}
 
 left : (n i : ℕ) → i < n → n - i ≡ suc (n - (i + 1))
@@ -51,16 +51,16 @@ pub first_pass : (p : ℕ → Bool) (n i : ℕ) → i < n → p i ≡ false → 
 unfolding first
 first_pass p n i h e =
     ap (λ (k : ℕ). first p k i) (left n i h)
-    ∙ ap (λ (b : Bool). cond b (At i) (first p (n - (i + 1)) (suc i))) e
+    ∙ ap (λ (b : Bool). cond b (Some i) (first p (n - (i + 1)) (suc i))) e
     ∙ ap (λ (k : ℕ). first p (n - (i + 1)) k) (sym (add-one i))
 
-pub first_stop : (p : ℕ → Bool) (n i : ℕ) → i < n → p i ≡ true → first p (n - i) i ≡ At i
+pub first_stop : (p : ℕ → Bool) (n i : ℕ) → i < n → p i ≡ true → first p (n - i) i ≡ Some i
 unfolding first
 first_stop p n i h e =
     ap (λ (k : ℕ). first p k i) (left n i h)
-    ∙ ap (λ (b : Bool). cond b (At i) (first p (n - (i + 1)) (suc i))) e
+    ∙ ap (λ (b : Bool). cond b (Some i) (first p (n - (i + 1)) (suc i))) e
 
-pub first_end : (p : ℕ → Bool) (n i : ℕ) → n ≤ i → first p (n - i) i ≡ Nothing
+pub first_end : (p : ℕ → Bool) (n i : ℕ) → n ≤ i → first p (n - i) i ≡ None
 unfolding first
 first_end p n i h = let e : n - i ≡ 0 = omega arith in ap (λ (k : ℕ). first p k i) e
 
@@ -72,44 +72,44 @@ first_skip p n (suc i) h e =
     ∙ first_pass p n i h (e i (omega arith))
     ∙ ap₂ (λ (k j : ℕ). first p (n - k) j) (add-one i) (add-one i)
 
-pub first_at : (p : ℕ → Bool) (n i : ℕ) → i < n → ((j : ℕ) → j < i → p j ≡ false) → p i ≡ true → first p n 0 ≡ At i
+pub first_at : (p : ℕ → Bool) (n i : ℕ) → i < n → ((j : ℕ) → j < i → p j ≡ false) → p i ≡ true → first p n 0 ≡ Some i
 first_at p n i h e t = first_skip p n i (omega arith) e ∙ first_stop p n i h t
 
-pub first_none : (p : ℕ → Bool) (n : ℕ) → ((j : ℕ) → j < n → p j ≡ false) → first p n 0 ≡ Nothing
+pub first_none : (p : ℕ → Bool) (n : ℕ) → ((j : ℕ) → j < n → p j ≡ false) → first p n 0 ≡ None
 first_none p n e = first_skip p n n (omega arith) e ∙ first_end p n n (omega arith)
 
 -- what a search finds: a slot below the end, at which p holds
-pub first_found : (p : ℕ → Bool) (n i s : ℕ) → first p n i ≡ At s → (s < i + n) × (p s ≡ true)
+pub first_found : (p : ℕ → Bool) (n i s : ℕ) → first p n i ≡ Some s → (s < i + n) × (p s ≡ true)
 unfolding first
 first_found p zero i s e = let z : ◌≡◌ {A = ℕ} 0 1 = cc in absurd (omega arith)
 first_found p (suc n) i s e = go (p i) refl e (first_found p n (suc i) s)
   where
-    go : (b : Bool) → p i ≡ b → cond b (At i) (first p n (suc i)) ≡ At s
-        → (first p n (suc i) ≡ At s → (s < suc i + n) × (p s ≡ true)) → (s < i + suc n) × (p s ≡ true)
+    go : (b : Bool) → p i ≡ b → cond b (Some i) (first p n (suc i)) ≡ Some s
+        → (first p n (suc i) ≡ Some s → (s < suc i + n) × (p s ≡ true)) → (s < i + suc n) × (p s ≡ true)
     go true q e' ih = let k : i ≡ s = cc in (omega arith, rw k at q)
     go false q e' ih = let r = ih e' in (omega arith, r.1)
 
-pub first_lt : (p : ℕ → Bool) (n s : ℕ) → first p n 0 ≡ At s → s < n
+pub first_lt : (p : ℕ → Bool) (n s : ℕ) → first p n 0 ≡ Some s → s < n
 first_lt p n s e = let r = first_found p n 0 s e in omega arith
 
 -- what it passed by
-pub first_before : (p : ℕ → Bool) (n i s : ℕ) → first p n i ≡ At s → (j : ℕ) → i ≤ j → j < s → p j ≡ false
+pub first_before : (p : ℕ → Bool) (n i s : ℕ) → first p n i ≡ Some s → (j : ℕ) → i ≤ j → j < s → p j ≡ false
 unfolding first
 first_before p zero i s e j l q = let z : ◌≡◌ {A = ℕ} 0 1 = cc in absurd (omega arith)
 first_before p (suc n) i s e j l q = go (p i) refl e (λ e' t. first_before p n (suc i) s e' j t q)
   where
-    go : (b : Bool) → p i ≡ b → cond b (At i) (first p n (suc i)) ≡ At s
-        → (first p n (suc i) ≡ At s → i < j → p j ≡ false) → p j ≡ false
+    go : (b : Bool) → p i ≡ b → cond b (Some i) (first p n (suc i)) ≡ Some s
+        → (first p n (suc i) ≡ Some s → i < j → p j ≡ false) → p j ≡ false
     go true f e' ih = let k : i ≡ s = cc in absurd (omega arith)
     go false f e' ih = ⊎_elim (λ t. let k : i ≡ j = omega arith in rw k at f) (λ t. ih e' t) (le_or_lt j i)
 
-pub first_nothing : (p : ℕ → Bool) (n i : ℕ) → first p n i ≡ Nothing → (j : ℕ) → i ≤ j → j < i + n → p j ≡ false
+pub first_nothing : (p : ℕ → Bool) (n i : ℕ) → first p n i ≡ None → (j : ℕ) → i ≤ j → j < i + n → p j ≡ false
 unfolding first
 first_nothing p zero i e j l q = absurd (omega arith)
 first_nothing p (suc n) i e j l q = go (p i) refl e (λ e' t. first_nothing p n (suc i) e' j t (omega arith))
   where
-    go : (b : Bool) → p i ≡ b → cond b (At i) (first p n (suc i)) ≡ Nothing
-        → (first p n (suc i) ≡ Nothing → i < j → p j ≡ false) → p j ≡ false
+    go : (b : Bool) → p i ≡ b → cond b (Some i) (first p n (suc i)) ≡ None
+        → (first p n (suc i) ≡ None → i < j → p j ≡ false) → p j ≡ false
     go true f e' ih = let z : ◌≡◌ {A = ℕ} 0 1 = cc in absurd (omega arith)
     go false f e' ih = ⊎_elim (λ t. let k : i ≡ j = omega arith in rw k at f) (λ t. ih e' t) (le_or_lt j i)
 

@@ -2,7 +2,7 @@
 use mathlib.Core.Path.{◌≡◌, refl}
 use mathlib.Core.Bool.{Bool, true, false, cond}
 use mathlib.Core.Logic.{⊎_elim}
-use Prim.Native.Nat.{ℕ, ◌≤◌, ◌<◌}
+use Prim.Native.Nat.{ℕ, ◌≤◌, ◌<◌, min}
 use native.Mathlib.Omega.{arith}
 use lib.Dec.{leb}
 use borrow.Author.Tests.{le-leb, leb-true, leb-false}
@@ -47,3 +47,11 @@ stop_mono m n h =
 -- a counter never falls
 pub stop_up : (n k : ℕ) → k ≤ 4294967295 → k ≤ n → k ≤ stop n
 stop_up n k l h = let e = stop_is k l in let m = stop_mono k n h in omega arith
+
+-- it is `saturating_add`'s minimum
+pub stop_min : (n : ℕ) → min n 4294967295 ≡ stop n
+stop_min n =
+    ⊎_elim
+    (λ l. let e = stop_is n l in omega arith)
+    (λ l. let e = stop_at n (omega arith) in omega arith)
+    (le_or_lt n 4294967295)

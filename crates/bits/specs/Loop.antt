@@ -1,13 +1,11 @@
 -- What a loop over slots computes (document 01, 'Rust forms': iterator chains are loops). Each definition takes how many turns are left
 -- and the slot that is next, as the loop has them: `first p 62 0` is the least slot below 62 at which p holds, `every p 7 0` whether p
 -- holds at each number below 7, `any p 7 0` whether it holds at one of them, and `fold f 62 0 a` is f at slot 61 of .. of f at slot 0 of a.
-use Rattle.std.specs.Prelude.{ℕ, zero, suc, Bool, true, false, cond, ◌&&◌, ◌||◌}
-use Rattle.bits.specs.declared.Found.{Found}
-use Rattle.bits.specs.declared.Found.TheVariants.{At, Nothing}
+use Rattle.std.specs.Prelude.{ℕ, zero, suc, Bool, true, false, cond, ◌&&◌, ◌||◌, Option, Some, None}
 
-unfoldable pub first : (ℕ → Bool) → ℕ → ℕ → Found
-first p zero i = Nothing
-first p (suc n) i = cond (p i) (At i) (first p n (suc i))
+unfoldable pub first : (ℕ → Bool) → ℕ → ℕ → Option ℕ
+first p zero i = None
+first p (suc n) i = cond (p i) (Some i) (first p n (suc i))
 
 unfoldable pub fold : {A : Type 0} → (ℕ → A → A) → ℕ → ℕ → A → A
 fold f zero i a = a

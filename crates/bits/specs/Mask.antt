@@ -1,7 +1,6 @@
 -- A set of slots below 64 as a number: slot i is in the set where bit i of the number is 1 (document 01, 'Member': the mask of used slots).
-use Rattle.std.specs.Prelude.{ℕ, zero, suc, ◌+◌, ◌-◌, ◌/◌, ◌%◌, ◌^◌, Bool, not, cond, List, [], ◌∷◌, eqb, ltb}
+use Rattle.std.specs.Prelude.{ℕ, zero, suc, ◌+◌, ◌-◌, ◌/◌, ◌%◌, ◌^◌, Bool, not, cond, List, [], ◌∷◌, eqb, ltb, Option}
 use Rattle.std.specs.Int.Bits.{bit_and, bit_or}
-use Rattle.bits.specs.declared.Found.{Found}
 use Rattle.bits.specs.Loop.{first}
 
 unfoldable pub has_bit : ℕ → ℕ → Bool
@@ -25,10 +24,10 @@ unfoldable pub minus_of : ℕ → ℕ → ℕ
 minus_of a b = bit_and a (2 ^ 64 - 1 - b)
 
 -- the least slot of the set, and the least of `count` slots that is not in it
-unfoldable pub lowest_bit : ℕ → Found
+unfoldable pub lowest_bit : ℕ → Option ℕ
 lowest_bit m = first (has_bit m) 64 0
 
-unfoldable pub lowest_free : ℕ → ℕ → Found
+unfoldable pub lowest_free : ℕ → ℕ → Option ℕ
 lowest_free m count = first (λ s. not (has_bit m s)) count 0
 
 -- of n slots from i on those in the set, rising

@@ -1,4 +1,5 @@
 -- To whom word goes, and its frames one after the other. Assumes nothing.
+use Rattle.std.specs.Prelude.{Some}
 use mathlib.Core.Path.{◌≡◌, refl, sym}
 use mathlib.Core.Bool.{Bool, true, false, cond}
 use mathlib.Core.List.{List, [], ◌++◌}
@@ -9,7 +10,6 @@ use lib.ListN.{take, replicate}
 use lib.Seq.{take_at}
 use borrow.Author.Tests.{lt-ltb, le-ltb, ltb-true, ltb-false}
 use Rattle.bits.specs.Loop.{first}
-use Rattle.bits.specs.declared.Found.TheVariants as found
 use Rattle.bits.proofs.Lists.{and_true}
 use Rattle.bits.proofs.Loops.{first_found}
 use Rattle.level.proofs.Levels.{level_for_lt}
@@ -30,20 +30,20 @@ use Rattle.bursts.specs.Direct.{has_word, leaf_of, leaf_word, directed_to, down_
 word_member : (s : Station) (slot : ℕ) → has_word s slot ≡ true → is_member s.used slot ≡ true
 word_member s slot e = (and_true (is_member s.used slot) _ e).0
 
-directed_by_lem : (s : Station) (slot i : ℕ) (b : Bool) → has_word s slot ≡ b → cond b (found.At slot) (first (leaf_word s slot) 62 0) ≡ found.At i → has_word s i ≡ true
+directed_by_lem : (s : Station) (slot i : ℕ) (b : Bool) → has_word s slot ≡ b → cond b (Some slot) (first (leaf_word s slot) 62 0) ≡ Some i → has_word s i ≡ true
 directed_by_lem s slot i true w e = let q : slot ≡ i = cc in rw q at w
 directed_by_lem s slot i false w e = (and_true (has_word s i) (leaf_of s slot i) (first_found (leaf_word s slot) 62 0 i e).1).0
 
 -- it has something to send
-pub directed_word : (s : Station) (slot i : ℕ) → directed_to s slot ≡ found.At i → has_word s i ≡ true
+pub directed_word : (s : Station) (slot i : ℕ) → directed_to s slot ≡ Some i → has_word s i ≡ true
 unfolding directed_to
 directed_word s slot i e = directed_by_lem s slot i (has_word s slot) refl e
 
 -- it is a member
-pub directed_member : (s : Station) (slot i : ℕ) → directed_to s slot ≡ found.At i → is_member s.used i ≡ true
+pub directed_member : (s : Station) (slot i : ℕ) → directed_to s slot ≡ Some i → is_member s.used i ≡ true
 directed_member s slot i e = word_member s i (directed_word s slot i e)
 
-pub directed_lt : (s : Station) (slot i : ℕ) → directed_to s slot ≡ found.At i → i < 62
+pub directed_lt : (s : Station) (slot i : ℕ) → directed_to s slot ≡ Some i → i < 62
 directed_lt s slot i e = member_lt s.used i (directed_member s slot i e)
 
 -- the slot itself

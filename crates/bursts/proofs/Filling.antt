@@ -10,7 +10,7 @@ use lib.ListN.{length, take, drop, length-append}
 use lib.Seq.{sets, sets-eq, take_at, length-take-le}
 use Rattle.bits.specs.Loop.{fold}
 use Rattle.bits.proofs.Loops.{fold_turn, fold_end}
-use Rattle.bursts.specs.Rows.{Filled, row_where, row_if, rows_on, rows_of}
+use Rattle.bursts.specs.Rows.{Filled, row_where, row_if, rows_on}
 
 -- of at most n bytes
 pub front_most : (n : ℕ) (l : List ℕ) → length (take n l) ≤ n

@@ -1,4 +1,5 @@
 -- Of the boats waiting for acknowledgement a beacon lists exactly those that wait no longer behind it: `listed_wait_no_more`. Assumes nothing.
+use Rattle.std.specs.Prelude.{Option, Some, None}
 use mathlib.Core.Path.{◌≡◌, refl, sym, ap, ◌∙◌, subst}
 use mathlib.Core.Bool.{Bool, true, false, not, cond, ◌&&◌}
 use mathlib.Core.List.{List, [], ◌++◌}
@@ -8,15 +9,13 @@ use native.Mathlib.Omega.{arith}
 use borrow.Author.Tests.{lt-leb, le-leb, lt-ltb, le-ltb}
 use lib.Dec.{ltb, leb}
 use lib.ListN.{length, length-append}
-use Rattle.bits.specs.Loop.{first, fold}
+use Rattle.bits.specs.Loop.{fold}
 use Rattle.bits.specs.Mask.{has_bit, without_bit, lowest_bit}
-use Rattle.bits.specs.declared.Found.{Found}
-use Rattle.bits.specs.declared.Found.TheVariants as found
 use Rattle.bits.proofs.Laws.{without_same, without_other}
 use Rattle.bits.proofs.Lists.{cases, le_or_lt, eq_or_not}
 use Rattle.bits.proofs.Loops.{first_found, first_before, first_nothing}
 use Rattle.net.specs.declared.Station.{Station}
-use Rattle.bursts.specs.Rows.{row_if, row_where, rows_on, rows_of, ack_at, ack_row, ack_rows}
+use Rattle.bursts.specs.Rows.{row_if, rows_on, rows_of, ack_at, ack_row, ack_rows}
 use Rattle.bursts.specs.Bursts.{acked, without_found, beyond}
 
 -- how many slots below i are in the mask
@@ -78,10 +77,10 @@ module _ (k m i : ℕ) (ih : (n : ℕ) → has_bit (beyond k n) i ≡ has_bit n 
       no true = refl
       no false = refl
 
-  without_found_lem : (f : Found) → lowest_bit m ≡ f → i < 64 → has_bit (beyond k (without_found f m)) i ≡ has_bit m i && leb (suc k) (rank m i)
+  without_found_lem : (f : Option ℕ) → lowest_bit m ≡ f → i < 64 → has_bit (beyond k (without_found f m)) i ≡ has_bit m i && leb (suc k) (rank m i)
   unfolding lowest_bit
-  without_found_lem (found.At j) e h = without_at j (first_found (has_bit m) 64 0 j e).1 (λ l b. first_before (has_bit m) 64 0 j e l (omega arith) b)
-  without_found_lem found.Nothing e h =
+  without_found_lem (Some j) e h = without_at j (first_found (has_bit m) 64 0 j e).1 (λ l b. first_before (has_bit m) 64 0 j e l (omega arith) b)
+  without_found_lem None e h =
       let none = first_nothing (has_bit m) 64 0 e i (omega arith) (omega arith) in
       ih m ∙ rw none
 

@@ -1,11 +1,9 @@
 -- `poll_burst`, `acks_burst`, `beacon` and `rx_list_burst` of ncs.rs.
-use Rattle.std.specs.Prelude.{◌≡◌, refl, ℕ, zero, suc, ◌+◌, ◌*◌, ◌/◌, ◌%◌, Bool, false, not, cond, ◌&&◌, ◌||◌, List, [], ◌∷◌, ◌++◌, eqb, length, get_or, set, pos, Float}
+use Rattle.std.specs.Prelude.{◌≡◌, refl, ℕ, zero, suc, ◌+◌, ◌*◌, ◌/◌, ◌%◌, Bool, false, not, cond, ◌&&◌, ◌||◌, List, [], ◌∷◌, ◌++◌, eqb, length, get_or, set, pos, Float, Option, Some, None}
 use Rattle.std.specs.Float.{nan, binary64}
 use Rattle.std.specs.Float.Ieee.{sub, of_int, of_bits, round}
 use Rattle.bits.specs.Loop.{fold}
 use Rattle.bits.specs.Mask.{has_bit, without_bit, both_of, either_of, minus_of, lowest_bit}
-use Rattle.bits.specs.declared.Found.{Found}
-use Rattle.bits.specs.declared.Found.TheVariants as found
 use Rattle.level.specs.Consts.{zero_time}
 use Rattle.level.specs.Order.{is_nan}
 use Rattle.rounding.specs.Round.{announced}
@@ -144,9 +142,9 @@ unfoldable pub beacon_rows : Station → List ℕ
 beacon_rows s = ack_rows_on s (minus_of s.used s.round.toack) 9 (ack_rows s (acked s) 9)
 
 -- the mask without its k lowest slots
-abbrev pub without_found : Found → ℕ → ℕ
-without_found (found.At i) m = without_bit m i
-without_found found.Nothing m = m
+abbrev pub without_found : Option ℕ → ℕ → ℕ
+without_found (Some i) m = without_bit m i
+without_found None m = m
 
 unfoldable pub beyond : ℕ → ℕ → ℕ
 beyond zero m = m

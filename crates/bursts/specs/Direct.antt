@@ -1,14 +1,11 @@
 -- `direct_burst` and `down_burst` of ncs.rs (request U1): word back to a boat, from the directed queue that is lent.
-use Rattle.std.specs.Prelude.{ℕ, zero, suc, ◌+◌, ◌-◌, ◌*◌, ◌%◌, Bool, true, not, cond, ◌&&◌, List, [], ◌++◌, eqb, ltb, get_or}
+use Rattle.std.specs.Prelude.{ℕ, zero, suc, ◌+◌, ◌-◌, ◌*◌, ◌%◌, Bool, true, not, cond, ◌&&◌, List, [], ◌++◌, eqb, ltb, get_or, Option, Some, None}
 use Rattle.bits.specs.Loop.{first}
-use Rattle.bits.specs.Mask.{has_bit}
-use Rattle.bits.specs.declared.Found.{Found}
-use Rattle.bits.specs.declared.Found.TheVariants as found
 use Rattle.wire.specs.Kinds.{t_down}
 use Rattle.words.specs.Words.{least}
 use Rattle.out.specs.Encode.{frame_words}
 use Rattle.queue.specs.declared.Queue.{Queue}
-use Rattle.queue.specs.Queues.{empty_queue, first_of, is_due, sent_in, bytes_from}
+use Rattle.queue.specs.Queues.{first_of, is_due, sent_in, bytes_from}
 use Rattle.net.specs.declared.Station.{Station}
 use Rattle.net.specs.declared.Settings.{Settings}
 use Rattle.net.specs.State.{queue_at, with_queue, with_round, with_traffic}
@@ -29,8 +26,8 @@ leaf_of s slot i = eqb (member_in s i).via slot && not (eqb slot 63)
 abbrev pub leaf_word : Station → ℕ → ℕ → Bool
 leaf_word s slot i = has_word s i && leaf_of s slot i
 
-unfoldable pub directed_to : Station → ℕ → Found
-directed_to s slot = cond (has_word s slot) (found.At slot) (first (leaf_word s slot) 62 0)
+unfoldable pub directed_to : Station → ℕ → Option ℕ
+directed_to s slot = cond (has_word s slot) (Some slot) (first (leaf_word s slot) 62 0)
 
 -- ---- down_burst
 
@@ -67,6 +64,6 @@ direct_burst s queue slot = said (directed s slot) (down_burst s.settings queue 
 
 -- ---- as the code has it: 255 for none
 
-abbrev pub slot_or255 : Found → ℕ
-slot_or255 (found.At i) = i % 256
-slot_or255 found.Nothing = 255
+abbrev pub slot_or255 : Option ℕ → ℕ
+slot_or255 (Some i) = i % 256
+slot_or255 None = 255

@@ -36,14 +36,12 @@ fn put_downs(
     let end = last as usize;
     let mut put = at;
     let mut k = from as usize;
-    let mut n: usize = 0;
-    while n < room {
+    for _ in 0..room {
         if end <= k {
             return put;
         }
         put = put_down(o, put, queue, slot, k, least(max, end - k));
         k += max;
-        n += 1;
     }
     put
 }

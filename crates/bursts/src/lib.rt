@@ -7,7 +7,6 @@ ghost use Rattle.out.specs.Encode.{Wrote};
 ghost use Rattle.net.specs.Net.{Did};
 ghost use Rattle.bursts.specs.Bursts.{poll_extra, poll_kind, poll_level, poll_burst, floor_if, ack_frames, acks_burst, beacon_lasts, first_ms, len_ms, name_payload, beacon_payload, beacon_size, without_found, beyond, window_end, beacon_of, tell_of, tell_all, rx_list_burst};
 
-use bits::Found;
 use net::{Round, Settings, Station};
 use roster::Member;
 
@@ -21,7 +20,7 @@ pub mod rows;
 fn poll_extra(slot: u8, relayfor: u8, cap: u32, burst: u8) -> u32
     ensures { result ≡ poll_extra slot relayfor cap burst }
 {
-    let c = rows::least(cap, 15);
+    let c = cap.min(15);
     let s = slot as u32 % 64;
     if relayfor == wire::ALL {
         return s + 64 * c + 1024 * (burst as u32 % 4);
@@ -210,7 +209,7 @@ fn window_end(g: Settings, time: f64, acks: usize) -> f64
 fn put_acks(o: &mut [u32], at: usize, rows: &[u8; 744], n: usize) -> usize
     ensures { Wrote o.old at (ack_frames (take n rows.now)) o.new result }
 {
-    out::put_rows(o, at, wire::C_ACKS, rows, n, 18)
+    out::put_chunks(o, at, wire::C_ACKS, rows, n, 18)
 }
 
 // The mask without its lowest slot.
@@ -218,8 +217,8 @@ fn without_lowest(mask: u64) -> u64
     ensures { result ≡ without_found (lowest_bit mask) mask }
 {
     match bits::lowest(mask) {
-        Found::At(i) => bits::without(mask, i),
-        Found::Nothing => mask,
+        Some(i) => bits::without(mask, i),
+        None => mask,
     }
 }
 
@@ -228,10 +227,8 @@ fn beyond_nine(mask: u64) -> u64
     ensures { result ≡ beyond 9 mask }
 {
     let mut m = mask;
-    let mut i: usize = 0;
-    while i < 9 {
+    for _ in 0..9usize {
         m = without_lowest(m);
-        i += 1;
     }
     m
 }
@@ -271,12 +268,10 @@ pub fn tell_at(m: Member, here: bool) -> Member
 fn tell_all(mut s: Station) -> Station
     ensures { result ≡ tell_all s }
 {
-    let mut i: usize = 0;
-    while i < 62 {
+    for i in 0..62 {
         let m = s.members[i];
         let k = tell_at(m, bits::has(s.used, i));
         s.members[i] = k;
-        i += 1;
     }
     s
 }

@@ -1,7 +1,6 @@
 // Rerouting (reroute of ncs.rs): leaves that are heard directly leave their relay; leaves whose relay or exchange failed take the best that
 // hears them. And what one look over the members finds for the choice of relays.
 ghost use Rattle.std.specs.Prelude.{◌≡◌, cond, [], ◌∷◌, eqb};
-ghost use Rattle.bits.specs.Mask.{with_bit, without_bit};
 ghost use Rattle.out.specs.Encode.{Wrote, event_word};
 ghost use Rattle.roster.specs.Members.{rerouted_to};
 ghost use Rattle.net.specs.Net.{Did, said};
@@ -11,12 +10,6 @@ use level::Level;
 use net::Station;
 use recent::Recent;
 use roster::{Member, relay};
-
-fn with_if(mask: u64, yes: bool, i: usize) -> u64
-    ensures { result ≡ cond yes (with_bit mask i) mask }
-{
-    if yes { bits::with(mask, i) } else { mask }
-}
 
 // Who could relay, who needs a relayer, and the relayers tried for each.
 #[derive(Clone, Copy)]
@@ -33,14 +26,12 @@ pub fn survey(s: Station) -> Surveyed
     let mut able: u64 = 0;
     let mut needs: u64 = 0;
     let mut tried = [0u64; 62];
-    let mut i: usize = 0;
-    while i < 62 {
+    for i in 0..62 {
         let m = ms[i];
         let here = bits::has(s.used, i);
-        able = with_if(able, here & relay::could_relay(m), i);
-        needs = with_if(needs, here & relay::needs_relay(m), i);
+        able = bits::with_if(able, here & relay::could_relay(m), i);
+        needs = bits::with_if(needs, here & relay::needs_relay(m), i);
         tried[i] = m.tried;
-        i += 1;
     }
     Surveyed {
         able: able,
@@ -86,8 +77,7 @@ fn promote(mut s: Station, o: &mut [u32], at: &mut usize) -> Station
     let th = g.thresholds;
     let floor = th[0] + g.margin;
     let mut end = *at;
-    let mut i: usize = 0;
-    while i < 62 {
+    for i in 0..62 {
         let m = s.members[i];
         let x = relay::promotable(bits::has(s.used, i), m, floor);
         let moved = level::is_heard(x);
@@ -99,10 +89,9 @@ fn promote(mut s: Station, o: &mut [u32], at: &mut usize) -> Station
         let limit = s.settings.misslimit;
         let silent = roster::tally(s.totals.silent, limit <= m.missed, limit <= k.missed);
         s.totals.silent = silent;
-        let news = with_if(s.round.treenews, moved, i);
+        let news = bits::with_if(s.round.treenews, moved, i);
         s.round.treenews = news;
         end = routed(moved, i, wire::ALL, o, end);
-        i += 1;
     }
     *at = end;
     s
@@ -115,11 +104,9 @@ fn leaves_of(s: Station) -> u64
     let ms = s.members;
     let limit = s.settings.misslimit;
     let mut leaves: u64 = 0;
-    let mut i: usize = 0;
-    while i < 62 {
+    for i in 0..62 {
         let m = ms[i];
-        leaves = with_if(leaves, bits::has(s.used, i) & relay::is_leaf(m, limit), i);
-        i += 1;
+        leaves = bits::with_if(leaves, bits::has(s.used, i) & relay::is_leaf(m, limit), i);
     }
     leaves
 }
@@ -152,12 +139,6 @@ fn moved_to(m: Member, r: u8) -> Member
     }
 }
 
-fn without_if(mask: u64, yes: bool, i: usize) -> u64
-    ensures { result ≡ cond yes (without_bit mask i) mask }
-{
-    if yes { bits::without(mask, i) } else { mask }
-}
-
 // Each leaf in turn, as the earlier ones left the roster. A boat that moved can relay no more.
 fn move_leaves(mut s: Station, leaves: u64, able: u64, o: &mut [u32], at: &mut usize) -> Station
     requires { (leaves ≡ leaves_of s) × (able ≡ able_of s) }
@@ -165,8 +146,7 @@ fn move_leaves(mut s: Station, leaves: u64, able: u64, o: &mut [u32], at: &mut u
 {
     let mut free = able;
     let mut end = *at;
-    let mut c: usize = 0;
-    while c < 62 {
+    for c in 0..62 {
         let m = s.members[c];
         let v = net::index(m.via);
         let p = s.members[v];
@@ -178,11 +158,10 @@ fn move_leaves(mut s: Station, leaves: u64, able: u64, o: &mut [u32], at: &mut u
         let limit = s.settings.misslimit;
         let silent = roster::tally(s.totals.silent, limit <= m.missed, limit <= k.missed);
         s.totals.silent = silent;
-        free = without_if(free, moved, c);
-        let news = with_if(s.round.treenews, moved, c);
+        free = bits::without_if(free, moved, c);
+        let news = bits::with_if(s.round.treenews, moved, c);
         s.round.treenews = news;
         end = routed(moved, c, r, o, end);
-        c += 1;
     }
     *at = end;
     s

@@ -3,7 +3,7 @@ ghost use Rattle.std.specs.Prelude.{◌≡◌, [], ◌∷◌, ◌+◌, ◌≤◌
 ghost use Rattle.wire.specs.Call.{pack_call};
 ghost use Rattle.stream.specs.Window.{bitmap_of};
 ghost use Rattle.bursts.specs.Bursts.{beacon_rows};
-ghost use Rattle.bursts.specs.Rows.{Filled, row_where, ack_rows, ack_rows_on, tree_rows, list_rows, any_holes, least_of, least_if, or_floor, reach_by, least_reach, least_direct};
+ghost use Rattle.bursts.specs.Rows.{Filled, row_where, ack_rows, ack_rows_on, tree_rows, list_rows, any_holes, least_if, or_floor, reach_by, least_reach, least_direct};
 
 use net::{Settings, Station};
 use roster::Member;
@@ -35,11 +35,9 @@ fn ack_rows_on(s: Station, mask: u64, most: usize, rows: &mut [u8], from: usize)
 {
     let ms = s.members;
     let mut n = from;
-    let mut i: usize = 0;
-    while i < 62 {
+    for i in 0..62 {
         let m = ms[i];
         n = ack_row(rows, n, bits::has(mask, i) & (n / 6 < most), m, i as u8);
-        i += 1;
     }
     n
 }
@@ -79,12 +77,10 @@ pub fn tree_rows(s: Station, mask: u64, moved: u64, rows: &mut [u8; 372]) -> usi
 {
     let ms = s.members;
     let mut n: usize = 0;
-    let mut i: usize = 0;
-    while i < 62 {
+    for i in 0..62 {
         let m = ms[i];
         let told = bits::has(mask, i) & ((m.via != wire::ALL) | bits::has(moved, i));
         n = tree_row(rows, n, told, m, i as u8);
-        i += 1;
     }
     n
 }
@@ -111,12 +107,10 @@ pub fn list_rows(s: Station, rows: &mut [u8; 372]) -> usize
 {
     let ms = s.members;
     let mut n: usize = 0;
-    let mut i: usize = 0;
-    while i < 62 {
+    for i in 0..62 {
         let m = ms[i];
         let told = bits::has(s.used, i) & roster::is_news(m);
         n = list_row(rows, n, told, m, i as u8);
-        i += 1;
     }
     n
 }
@@ -126,29 +120,21 @@ pub fn any_holes(s: Station) -> bool
     ensures { result ≡ any_holes s }
 {
     let ms = s.members;
-    let mut i: usize = 0;
-    while i < 62 {
+    for i in 0..62 {
         let m = ms[i];
         let w = m.up;
         if bits::has(s.used, i) & window::holes(w) {
             return true;
         }
-        i += 1;
     }
     false
-}
-
-pub fn least(a: u32, b: u32) -> u32
-    ensures { result ≡ least_of a b }
-{
-    if a < b { a } else { b }
 }
 
 // The least of two levels, where the second counts.
 fn least_if(a: u32, counts: bool, b: u32) -> u32
     ensures { result ≡ least_if a counts b }
 {
-    if counts { least(a, b) } else { a }
+    if counts { a.min(b) } else { a }
 }
 
 // The floor where there is none.
@@ -175,13 +161,11 @@ pub fn least_reach(s: Station, mask: u64) -> u32
     let ms = s.members;
     let g = s.settings;
     let mut lev: u32 = 17;
-    let mut i: usize = 0;
-    while i < 62 {
+    for i in 0..62 {
         let m = ms[i];
         let v = net::index(m.via);
         let p = ms[v];
         lev = least_if(lev, bits::has(mask, i), reach_level(g, s.used, m, p));
-        i += 1;
     }
     or_floor(lev)
 }
@@ -193,12 +177,10 @@ pub fn least_direct(s: Station) -> u32
     let ms = s.members;
     let g = s.settings;
     let mut lev: u32 = 17;
-    let mut i: usize = 0;
-    while i < 62 {
+    for i in 0..62 {
         let m = ms[i];
         let counts = bits::has(s.used, i) & roster::is_direct(m, g.misslimit);
         lev = least_if(lev, counts, net::down_level(g, m));
-        i += 1;
     }
     or_floor(lev)
 }

@@ -8,41 +8,31 @@ mod chance;
 mod holds;
 mod tell;
 
-use chance::Drawn;
-use net::Station;
-use station::Answer;
+use act::Port;
+use chance::Chance;
+use std::alloc::AllocError;
+use std::io::Write;
 use tell::Tally;
 
-// What holds of the station after call i.
-fn judged(t: Tally, i: u32, s: Station, d: Drawn, a: Answer) -> Tally {
-    tell::judged(t, i, holds::fault(s, act::freed(d, a)))
-}
-
 // The calls of the day, one after the other.
-fn day(s: Station, lent: &mut [u8; 64000], w: &mut [u32; 8192], out: &mut [u32; 8192]) -> Tally {
-    let mut u = s;
-    let mut t = tell::nothing();
-    let mut seed: u64 = 20261116;
+fn day(port: &mut Port) -> Result<Tally, AllocError> {
+    let mut tally = Tally::default();
+    let mut chance = Chance(20261116);
     for i in 0..20000 {
-        let d = chance::draw(seed);
-        seed = d.seed;
-        let r = act::one(u, d, act::time(i), lent, w, out);
-        let a = r.answer;
-        u = r.station;
-        t = tell::counted(t, u.used, d, a, out);
-        t = judged(t, i, u, d, a);
+        let drawn = chance.draw();
+        let answer = port.call(drawn, act::time(i))?;
+        tally.count(drawn.call, answer, &port.out);
+        tally.hold(port.station.used);
+        tally.judge(i, holds::check(port.station, act::freed(drawn, answer)));
     }
-    t
+    Ok(tally)
 }
 
-fn main(rt: HostRuntime) {
-    let mut lent = [0u8; 64000];
-    let mut w = [0u32; 8192];
-    let mut out = [0u32; 8192];
-    let mut b = [0u8; 65536];
-    let r = station::start(preset::blank(), preset::tape_settings(), &lent);
-    let s = r.station;
-    let t = day(s, &mut lent, &mut w, &mut out);
-    let n = tell::day(&mut b, t);
-    text::flush(rt.stdout(), &b, n);
+fn main(rt: HostRuntime) -> Result<(), AllocError> {
+    let mut port = Port::new(rt.alloc())?;
+    let tally = day(&mut port)?;
+    let text = format!(in rt.alloc(); "{tally}")?;
+    // What cannot be written is dropped.
+    let _ = rt.stdout().write_all(text.as_bytes());
+    Ok(())
 }

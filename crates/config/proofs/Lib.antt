@@ -1,2 +1,3 @@
 -- Laws of the rooms.
 pub mod Laws
+pub mod Every

@@ -52,14 +52,7 @@ fn numbers_ok(g: Settings) -> bool
 fn thresholds_ok(t: &[f32; 17]) -> bool
     ensures { result ≡ thresholds_ok t.now }
 {
-    let mut i: usize = 0;
-    while i < 17 {
-        if !level::level_ok(t[i]) {
-            return false;
-        }
-        i += 1;
-    }
-    true
+    t.iter().all(|x| level::level_ok(*x))
 }
 
 // Each setting is within its span.
@@ -81,27 +74,13 @@ pub fn settings_ok(x: Given) -> bool
 fn data_ok(d: &[f64; 1088]) -> bool
     ensures { result ≡ data_ok d.now }
 {
-    let mut i: usize = 0;
-    while i < 1088 {
-        if !level::span_ok(d[i]) {
-            return false;
-        }
-        i += 1;
-    }
-    true
+    d.iter().all(|x| level::span_ok(*x))
 }
 
 fn payloads_ok(p: &[u8; 17]) -> bool
     ensures { result ≡ payloads_ok p.now }
 {
-    let mut i: usize = 0;
-    while i < 17 {
-        if p[i] == 0 {
-            return false;
-        }
-        i += 1;
-    }
-    true
+    p.iter().all(|x| *x != 0)
 }
 
 // ---- how many frames a burst of data may have
@@ -111,15 +90,13 @@ fn room(d: &[f64; 1088], max: f64, level: usize) -> u8
     requires { level < 17 }
     ensures { result ≡ room d.now max level }
 {
-    let mut n: u8 = 1;
-    while n < 64 {
+    for n in 1..64 {
         let fits = d[64 * level + n as usize] <= max;
         if !fits {
             return n;
         }
-        n += 1;
     }
-    n
+    64
 }
 
 // At each level.
@@ -127,10 +104,8 @@ fn rooms(d: &[f64; 1088], max: f64) -> [u8; 17]
     ensures { result ≡ rooms_from d.now max 17 0 }
 {
     let mut r = [0u8; 17];
-    let mut i: usize = 0;
-    while i < 17 {
+    for i in 0..17 {
         r[i] = room(d, max, i);
-        i += 1;
     }
     r
 }

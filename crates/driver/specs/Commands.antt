@@ -2,16 +2,17 @@
 use Rattle.std.specs.Prelude.{ℕ, cond, List, ◌==◌}
 use Rattle.words.specs.Words.{payload_at}
 use Rattle.script.specs.declared.action.Control.{Control}
+use Rattle.script.specs.Actions.{number}
 use Rattle.script.specs.Settings.{lent_cells}
 use Rattle.station.specs.declared.Answer.{Answer}
 use Rattle.station.specs.declared.Answer.TheVariants.{Refused, Words}
 
 abbrev pub with_cells : Control → ℕ → Control
-with_cells c n = record { drive = c.drive; panel = c.panel; command = c.command; words = c.words; cells = n; now = c.now; level = c.level; end = c.end }
+with_cells c n = record c { cells = n }
 
 -- a start that was not refused: so many cells are lent from here on
 abbrev pub kept_by : Control → List ℕ → Control
-kept_by c words = cond (c.command == 8) (with_cells c (lent_cells (payload_at words 255))) c
+kept_by c words = cond (number c.command == 8) (with_cells c (lent_cells (payload_at words 255))) c
 
 abbrev pub settled_by : Control → List ℕ → Answer → Control
 settled_by c words (Refused n) = c

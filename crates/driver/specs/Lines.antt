@@ -1,10 +1,10 @@
 -- What the programs print: the bytes of each line, and where lines stand in the text that is gathered.
-use Rattle.std.specs.Prelude.{◌≡◌, ℕ, ◌/◌, ◌%◌, Bool, false, cond, List, [], ◌∷◌, ◌++◌, length, take, nat_lt}
+use Rattle.std.specs.Prelude.{ℕ, ◌/◌, ◌%◌, Bool, false, cond, List, [], ◌∷◌, ◌++◌, length, take, nat_lt}
 use Rattle.std.proofs.lemmas.List.Edits.{sets}
 use Rattle.out.specs.Encode.{after}
 use Rattle.text.specs.Digits.{digits_of}
-use Rattle.script.specs.declared.action.Control.{Control}
 use Rattle.station.specs.declared.Answer.{Answer}
+use Rattle.driver.specs.declared.page.Page.{Page}
 use Rattle.station.specs.declared.Answer.TheVariants.{Refused, Words}
 
 -- ---- lines, each with its end
@@ -47,28 +47,20 @@ heard_by drive out mask (Words n) = heard_lines drive out n mask
 
 -- ---- the text that is gathered
 
-pub record Page : Type 0 where
-  pub text : List ℕ
-  pub end : ℕ
-
 -- where a line begins: where less than 8,192 bytes are left, what is gathered is written first
 abbrev pub line_from : ℕ → ℕ
 line_from n = cond (nat_lt n 57344) n 0
 
+unfoldable pub begun : Page → Page
+begun p = record p { end = line_from p.end }
+
+-- bytes behind what is gathered, as far as they fit
+unfoldable pub written : Page → List ℕ → Page
+written p bs = record p { text = sets p.text p.end bs; end = after (length p.text) p.end (length bs) }
+
 abbrev pub line_on : Page → List ℕ → Page
-line_on p bs = record { text = sets p.text (line_from p.end) bs; end = after (length p.text) (line_from p.end) (length bs) }
+line_on p bs = written (begun p) bs
 
 unfoldable pub lines_on : Page → List (List ℕ) → Page
 lines_on p [] = p
 lines_on p (l ∷ ls) = lines_on (line_on p l) ls
-
-abbrev pub with_end : Control → ℕ → Control
-with_end c e = record { drive = c.drive; panel = c.panel; command = c.command; words = c.words; cells = c.cells; now = c.now; level = c.level; end = e }
-
-abbrev pub page_of : List ℕ → Control → Page
-page_of t c = record { text = t; end = c.end }
-
--- A function that was handed the text t and the program's values c, and left u and r: it printed these lines, and of the values moved the text's end alone.
-pub record Said (t : List ℕ) (c : Control) (ls : List (List ℕ)) (u : List ℕ) (r : Control) : Type 0 where
-  pub text : u ≡ (lines_on (page_of t c) ls).text
-  pub values : r ≡ with_end c (lines_on (page_of t c) ls).end

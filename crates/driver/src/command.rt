@@ -2,372 +2,225 @@
 ghost use Rattle.std.specs.Prelude.{◌≡◌, ◌≤◌};
 ghost use Rattle.script.specs.Actions.{closed};
 ghost use Rattle.driver.specs.Commands.{kept_by, settled_by};
-ghost use Rattle.driver.specs.Lines.{answer_lines, heard_by, Said};
 
-use super::{dump, panel, print};
+use super::memory::Memory;
+use super::page::Page;
 use net::Station;
-use script::action::{Action, Control};
+use script::action::{Command, Control};
+use script::number::Pattern;
 use script::{action, given, number};
 use station::{Answer, Answered, Heard};
-use std::io::Stdout;
+use words::Item;
 
 // How many bytes of the store the cells are, of those that there are.
 fn store_of(cells: usize, have: usize) -> usize
     ensures { result ≤ have }
 {
     if 64 < cells {
-        return have;
+        have
+    } else {
+        (6400 * cells).min(have)
     }
-    let z = 6400 * cells;
-    if z < have { z } else { have }
-}
-
-fn least(a: usize, b: usize) -> usize
-    ensures { result ≤ b }
-{
-    if a < b { a } else { b }
 }
 
 // ---- commands of one word
 
 // A landed message.
-fn read(s: Station, c: Control, w: u32, lent: &[u8], to: Stdout, t: &mut [u8; 65536]) -> Control {
+#[inline(never)]
+pub fn read(s: &Station, c: Control, w: u32, store: &[u8], page: &mut Page) {
     let mut no: u8 = 0;
-    let z = store_of(c.cells, lent.len());
-    let m = station::read(s, &lent[..z], action::rest_of(w) as usize, &mut no);
-    if no != 0 {
-        return print::word(to, t, c, no as u32);
+    let z = store_of(c.cells, store.len());
+    let m = station::read(*s, &store[..z], action::rest_of(w) as usize, &mut no);
+    if no == 0 {
+        page.message(m);
+    } else {
+        page.word(no as u32);
     }
-    print::message(to, t, c, m)
-}
-
-fn roster(s: Station, c: Control, to: Stdout, t: &mut [u8; 65536]) -> Control {
-    let mut k = c;
-    k.end = dump::roster(s, to, t, c.end);
-    k
-}
-
-// What the word w shows of the station.
-pub fn shown(
-    s: Station,
-    c: Control,
-    a: Action,
-    w: u32,
-    lent: &[u8],
-    to: Stdout,
-    t: &mut [u8; 65536],
-) -> Control {
-    if let Action::Read = a {
-        return read(s, c, w, lent, to, t);
-    }
-    if let Action::Ask = a {
-        return panel::asked(s, c, w, to, t);
-    }
-    roster(s, c, to, t)
 }
 
 // ---- commands whose words follow
 
-// How long the payload of a command's frame is.
-fn length_of(command: u32) -> usize {
-    match command {
-        3 => 5,
-        8 => 182,
-        9 => 8,
-        12 => 17,
-        _ => 4,
-    }
-}
-
-// A start may have the settings of the beacon's timing too.
-fn length_ok(command: u32, len: usize) -> bool {
-    (len == length_of(command)) | ((command == 8) & (len == 199))
-}
-
-// The flags of a command's one frame; 256 where the words are anything else. Only an admission has flags.
-fn flags_of(words: &[u32], command: u32) -> u32 {
+// The flags, the field and the length of the one frame that the words are.
+pub fn only_frame(words: &[u32]) -> Option<(u32, u32, usize)> {
     let i = words::item_at(words, 0);
-    let words::Item::Frame { flags, field, len } = i else {
-        return 256;
+    let Item::Frame { flags, field, len } = i else {
+        return None;
     };
-    if (words::size_of(i) != words.len()) | (field != 0) | !length_ok(command, len) {
-        return 256;
-    }
-    if (flags != 0) & (command != 3) {
-        return 256;
-    }
-    flags
+    (words::size_of(i) == words.len()).then_some((flags, field, len))
 }
 
-fn malformed(s: Station) -> Answered {
+// How long the payload of a command's frame is. A start may have the settings of the beacon's timing too.
+fn length_ok(command: Command, len: usize) -> bool {
+    match command {
+        Command::Admit => len == 5,
+        Command::Start => (len == 182) | (len == 199),
+        Command::Clock => len == 8,
+        Command::Payloads => len == 17,
+        _ => len == 4,
+    }
+}
+
+// The flags of a command's one frame. Only an admission has flags.
+fn flags_of(words: &[u32], command: Command) -> Option<u32> {
+    let (flags, field, len) = only_frame(words)?;
+    let bare = (flags == 0) | (command == Command::Admit);
+    (bare & (field == 0) & length_ok(command, len)).then_some(flags)
+}
+
+fn malformed(s: &Station) -> Answered {
     Answered {
-        station: s,
+        station: *s,
         answer: Answer::Refused(3),
     }
 }
 
-// ---- durations and payloads of data bursts, held for the starts that follow
+// ---- durations and payloads of data bursts
 
-// How many numbers a frame of durations brings for its level, which is its flags, from the index on that is its field; 0 where it is none, or one is a NaN's
-// pattern.
-fn numbers_in(words: &[u32], p: &[u8; 255]) -> usize {
-    let i = words::item_at(words, 0);
-    let words::Item::Frame { flags, field, len } = i else {
-        return 0;
-    };
-    let n = len / 8;
-    let bad = (words::size_of(i) != words.len()) | (len % 8 != 0) | (16 < flags) | (63 < field);
-    if bad | (64 < field as usize % 64 + n) | any_nan(p, n) {
-        return 0;
+// Where the numbers stand that a frame of durations brings, at 64 * level + index, and how many there are: for its level, which is its flags, from the
+// index on that is its field. None for no such frame, or where one is a NaN's pattern.
+fn durations_in(words: &[u32], p: &[u8; 255]) -> Option<(usize, usize)> {
+    let (flags, field, len) = only_frame(words)?;
+    let n = (len / 8).min(31);
+    let bad = (len % 8 != 0) | (16 < flags) | (63 < field) | (n == 0);
+    if bad || 64 < field as usize % 64 + n || number::any_nan::<f64>(p, 0, n) {
+        return None;
     }
-    n
+    Some((64 * (flags as usize % 17) + field as usize % 64, n))
 }
 
-// One of the first n numbers is a NaN's pattern.
-fn any_nan(p: &[u8; 255], n: usize) -> bool {
-    let m = least(n, 31);
-    for i in 0..m {
-        if number::nan64_at(p, 8 * i) {
-            return true;
-        }
-    }
-    false
-}
-
-// Where they stand: at 64 * level + index.
-fn place_in(words: &[u32]) -> usize {
-    let i = words::item_at(words, 0);
-    let words::Item::Frame { flags, field, len } = i else {
-        return 0;
-    };
-    64 * (flags as usize % 17) + field as usize % 64
-}
-
-fn hold(held: &mut [f64; 1088], at: usize, p: &[u8; 255], n: usize) {
-    let m = least(n, 31);
-    for i in 0..m {
-        let j = at % 1088 + i;
-        if j < 1088 {
-            held[j] = number::f64_at(p, 8 * i);
-        }
+fn hold(times: &mut [f64], p: &[u8; 255], n: usize) {
+    for i in 0..n.min(31).min(times.len()) {
+        times[i] = f64::at(p, 8 * i);
     }
 }
 
-fn durations(
-    c: Control,
-    words: &[u32],
-    held: &mut [f64; 1088],
-    to: Stdout,
-    t: &mut [u8; 65536],
-) -> Control {
+fn durations(words: &[u32], times: &mut [f64; 1088], page: &mut Page) {
     let p = words::payload(words, 0, 248);
-    let n = numbers_in(words, &p);
-    if n == 0 {
-        return print::word(to, t, action::closed(c), 3);
+    match durations_in(words, &p) {
+        Some((at, n)) => hold(&mut times[at % 1088..], &p, n),
+        None => page.word(3),
     }
-    hold(held, place_in(words), &p, n);
-    action::closed(c)
 }
 
-fn largest(
-    c: Control,
-    words: &[u32],
-    payloads: &mut [u8; 17],
-    to: Stdout,
-    t: &mut [u8; 65536],
-) -> Control {
-    if 255 < flags_of(words, 12) {
-        return print::word(to, t, action::closed(c), 3);
+fn largest(words: &[u32], payloads: &mut [u8; 17], page: &mut Page) {
+    if flags_of(words, Command::Payloads).is_none() {
+        page.word(3);
+        return;
     }
     let p = words::payload(words, 0, 17);
-    for i in 0..17 {
-        payloads[i] = p[i];
-    }
-    action::closed(c)
+    payloads.copy_from_slice(&p[..17]);
 }
 
-// The clock or the level from here on, if the words are one frame with no NaN in it.
-fn set(c: Control, words: &[u32], to: Stdout, t: &mut [u8; 65536]) -> Control {
+// A number of the words, if they are one frame with no NaN in it.
+fn number_in<F: Pattern>(words: &[u32], command: Command) -> Option<F> {
+    flags_of(words, command)?;
     let p = words::payload(words, 0, 8);
-    let clock = c.command == 9;
-    let nan = if clock {
-        number::nan64_at(&p, 0)
-    } else {
-        number::nan32_at(&p, 0)
-    };
-    if (255 < flags_of(words, c.command)) | nan {
-        return print::word(to, t, action::closed(c), 3);
+    if F::nan_at(&p, 0) {
+        return None;
     }
+    Some(F::at(&p, 0))
+}
+
+// Runs the open command, which asks nothing of the station: the clock or the level from here on, or durations or payloads of data bursts.
+pub fn setting(c: Control, command: Command, memory: &mut Memory, page: &mut Page) -> Control {
+    let words = memory.words.as_slice();
     let mut k = action::closed(c);
-    if clock {
-        k.now = number::f64_at(&p, 0);
-    } else {
-        k.level = number::f32_at(&p, 0);
+    match command {
+        Command::Durations => durations(words, &mut memory.times, page),
+        Command::Payloads => largest(words, &mut memory.payloads, page),
+        Command::Clock => match number_in(words, command) {
+            Some(now) => k.now = now,
+            None => page.word(3),
+        },
+        _ => match number_in(words, command) {
+            Some(level) => k.level = level,
+            None => page.word(3),
+        },
     }
     k
 }
 
-// Runs the open command, if the word w ends it and it asks nothing of the station.
-pub fn setting(
-    c: Control,
-    w: u32,
-    words: &[u32],
-    held: &mut [f64; 1088],
-    payloads: &mut [u8; 17],
-    to: Stdout,
-    t: &mut [u8; 65536],
-) -> Control {
-    if !action::ends_setting(w, c) {
-        return c;
-    }
-    let m = least(c.words, words.len());
-    let mine = &words[..m];
-    if c.command == 11 {
-        return durations(c, mine, held, to, t);
-    }
-    if c.command == 12 {
-        return largest(c, mine, payloads, to, t);
-    }
-    set(c, mine, to, t)
-}
-
 // ---- posting
 
-// The frame at `at` of a posting to the slot `flags`: how many words it takes; 0 where it is none, or longer than `room`.
-fn post_size(words: &[u32], at: usize, slot: u32, room: usize) -> usize {
-    let i = words::item_at(words, at);
-    let words::Item::Frame { flags, field, len } = i else {
-        return 0;
-    };
-    if (flags != slot) | (field != 0) | (room < len) {
-        return 0;
-    }
-    words::size_of(i)
+// A message in the making.
+#[derive(Drop)]
+struct Message {
+    bytes: [u8; 2300],
+    len: usize,
+    ghost fits: { len ≤ 2300 },
 }
 
-fn post_length(words: &[u32], at: usize) -> usize {
-    let i = words::item_at(words, at);
-    let words::Item::Frame { flags, field, len } = i else {
-        return 0;
-    };
-    len
-}
-
-// The slot of the first frame; 256 where there is none.
-fn post_slot(words: &[u32]) -> u32 {
-    let i = words::item_at(words, 0);
-    let words::Item::Frame { flags, field, len } = i else {
-        return 256;
-    };
-    flags
-}
-
-// The payload of the frame at `at` goes behind the first n bytes of the message.
-fn join(message: &mut [u8; 2300], n: usize, words: &[u32], at: usize, len: usize) {
-    let p = words::payload(words, at, len);
-    let m = least(len, 255);
-    for i in 0..m {
-        let j = n % 2301 + i;
-        if j < 2300 {
-            message[j] = p[i];
+impl Message {
+    // Puts the bytes behind those that there are. None where they do not fit.
+    fn join(&mut self, b: &[u8]) -> Option<()> {
+        let end = self.len + b.len().min(2301);
+        if 2300 < end {
+            return None;
         }
+        self.bytes[self.len..end].copy_from_slice(b);
+        self.len = end;
+        Some(())
     }
 }
 
-// The message that the frames say, and how many bytes it has; 2,301 where they say none.
-fn message_of(words: &[u32], slot: u32, message: &mut [u8; 2300]) -> usize {
-    let end = words.len();
-    let mut n: usize = 0;
-    let mut at: usize = 0;
-    while at < end {
-        let size = post_size(words, at, slot, 2300 - least(n, 2300));
-        let more = least(post_length(words, at), 2300);
-        let left = end - at;
-        let total = n + more;
-        if size == 0 {
-            return 2301;
-        }
-        if left < size {
-            return 2301;
-        }
-        if 2300 < total {
-            return 2301;
-        }
-        join(message, n, words, at, more);
-        n = total;
-        at += size;
+// The slot of the first frame.
+fn post_slot(words: &[u32]) -> Option<u32> {
+    match words::item_at(words, 0) {
+        Item::Frame { flags, .. } => Some(flags),
+        _ => None,
     }
-    n
 }
 
-// The first n bytes, posted.
-fn posted(s: Station, slot: u8, b: &[u8], n: usize, queue: &mut [u8; 126976]) -> Answered {
-    let z = least(n, b.len());
-    station::post(s, slot, &b[..z], queue)
-}
-
-fn posted_of(
-    s: Station,
-    slot: u8,
-    message: &[u8; 2300],
-    n: usize,
-    queue: &mut [u8; 126976],
-) -> Answered {
-    posted(s, slot, message, n, queue)
+// The message that the frames to the slot say.
+fn message_of(words: &[u32], slot: u32) -> Option<Message> {
+    let mut message = Message {
+        bytes: [0; 2300],
+        len: 0,
+    };
+    let mut rest = words;
+    while !rest.is_empty() {
+        let i = words::item_at(rest, 0);
+        let Item::Frame { flags, field, len } = i else {
+            return None;
+        };
+        let size = words::size_of(i);
+        if (flags != slot) | (field != 0) | (rest.len() < size) | (size == 0) {
+            return None;
+        }
+        message.join(&words::payload(rest, 0, len)[..len.min(255)])?;
+        rest = &rest[size..];
+    }
+    Some(message)
 }
 
 // A message posted, of the words that were kept for it.
-pub fn post(s: Station, c: Control, words: &[u32], queue: &mut [u8; 126976]) -> Answered {
-    let m = least(c.words, words.len());
-    let mine = &words[..m];
-    let slot = post_slot(mine);
-    let mut message = [0u8; 2300];
-    let n = message_of(mine, slot, &mut message);
-    if (255 < slot) | (2300 < n) {
-        return malformed(s);
-    }
-    posted_of(s, (slot % 256) as u8, &message, n, queue)
-}
-
-// A reception of the words that were kept for it.
-pub fn receive(
-    s: Station,
-    c: Control,
-    words: &[u32],
-    lent: &mut [u8],
-    out: &mut [u32; 8192],
-) -> Heard {
-    let m = least(c.words, words.len());
-    let z = store_of(c.cells, lent.len());
-    station::receive(s, &words[..m], c.level, c.now, &mut lent[..z], out)
-}
-
-fn is_refused(a: Answer) -> bool {
-    match a {
-        Answer::Refused(_) => true,
-        Answer::Words(_) => false,
+pub fn post(s: Station, memory: &mut Memory) -> Answered {
+    let words = memory.words.as_slice();
+    let Some(slot) = post_slot(words) else {
+        return malformed(&s);
+    };
+    match message_of(words, slot) {
+        Some(m) => station::post(s, (slot % 256) as u8, &m.bytes[..m.len], &mut memory.queue),
+        None => malformed(&s),
     }
 }
 
 // The queue of the boat in a slot as if the boat had reported all that can be posted to it.
 fn reported(mut s: Station, slot: u8) -> Station {
     let i = net::index(slot);
-    let q = s.queues[i];
-    let k = queue::reported_to(q, 16777215);
-    s.queues[i] = k;
+    s.queues[i] = queue::reported_to(s.queues[i], 16777215);
     s
 }
 
 // So often as bits 27-16 say, a message of 2,046 zeros is posted to the boat in the slot of bits 15-8 and taken as reported by it. The first refusal ends it.
-pub fn fill(s: Station, w: u32, queue: &mut [u8; 126976]) -> Answered {
+#[inline(never)]
+pub fn fill(s: &Station, w: u32, queue: &mut [u8; 126976]) -> Answered {
     let rest = action::rest_of(w);
     let slot = (rest / 16 % 256) as u8;
-    let zeros = [0u8; 2300];
-    let mut u = s;
+    let mut u = *s;
     for _ in 0..rest / 4096 {
-        let r = posted_of(u, slot, &zeros, 2046, queue);
-        let a = r.answer;
-        if is_refused(a) {
+        let r = station::post(u, slot, &[0; 2046], queue);
+        if matches!(r.answer, Answer::Refused(_)) {
             return r;
         }
         u = reported(r.station, slot);
@@ -378,100 +231,60 @@ pub fn fill(s: Station, w: u32, queue: &mut [u8; 126976]) -> Answered {
     }
 }
 
-// A reception's answer printed, and the command closed.
-pub fn heard(
-    c: Control,
-    a: Answer,
-    mask: u64,
-    to: Stdout,
-    t: &mut [u8; 65536],
-    out: &[u32; 8192],
-) -> Control
-    ensures { Said t.old (closed c) (heard_by c.drive out.now mask a) t.new result }
-{
-    match a {
-        Answer::Refused(n) => print::word(to, t, action::closed(c), n as u32),
-        Answer::Words(n) => print::heard(to, t, action::closed(c), out, n, mask),
-    }
+// ---- receptions
+
+// A reception of the words that were kept for it.
+pub fn receive(s: Station, c: Control, memory: &mut Memory) -> Heard {
+    let store = &mut memory.store[..];
+    let z = store_of(c.cells, store.len());
+    let words = memory.words.as_slice();
+    station::receive(s, words, c.level, c.now, &mut store[..z], &mut memory.out)
 }
 
-// The dues of the figures that were kept for them, printed, and the command closed.
-pub fn charged(s: Station, c: Control, words: &[u32], to: Stdout, t: &mut [u8; 65536]) -> Control {
-    let m = least(c.words, words.len());
-    panel::billed(s, c, &words[..m], to, t)
-}
+// ---- direct admissions and starts
 
-fn admit(s: Station, words: &[u32], now: f64, out: &mut [u32; 8192]) -> Answered {
-    let flags = flags_of(words, 3);
-    if 255 < flags {
+// A direct admission, of the words that were kept for it.
+pub fn admit(s: &Station, c: Control, words: &[u32], out: &mut [u32; 8192]) -> Answered {
+    let Some(flags) = flags_of(words, Command::Admit) else {
         return malformed(s);
-    }
+    };
     let b = words::five(words, 0, 0);
-    station::admit(s, b, (flags % 256) as u8, now, out)
+    station::admit(*s, b, (flags % 256) as u8, c.now, out)
 }
 
-// A fresh start.
-fn start(
-    s: Station,
-    words: &[u32],
-    lent: &[u8],
-    held: &[f64; 1088],
-    payloads: &[u8; 17],
-) -> Answered {
+// A fresh start, of the words that were kept for it.
+pub fn start(s: &Station, memory: &Memory) -> Answered {
+    let words = memory.words.as_slice();
     let p = words::payload(words, 0, 199);
-    if (255 < flags_of(words, 8)) | given::has_nan(&p) {
+    if flags_of(words, Command::Start).is_none() || given::has_nan(&p) {
         return malformed(s);
     }
-    let z = store_of(given::lent_cells(&p), lent.len());
-    station::start(s, given::given(&p, held, payloads), &lent[..z])
-}
-
-// A direct admission or a start, of the words that were kept for it.
-pub fn finish(
-    s: Station,
-    c: Control,
-    words: &[u32],
-    lent: &[u8],
-    held: &[f64; 1088],
-    payloads: &[u8; 17],
-    out: &mut [u32; 8192],
-) -> Answered {
-    let m = least(c.words, words.len());
-    let mine = &words[..m];
-    if c.command == 3 {
-        return admit(s, mine, c.now, out);
-    }
-    start(s, mine, lent, held, payloads)
+    let z = store_of(given::lent_cells(&p), memory.store.len());
+    let g = given::given(&p, &memory.times, &memory.payloads);
+    station::start(*s, g, &memory.store[..z])
 }
 
 // A start that was not refused: so many cells are lent from here on.
 fn kept(c: Control, words: &[u32]) -> Control
     ensures { result ≡ kept_by c words.now }
 {
-    let mut k = c;
-    if c.command == 8 {
+    if c.command == Some(Command::Start) {
         let p = words::payload(words, 0, 255);
-        k.cells = given::lent_cells(&p);
+        Control {
+            cells: given::lent_cells(&p),
+            ..c
+        }
+    } else {
+        c
     }
-    k
 }
 
-// The answer to an admission or a start printed, and the command closed.
-pub fn settled(
-    c: Control,
-    words: &[u32],
-    a: Answer,
-    to: Stdout,
-    t: &mut [u8; 65536],
-    out: &[u32; 8192],
-) -> Control
-    ensures { Said t.old (closed (settled_by c words.now a)) (answer_lines out.now a) t.new result }
+// What is held once an admission or a start was answered: the command is closed.
+pub fn settled(c: Control, words: &[u32], a: Answer) -> Control
+    ensures { result ≡ closed (settled_by c words.now a) }
 {
     match a {
-        Answer::Refused(n) => print::word(to, t, action::closed(c), n as u32),
-        Answer::Words(n) => {
-            let k = kept(c, words);
-            print::all(to, t, action::closed(k), out, n)
-        }
+        Answer::Refused(_) => action::closed(c),
+        Answer::Words(_) => action::closed(kept(c, words)),
     }
 }

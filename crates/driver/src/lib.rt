@@ -1,251 +1,204 @@
 // What the programs `tape` (document 01, Words), `drive` and `panel` share: words in, the station's entry points, lines out.
 #![tactic(auto)]
 
-ghost use Rattle.std.specs.Prelude.{◌<◌};
-
+use memory::{Memory, Words};
 use net::Station;
+use page::Page;
 use script::action;
-use script::action::{Action, Control};
+use script::action::{Action, Command, Control};
 use station::Answer;
 use std::io::{Stdin, Stdout};
 
 mod command;
 mod dump;
+mod memory;
+mod page;
 mod panel;
-mod print;
 
-fn wide(x: u8) -> u32
-    ensures { result < 256 }
-{
-    x as u32
+// What a run of a program holds beside the station: the program's own values, what is lent and kept, and the text.
+#[derive(Drop)]
+pub struct Session {
+    control: Control,
+    memory: Memory,
+    page: Page,
 }
 
-// Word i of b, highest byte first; 0 past the end.
+// Word i of b, highest byte first. The end of all words is read as a word of kind 14: it ends an open command, and nothing comes after the clock that it sets.
 fn word_at(b: &[u8], i: usize) -> u32 {
     if b.len() / 4 <= i {
-        return 0;
+        return 0xe000_0000;
     }
     let j = 4 * i;
-    wide(b[j]) * 16777216 + wide(b[j + 1]) * 65536 + wide(b[j + 2]) * 256 + wide(b[j + 3])
+    u32::from_be_bytes([b[j], b[j + 1], b[j + 2], b[j + 3]])
 }
 
-// Keeps a word of the open command. (A burst has 5,569 words at most; words past the 8,192nd make no malformed one well formed.)
-fn push(c: Control, words: &mut [u32; 8192], w: u32) -> Control {
-    let mut k = c;
-    let n = c.words;
-    if n < 8192 {
-        words[n] = w;
-        k.words = n + 1;
-    }
-    k
-}
-
-// What asks nothing of the station.
-fn aside(
-    c: Control,
-    a: Action,
-    w: u32,
-    words: &mut [u32; 8192],
-    to: Stdout,
-    t: &mut [u8; 65536],
-) -> Control {
-    match a {
-        Action::Push => push(c, words, w),
-        Action::Open(n) => action::opened(c, n),
-        Action::Time => action::timed(c, w),
-        Action::Level => action::leveled(c, w),
-        Action::Bad => print::word(to, t, c, 3),
-        Action::Next => c,
-        Action::Sent => c,
-        Action::Close => c,
-        Action::Read => c,
-        Action::Free => c,
-        Action::Roster => c,
-        Action::SignOff => c,
-        Action::Ask => c,
-        Action::Fill => c,
-    }
-}
-
-// The station and the program's own values.
-#[derive(Clone, Copy)]
-pub struct Ran {
-    pub station: Station,
-    pub control: Control,
-}
-
-// How many words are run: n, but no more than b has, and one more at the end of all.
-fn end_of(b: &[u8], n: usize, last: bool) -> usize {
-    if b.len() <= n {
-        return b.len();
-    }
-    if last { n + 1 } else { n }
-}
-
-// The end of all words is read as a word of kind 14: it ends an open command, and nothing comes after the clock that it sets.
-fn word_or_end(b: &[u8], i: usize, n: usize) -> u32 {
-    if i < n {
-        return word_at(b, i);
-    }
-    0xe000_0000
-}
-
-// The first n words of b, and the end of all words where `last`. Each entry point is called here, where the station is held: a call between would copy it.
-pub fn feed(
-    mut u: Station,
-    mut k: Control,
-    b: &[u8],
-    n: usize,
-    last: bool,
-    lent: &mut [u8; 409600],
-    held: &mut [f64; 1088],
-    payloads: &mut [u8; 17],
-    queue: &mut [u8; 126976],
-    words: &mut [u32; 8192],
-    out: &mut [u32; 8192],
-    to: Stdout,
-    t: &mut [u8; 65536],
-) -> Ran {
-    let end = end_of(b, n, last);
-    for i in 0..end {
-        let w = word_or_end(b, i, n);
-        k = command::setting(k, w, words, held, payloads, to, t);
-        if action::ends_burst(w, k) {
-            let r = command::receive(u, k, words, lent, out);
-            let h = r.answer;
-            u = r.station;
-            k = command::heard(k, h, r.mask, to, t, out);
-        } else if action::ends_post(w, k) {
-            let r = command::post(u, k, words, queue);
-            let h = r.answer;
-            u = r.station;
-            k = print::answer(to, t, action::closed(k), out, h);
-        } else if action::ends_figures(w, k) {
-            k = command::charged(u, k, words, to, t);
-        } else if action::ends(w, k) {
-            let r = command::finish(u, k, words, lent, held, payloads, out);
-            let h = r.answer;
-            u = r.station;
-            k = command::settled(k, words, h, to, t, out);
+impl Session {
+    // The words of b, and the end of all words where `last`. The entry points that run most are called here, where the station is held: a function clears the
+    // places of its own values when it begins, and a call between would copy the station. Shorter forms were tried and are slower (decision 26 of docs/DECISIONS.md).
+    pub fn feed(&mut self, s: Station, b: &[u8], last: bool) -> Station {
+        let mut u = s;
+        for i in 0..b.len() / 4 + usize::from(last) {
+            let w = word_at(b, i);
+            match action::ended(w, self.control) {
+                Some(Command::Receive) => {
+                    let r = command::receive(u, self.control, &mut self.memory);
+                    u = r.station;
+                    self.received(r.mask, r.answer);
+                }
+                Some(Command::Post) => {
+                    let r = command::post(u, &mut self.memory);
+                    u = r.station;
+                    self.posted(r.answer);
+                }
+                Some(command) => self.finish(&mut u, command),
+                None => {}
+            }
+            let m = &mut self.memory;
+            match action::action_of(w, self.control) {
+                Action::Next => {
+                    let r = station::next(u, self.control.now, &m.queue, &mut m.out);
+                    u = r.station;
+                    self.page.answer(&m.out, r.answer);
+                }
+                Action::Sent => {
+                    let r = station::sent(u, self.control.now);
+                    u = r.station;
+                    self.page.answer(&m.out, r.answer);
+                }
+                Action::Free => {
+                    let r = station::free(u, action::rest_of(w) as usize);
+                    u = r.station;
+                    self.page.answer(&m.out, r.answer);
+                }
+                Action::SignOff => {
+                    let r = station::sign_off(u, action::slot_of(w));
+                    u = r.station;
+                    self.page.answer(&m.out, r.answer);
+                }
+                a => self.aside(&mut u, a, w),
+            }
         }
-        let a = action::action_of(w, k);
-        if let Action::Next = a {
-            let r = station::next(u, k.now, queue, out);
-            let h = r.answer;
-            u = r.station;
-            k = print::answer(to, t, k, out, h);
-        } else if let Action::Sent = a {
-            let r = station::sent(u, k.now);
-            let h = r.answer;
-            u = r.station;
-            k = print::answer(to, t, k, out, h);
-        } else if let Action::Free = a {
-            let r = station::free(u, action::rest_of(w) as usize);
-            let h = r.answer;
-            u = r.station;
-            k = print::answer(to, t, k, out, h);
-        } else if let Action::Close = a {
-            let r = station::close(u, action::rest_of(w));
-            let h = r.answer;
-            u = r.station;
-            k = print::answer(to, t, k, out, h);
-        } else if let Action::SignOff = a {
-            let r = station::sign_off(u, action::slot_of(w));
-            let h = r.answer;
-            u = r.station;
-            k = print::answer(to, t, k, out, h);
-        } else if let Action::Fill = a {
-            let r = command::fill(u, w, queue);
-            let h = r.answer;
-            u = r.station;
-            k = print::answer(to, t, k, out, h);
-        } else if action::is_shown(a) {
-            k = command::shown(u, k, a, w, lent, to, t);
+        u
+    }
+
+    // The closing, and the filling of a queue, which run seldom.
+    #[inline(never)]
+    fn seldom(&mut self, u: &mut Station, a: Action, w: u32) {
+        let r = if a == Action::Close {
+            station::close(*u, action::rest_of(w))
         } else {
-            k = aside(k, a, w, words, to, t);
+            command::fill(u, w, &mut self.memory.queue)
+        };
+        *u = r.station;
+        self.page.answer(&self.memory.out, r.answer);
+    }
+
+    // What leaves the station as it is, and what runs seldom.
+    fn aside(&mut self, u: &mut Station, a: Action, w: u32) {
+        match a {
+            Action::Push => self.memory.words.push(w),
+            Action::Open(command) => {
+                self.memory.words.clear();
+                self.control = action::opened(self.control, command);
+            }
+            Action::Time => self.control = action::timed(self.control, w),
+            Action::Level => self.control = action::leveled(self.control, w),
+            Action::Read => {
+                command::read(u, self.control, w, &self.memory.store, &mut self.page)
+            }
+            Action::Roster => dump::roster(u, &mut self.page),
+            Action::Ask => panel::asked(u, w, self.control.now, &mut self.page),
+            Action::Close | Action::Fill => self.seldom(u, a, w),
+            _ => self.page.word(3),
         }
     }
-    Ran {
-        station: u,
-        control: k,
-    }
-}
 
-// A last word that was cut short is malformed.
-fn cut_short(c: Control, cut: bool, to: Stdout, t: &mut [u8; 65536]) -> Control {
-    if cut {
-        return print::word(to, t, c, 3);
+    fn received(&mut self, mask: u64, a: Answer) {
+        let drive = self.control.drive;
+        self.page.heard(drive, &self.memory.out, mask, a);
+        self.control = action::closed(self.control);
     }
-    c
-}
 
-// Standard input to its end, at most 2^64 - 1 parts of 65,536 bytes.
-fn read_all(
-    from: Stdin,
-    s: Station,
-    c: Control,
-    lent: &mut [u8; 409600],
-    to: Stdout,
-    t: &mut [u8; 65536],
-) -> Control {
-    let mut words = [0u32; 8192];
-    let mut out = [0u32; 8192];
-    let mut queue = [0u8; 126976];
-    let mut held = [1.0f64; 1088];
-    let mut payloads = preset::payloads();
-    let mut b = [0u8; 65536];
-    let mut u = s;
-    let mut k = c;
-    for _ in 0..u64::MAX {
-        let n = text::read_full(from, &mut b);
-        let r = feed(
-            u,
-            k,
-            &b,
-            n / 4,
-            n < 65536,
-            lent,
-            &mut held,
-            &mut payloads,
-            &mut queue,
-            &mut words,
-            &mut out,
-            to,
-            t,
-        );
-        u = r.station;
-        k = r.control;
-        if n < 65536 {
-            return cut_short(k, n % 4 != 0, to, t);
+    fn posted(&mut self, a: Answer) {
+        self.page.answer(&self.memory.out, a);
+        self.control = action::closed(self.control);
+    }
+
+    // The open command, all of whose words are there: one of those that run seldom.
+    #[inline(never)]
+    fn finish(&mut self, u: &mut Station, command: Command) {
+        match command {
+            Command::Admit | Command::Start => self.settle(u, command),
+            Command::Dues => {
+                panel::billed(u, self.memory.words.as_slice(), &mut self.page);
+                self.control = action::closed(self.control);
+            }
+            _ => {
+                self.control = command::setting(
+                    self.control,
+                    command,
+                    &mut self.memory,
+                    &mut self.page,
+                );
+            }
         }
     }
-    k
+
+    // A direct admission or a start.
+    fn settle(&mut self, u: &mut Station, command: Command) {
+        let m = &mut self.memory;
+        let r = if command == Command::Admit {
+            command::admit(u, self.control, m.words.as_slice(), &mut m.out)
+        } else {
+            command::start(u, m)
+        };
+        *u = r.station;
+        self.page.answer(&m.out, r.answer);
+        self.control = command::settled(self.control, m.words.as_slice(), r.answer);
+    }
+
+    // Standard input to its end, at most 2^64 - 1 parts of 65,536 bytes. A last word that was cut short is malformed.
+    fn read_all(&mut self, s: Station, from: Stdin) {
+        let mut b = [0u8; 65536];
+        let mut u = s;
+        for _ in 0..u64::MAX {
+            let n = text::read_full(from, &mut b);
+            u = self.feed(u, &b[..n], n < 65536);
+            if n < 65536 {
+                if n % 4 != 0 {
+                    self.page.word(3);
+                }
+                return;
+            }
+        }
+    }
 }
 
 // The program `tape`, or `drive`, or `panel`, which takes all of `drive`'s commands, with the settings of `tape`. Were its first start refused, that alone would be printed.
 pub fn run(from: Stdin, to: Stdout, drive: bool, panel: bool) {
-    let mut lent = [0u8; 409600];
-    let mut t = [0u8; 65536];
-    let g = preset::tape_settings();
-    let r = station::start(preset::blank(), g, &lent[..64000]);
-    let s = r.station;
-    let a = r.answer;
-    let c = action::first_control(drive, panel);
-    let k = begun(from, s, c, a, &mut lent, to, &mut t);
-    text::flush(to, &t, k.end);
-}
-
-fn begun(
-    from: Stdin,
-    s: Station,
-    c: Control,
-    a: Answer,
-    lent: &mut [u8; 409600],
-    to: Stdout,
-    t: &mut [u8; 65536],
-) -> Control {
-    match a {
-        Answer::Refused(n) => print::word(to, t, c, n as u32),
-        Answer::Words(_) => read_all(from, s, c, lent, to, t),
+    let r = station::start(preset::blank(), preset::tape_settings(), &[0; 64000]);
+    let mut s = Session {
+        control: action::first_control(drive, panel),
+        memory: Memory {
+            store: [0; 409600],
+            queue: [0; 126976],
+            out: [0; 8192],
+            words: Words {
+                words: [0; 8192],
+                len: 0,
+            },
+            times: [1.0; 1088],
+            payloads: preset::payloads(),
+        },
+        page: Page {
+            to,
+            text: [0; 65536],
+            end: 0,
+        },
+    };
+    match r.answer {
+        Answer::Refused(n) => s.page.word(n as u32),
+        Answer::Words(_) => s.read_all(r.station, from),
     }
+    s.page.flush();
 }

@@ -2,7 +2,7 @@
 -- Assumes nothing.
 use mathlib.Core.Path.{◌≡◌}
 use mathlib.Core.Bool.{Bool, true, false, cond}
-use Prim.Native.Nat.{ℕ, ◌+◌, ◌-◌, ◌*◌, ◌/◌, ◌%◌, ◌≤◌, min}
+use Prim.Native.Nat.{ℕ, ◌+◌, ◌-◌, ◌*◌, ◌≤◌, min}
 use native.Mathlib.Nat.{min-eq_left, min-eq_right}
 use native.Mathlib.Omega.{arith}
 use mathlib.Core.Logic.{⊎_elim}
@@ -16,15 +16,6 @@ less_tenth cents = omega arith
 
 pub whole : (cents : ℕ) → cents ≡ tenth_of cents + nine_tenths cents
 whole cents = omega arith
-
--- how many times 256 bytes are started, whole ones and one begun
-pub started_whole : (n : ℕ) → n % 256 ≡ 0 → n / 256 ≡ started256 n
-unfolding started256
-started_whole n e = omega arith
-
-pub started_begun : (n : ℕ) → (n % 256 ≡ 0 → ⊥) → n / 256 + 1 ≡ started256 n
-unfolding started256
-started_begun n e = omega arith
 
 started_most : (n k : ℕ) → n ≤ 256 * k → started256 n ≤ k
 unfolding started256

@@ -1,10 +1,12 @@
 -- The lines of the slots as a loop fills them in, boat by boat, and the most that they come to. Assumes nothing.
 use mathlib.Core.Path.{◌≡◌, refl, sym, ap, ◌∙◌}
-use mathlib.Core.Bool.{Bool, true, false, cond}
-use mathlib.Core.List.{List}
+use mathlib.Core.Bool.{Bool, true, false, cond, ◌&&◌}
+use mathlib.Core.List.{List, [], ◌∷◌}
 use mathlib.Core.Logic.{⊎_elim}
-use Prim.Native.Nat.{ℕ, ◌+◌, ◌-◌, ◌*◌, ◌/◌, ◌≤◌, ◌<◌}
+use Prim.Native.Nat.{ℕ, zero, suc, ◌+◌, ◌-◌, ◌*◌, ◌/◌, ◌≤◌, ◌<◌}
 use native.Mathlib.Omega.{arith}
+use Rattle.std.specs.Prelude.{Ok}
+use Rattle.std.specs.List.{list_all}
 use lib.Dec.{eqb, leb}
 use lib.ListN.{length, get_or, set, replicate, length-set, get_or-replicate}
 use lib.Seq.{get_or-set_same, get_or-set_other}
@@ -17,9 +19,23 @@ use Rattle.net.specs.declared.Station.{Station}
 use Rattle.net.specs.State.{index_of}
 use Rattle.net.specs.Net.{is_member}
 use Rattle.net.proofs.Laws.{index_lt, index_is, member_none}
-use Rattle.dues.specs.Dues.{slots_from, per_slot, total, charge_at, relay_of, credit_from, credit_of, tenth_to, taking_by, taking_of, takings_of, figures_ok, dues_of}
+use Rattle.dues.specs.Dues.{slots_from, per_slot, total, charge_at, relay_of, credit_from, credit_of, tenth_to, taking_by, taking_of, takings_of, figures_ok, bill_of, dues_of}
 use Rattle.dues.proofs.Cents.{slot_most}
 use Rattle.dues.proofs.Sums.{slots_are, sum_turn, sum_end, sum_most}
+
+-- ---- the figures
+
+-- a test of each of n places, counted from the next place on
+every_next : (p q : ℕ → Bool) (n i : ℕ) → ((j : ℕ) → p (suc j) ≡ q j) → every p n (suc i) ≡ every q n i
+unfolding every
+every_next p q zero i e = refl
+every_next p q (suc n) i e = rw (e i, every_next p q n (suc i) e)
+
+-- of each place is of each figure
+pub every_one : (p : ℕ → Bool) (l : List ℕ) → every (λ i. p (get_or l i 0)) (length l) 0 ≡ list_all p l
+unfolding every
+every_one p [] = refl
+every_one p (x ∷ l) = ap (λ (b : Bool). p x && b) (every_next _ (λ i. p (get_or l i 0)) (length l) 0 (λ j. refl) ∙ every_one p l)
 
 -- ---- one credit
 
@@ -126,8 +142,8 @@ module _ (s : Station) (figures charges credits : List ℕ) (takings i : ℕ) (h
 
 pub reckoned_end : (s : Station) (figures charges credits : List ℕ) (takings i : ℕ) → 62 ≤ i → figures_ok figures ≡ true
     → Reckoned s figures charges credits takings i
-    → record { refusal = 0; charges = charges; credits = credits; takings = takings } ≡ dues_of s figures
-unfolding dues_of
+    → Ok (record { charges = charges; credits = credits; takings = takings }) ≡ dues_of s figures
+unfolding dues_of bill_of
 reckoned_end s figures charges credits takings i h ok g =
     let a = slots_are (charge_at s figures) charges g.slots (λ j q. g.charged j (omega arith)) in
     let b = slots_are (credit_of s figures) credits g.lines (λ r q. last r (g.credited r q)) in

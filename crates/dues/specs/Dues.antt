@@ -1,6 +1,8 @@
 -- Airtime dues: what each slot is charged and credited in cents, and what the port takes, from the month's bytes.
 -- `figures` are the bytes landed in the month, one figure for each of the 62 slots. A boat's relay is a slot, and 63 is none.
-use Rattle.std.specs.Prelude.{ℕ, zero, suc, ◌+◌, ◌-◌, ◌*◌, ◌/◌, min, Bool, cond, ◌&&◌, List, [], ◌∷◌, eqb, leb, length, get_or, replicate}
+use Rattle.std.specs.Prelude.{ℕ, zero, suc, ◌+◌, ◌-◌, ◌*◌, ◌/◌, min, Bool, cond, ◌&&◌, List, [], ◌∷◌, eqb, leb, length, get_or, Result, Ok, Err}
+use Rattle.refusal.specs.declared.Refusal.{Refusal}
+use Rattle.refusal.specs.declared.Refusal.TheVariants.{Figures}
 use Rattle.bits.specs.Loop.{every}
 use Rattle.net.specs.declared.Station.{Station}
 use Rattle.net.specs.State.{member_at}
@@ -89,13 +91,11 @@ figures_ok figures = eqb (length figures) 62 && every (λ i. leb (get_or figures
 abbrev pub dues_refusal : List ℕ → ℕ
 dues_refusal figures = cond (figures_ok figures) 0 26
 
--- a refusal's number alone
-abbrev pub no_bill : ℕ → Bill
-no_bill refusal = record { refusal = refusal; charges = replicate 62 0; credits = replicate 62 0; takings = 0 }
+-- each slot's charge and credit, and the takings
+unfoldable pub bill_of : Station → List ℕ → Bill
+bill_of s figures =
+    record { charges = per_slot (charge_at s figures); credits = per_slot (credit_of s figures); takings = takings_of s figures }
 
--- the refusal, each slot's charge and credit, and the takings
-unfoldable pub dues_of : Station → List ℕ → Bill
-dues_of s figures =
-    cond (eqb (dues_refusal figures) 0)
-    (record { refusal = 0; charges = per_slot (charge_at s figures); credits = per_slot (credit_of s figures); takings = takings_of s figures })
-    (no_bill (dues_refusal figures))
+-- the bill, or the refusal of that number (law `refusal_said`)
+unfoldable pub dues_of : Station → List ℕ → Result Bill Refusal
+dues_of s figures = cond (eqb (dues_refusal figures) 0) (Ok (bill_of s figures)) (Err Figures)

@@ -2,47 +2,45 @@
 // rest is the port's. The station is only read.
 #![tactic(auto)]
 
-ghost use Rattle.std.specs.Prelude.{◌≡◌};
-ghost use Rattle.dues.specs.Dues.{started256, charge_of, charge_by, tenth_of, tenth_to, taking_by, figures_ok, no_bill, dues_of};
+ghost use Rattle.std.specs.Prelude.{◌≡◌, leb};
+ghost use Rattle.std.specs.List.{list_all};
+ghost use Rattle.dues.specs.Dues.{started256, charge_of, charge_by, tenth_of, tenth_to, taking_by, figures_ok, dues_of};
 
 use net::Station;
+use refusal::Refusal;
 
-// The answer: each slot's charge and credit, an empty one's 0, and the port's takings.
+// Each slot's charge and credit, an empty one's 0, and the port's takings; two arrays, as C has them.
 #[derive(Clone, Copy)]
 pub struct Bill {
-    pub refusal: u8,
     pub charges: [u32; 62],
     pub credits: [u32; 62],
     pub takings: u64,
 }
 
 // The month's dues: `figures` are the bytes landed, one for each slot.
-pub fn dues(s: Station, figures: &[u32]) -> Bill
+pub fn dues(s: Station, figures: &[u32]) -> Result<Bill, Refusal>
     ensures { result ≡ dues_of s figures.now }
 {
     if !figures_ok(figures) {
-        return no_bill(26);
+        return Err(Refusal::Figures);
     }
     let mut charges = [0u32; 62];
     let mut credits = [0u32; 62];
     let mut takings: u64 = 0;
-    let mut i: usize = 0;
-    while i < 62 {
+    for i in 0..62 {
         let m = s.members[i];
         let relay = m.via;
         let cents = charge_in(s.used, i as u8, figures[i]);
         let v = net::index(relay);
         charges[i] = cents;
-        credits[v] = credits[v] + tenth_to(s.used, relay, cents);
-        takings = takings + taking(relay, cents) as u64;
-        i += 1;
+        credits[v] += tenth_to(s.used, relay, cents);
+        takings += taking(relay, cents) as u64;
     }
-    Bill {
-        refusal: 0,
-        charges: charges,
-        credits: credits,
-        takings: takings,
-    }
+    Ok(Bill {
+        charges,
+        credits,
+        takings,
+    })
 }
 
 // There are 62 figures, none above 1,000,000,000.
@@ -52,27 +50,14 @@ fn figures_ok(figures: &[u32]) -> bool
     if figures.len() != 62 {
         return false;
     }
-    let mut i: usize = 0;
-    while i < 62 {
-        if 1000000000 < figures[i] {
-            return false;
-        }
-        i += 1;
-    }
-    true
+    all_fit(figures)
 }
 
-// A refusal's number alone.
-fn no_bill(refusal: u8) -> Bill
-    ensures { result ≡ no_bill refusal }
+// None is above 1,000,000,000.
+fn all_fit(figures: &[u32]) -> bool
+    ensures { result ≡ list_all (λ n. leb n 1000000000) figures.now }
 {
-    let none = [0u32; 62];
-    Bill {
-        refusal: refusal,
-        charges: none,
-        credits: none,
-        takings: 0,
-    }
+    figures.iter().all(|n| *n <= 1000000000)
 }
 
 // An empty slot is charged nothing.
@@ -103,7 +88,7 @@ fn charge(n: u32) -> u32
 fn started(n: u32) -> u32
     ensures { result ≡ started256 n }
 {
-    if n % 256 == 0 { n / 256 } else { n / 256 + 1 }
+    n.div_ceil(256)
 }
 
 // What the relay is credited of a charge: an empty slot gets nothing, and 63 is no relay.

@@ -1,30 +1,36 @@
 // Calls and their numbers.
-use crate::print;
-use std::io::Stdout;
+use std::alloc::AllocError;
+use std::fmt;
 
-fn packed(to: Stdout, call: [u8; 7]) {
-    print::text(to, b"  \"");
-    print::text(to, &call);
-    print::text(to, b"\" is ");
-    print::number(to, wire::calls::number_of(call));
-    print::text(to, b"\n");
+// The seven characters of a call.
+#[derive(Clone, Copy, Debug, PartialEq, Eq)]
+pub struct Call(pub [u8; 7]);
+
+impl fmt::Display for Call {
+    fn fmt<W: fmt::Write>(&self, f: &mut fmt::Formatter<W>) -> fmt::Result {
+        for c in self.0 {
+            f.write_char(char::from(c))?;
+        }
+        Ok(())
+    }
 }
 
-fn read(to: Stdout, v: u64) {
-    print::text(to, b"  ");
-    print::number(to, v);
-    print::text(to, b" reads \"");
-    let call = wire::calls::unpack_number(v);
-    print::text(to, &call);
-    print::text(to, b"\"\n");
+fn packed(text: &mut String, call: [u8; 7]) -> Result<(), AllocError> {
+    let number = wire::calls::number_of(call);
+    writeln!(text, "  \"{}\" is {number}", Call(call))
 }
 
-pub fn p_calls(to: Stdout) {
-    print::text(to, b"Calls: document 01, P calls\n");
-    packed(to, [32, 32, 32, 32, 32, 32, 32]);
-    packed(to, [48, 32, 32, 32, 32, 32, 32]);
-    packed(to, [65, 32, 32, 32, 32, 32, 32]);
-    packed(to, [47, 47, 47, 47, 47, 47, 47]);
-    read(to, 114415582591);
-    read(to, 114415582592);
+fn read(text: &mut String, number: u64) -> Result<(), AllocError> {
+    let call = Call(wire::calls::unpack_number(number));
+    writeln!(text, "  {number} reads \"{call}\"")
+}
+
+pub fn p_calls(text: &mut String) -> Result<(), AllocError> {
+    writeln!(text, "Calls: document 01, P calls")?;
+    packed(text, *b"       ")?;
+    packed(text, *b"0      ")?;
+    packed(text, *b"A      ")?;
+    packed(text, *b"///////")?;
+    read(text, 114415582591)?;
+    read(text, 114415582592)
 }

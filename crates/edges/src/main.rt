@@ -3,18 +3,23 @@
 
 mod call;
 mod number;
-mod print;
 mod serial;
 mod short;
 
-fn main(rt: HostRuntime) {
-    let to = rt.stdout();
-    number::p_numbers(to);
-    number::ends(to);
-    call::p_calls(to);
-    short::calls(to);
-    serial::two_bits(to);
-    serial::eight_bits(to);
-    serial::pairs(to);
-    serial::sums(to);
+use std::alloc::AllocError;
+use std::io::Write;
+
+fn main(rt: HostRuntime) -> Result<(), AllocError> {
+    let mut text = String::new(rt.alloc());
+    number::p_numbers(&mut text)?;
+    number::ends(&mut text)?;
+    call::p_calls(&mut text)?;
+    short::calls(&mut text)?;
+    serial::two_bits(&mut text)?;
+    serial::eight_bits(&mut text)?;
+    serial::pairs(&mut text)?;
+    serial::sums(&mut text)?;
+    // What cannot be written is dropped.
+    let _ = rt.stdout().write_all(text.as_bytes());
+    Ok(())
 }

@@ -2,8 +2,10 @@
 ghost use Rattle.std.specs.Prelude.{◌≡◌, ◌+◌, ◌*◌, ◌%◌, ◌<◌};
 ghost use Rattle.wire.specs.Numbers.{serial_lt};
 
-use crate::{number, print};
-use std::io::Stdout;
+use crate::number::Widened;
+use std::alloc::AllocError;
+use std::cmp::Ordering;
+use std::fmt;
 
 // a is less than b.
 fn is_less(half: u8, a: u8, b: u8) -> bool
@@ -25,125 +27,134 @@ fn sum(half: u8, a: u8, n: u8) -> u32
     (a as u32 + n as u32) % (2 * half as u32)
 }
 
-fn compared(to: Stdout, half: u8, a: u8, b: u8) {
-    print::number(to, a as u64);
+// a against b; none where neither is less and they differ.
+fn order(half: u8, a: u8, b: u8) -> Option<Ordering> {
     if is_less(half, b, a) {
-        print::text(to, b" > ");
+        Some(Ordering::Greater)
     } else if is_less(half, a, b) {
-        print::text(to, b" < ");
+        Some(Ordering::Less)
     } else if a == b {
-        print::text(to, b" = ");
+        Some(Ordering::Equal)
     } else {
-        print::text(to, b" undefined against ");
+        None
     }
-    print::number(to, b as u64);
 }
 
-fn two(to: Stdout, a: u8, b: u8) {
-    print::text(to, b"  ");
-    compared(to, 2, a, b);
-    print::text(to, b"\n");
+// Two numbers with the sign between them.
+#[derive(Clone, Copy, Debug, PartialEq, Eq)]
+struct Compared {
+    half: u8,
+    a: u8,
+    b: u8,
 }
 
-pub fn two_bits(to: Stdout) {
-    print::text(to, b"Order: RFC 1982, section 5.1, SERIAL_BITS 2\n");
-    two(to, 1, 0);
-    two(to, 2, 1);
-    two(to, 3, 2);
-    two(to, 0, 3);
-    two(to, 2, 0);
-    two(to, 0, 2);
-    two(to, 1, 3);
-    two(to, 3, 1);
-    two(to, 3, 3);
+impl fmt::Display for Compared {
+    fn fmt<W: fmt::Write>(&self, f: &mut fmt::Formatter<W>) -> fmt::Result {
+        let sign = match order(self.half, self.a, self.b) {
+            Some(Ordering::Greater) => ">",
+            Some(Ordering::Less) => "<",
+            Some(Ordering::Equal) => "=",
+            None => "undefined against",
+        };
+        write!(f, "{} {sign} {}", self.a, self.b)
+    }
+}
+
+pub fn two_bits(text: &mut String) -> Result<(), AllocError> {
+    writeln!(text, "Order: RFC 1982, section 5.1, SERIAL_BITS 2")?;
+    for (a, b) in [
+        (1, 0),
+        (2, 1),
+        (3, 2),
+        (0, 3),
+        (2, 0),
+        (0, 2),
+        (1, 3),
+        (3, 1),
+        (3, 3),
+    ] {
+        writeln!(text, "  {}", Compared { half: 2, a, b })?;
+    }
+    Ok(())
 }
 
 // a against b, and what the station makes of a while it waits for a number whose eight bits are b.
-fn eight(to: Stdout, a: u8, b: u8) {
-    print::text(to, b"  ");
-    compared(to, 128, a, b);
-    let next = 256 + b as u32;
-    print::text(to, b"; on air ");
-    print::number(to, a as u64);
-    print::text(to, b", next ");
-    print::number(to, next as u64);
-    print::text(to, b": ");
-    number::widened(to, a, next);
-    print::text(to, b"\n");
+fn eight(text: &mut String, a: u8, b: u8) -> Result<(), AllocError> {
+    let next = 256 + u32::from(b);
+    let compared = Compared { half: 128, a, b };
+    let number = Widened { on_air: a, next };
+    writeln!(text, "  {compared}; on air {a}, next {next}: {number}")
 }
 
-pub fn eight_bits(to: Stdout) {
-    print::text(
-        to,
-        b"Order: RFC 1982, section 5.2, SERIAL_BITS 8, and message numbers\n",
-    );
-    eight(to, 1, 0);
-    eight(to, 44, 0);
-    eight(to, 100, 0);
-    eight(to, 100, 44);
-    eight(to, 200, 100);
-    eight(to, 255, 200);
-    eight(to, 0, 255);
-    eight(to, 100, 255);
-    eight(to, 0, 200);
-    eight(to, 44, 200);
-    eight(to, 100, 100);
+pub fn eight_bits(text: &mut String) -> Result<(), AllocError> {
+    writeln!(
+        text,
+        "Order: RFC 1982, section 5.2, SERIAL_BITS 8, and message numbers"
+    )?;
+    for (a, b) in [
+        (1, 0),
+        (44, 0),
+        (100, 0),
+        (100, 44),
+        (200, 100),
+        (255, 200),
+        (0, 255),
+        (100, 255),
+        (0, 200),
+        (44, 200),
+        (100, 100),
+    ] {
+        eight(text, a, b)?;
+    }
+    Ok(())
 }
 
 // The 128 pairs at distance 128, of which neither is less.
-pub fn pairs(to: Stdout) {
-    print::text(
-        to,
-        b"The same, the pairs 0 and 128 to 127 and 255, which it leaves undefined\n",
-    );
+pub fn pairs(text: &mut String) -> Result<(), AllocError> {
+    writeln!(
+        text,
+        "The same, the pairs 0 and 128 to 127 and 255, which it leaves undefined"
+    )?;
     for k in 0..128 {
-        eight(to, k, k + 128);
-        eight(to, k + 128, k);
+        eight(text, k, k + 128)?;
+        eight(text, k + 128, k)?;
     }
+    Ok(())
 }
 
-fn added(to: Stdout, half: u8, a: u8, n: u8)
+fn added(text: &mut String, half: u8, a: u8, n: u8) -> Result<(), AllocError>
     requires { 0 < half }
 {
-    print::text(to, b"  ");
-    print::number(to, a as u64);
-    print::text(to, b" + ");
-    print::number(to, n as u64);
-    print::text(to, b" = ");
-    print::number(to, sum(half, a, n) as u64);
-    print::text(to, b"\n");
+    let sum = sum(half, a, n);
+    writeln!(text, "  {a} + {n} = {sum}")
 }
 
-pub fn sums(to: Stdout) {
-    print::text(to, b"Sums: RFC 1982, section 5.1, SERIAL_BITS 2\n");
-    added(to, 2, 0, 1);
-    added(to, 2, 1, 1);
-    added(to, 2, 2, 1);
-    added(to, 2, 3, 1);
-    print::text(to, b"Sums: RFC 1982, section 5.2, SERIAL_BITS 8\n");
-    added(to, 128, 255, 1);
-    added(to, 128, 100, 100);
-    added(to, 128, 200, 100);
-    added_twice(to, 100, 100);
+pub fn sums(text: &mut String) -> Result<(), AllocError> {
+    writeln!(text, "Sums: RFC 1982, section 5.1, SERIAL_BITS 2")?;
+    for a in 0..4 {
+        added(text, 2, a, 1)?;
+    }
+    writeln!(text, "Sums: RFC 1982, section 5.2, SERIAL_BITS 8")?;
+    for (a, n) in [(255, 1), (100, 100), (200, 100)] {
+        added(text, 128, a, n)?;
+    }
+    added_twice(text, 100, 100)
 }
 
 // a + n, and then + n once more, each against a.
-fn added_twice(to: Stdout, a: u8, n: u8) {
+fn added_twice(text: &mut String, a: u8, n: u8) -> Result<(), AllocError> {
     let b = (sum(128, a, n) % 256) as u8;
     let c = (sum(128, b, n) % 256) as u8;
-    print::text(to, b"  ");
-    print::number(to, a as u64);
-    print::text(to, b" + ");
-    print::number(to, n as u64);
-    print::text(to, b" = ");
-    compared(to, 128, b, a);
-    print::text(to, b"\n  (");
-    print::number(to, a as u64);
-    print::text(to, b" + ");
-    print::number(to, n as u64);
-    print::text(to, b") + ");
-    print::number(to, n as u64);
-    print::text(to, b" = ");
-    compared(to, 128, c, a);
-    print::text(to, b"\n");
+    let once = Compared {
+        half: 128,
+        a: b,
+        b: a,
+    };
+    let twice = Compared {
+        half: 128,
+        a: c,
+        b: a,
+    };
+    writeln!(text, "  {a} + {n} = {once}")?;
+    writeln!(text, "  ({a} + {n}) + {n} = {twice}")
 }

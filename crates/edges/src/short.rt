@@ -1,56 +1,39 @@
 // The sheet of short calls.
-ghost use Rattle.std.specs.Prelude.{◌≡◌, ◌+◌, ◌≤◌, length};
+ghost use Rattle.std.specs.Prelude.{◌≡◌};
 ghost use Rattle.edges.specs.Filled.{filled};
 
-use crate::print;
-use std::io::Stdout;
+use crate::call::Call;
+use std::alloc::AllocError;
 
-// The bytes before the first that is 0.
+// The bytes before the first that is 0. (A loop: from a chain with `position` or `take_while` the check did not find that it counts what `filled` does.)
 fn filled(out: &[u8]) -> usize
     ensures { result ≡ filled out.now }
 {
-    let mut n = 0;
-    while n < out.len() {
-        if out[n] == 0 {
-            return n;
+    for (i, b) in out.iter().enumerate() {
+        if *b == 0 {
+            return i;
         }
-        n += 1;
     }
-    n
+    out.len()
 }
 
 // What an output gets.
-fn lent(to: Stdout, out: &mut [u8]) {
-    print::text(to, b"  ");
-    print::number(to, out.len() as u64);
-    print::text(to, b" bytes: ");
-    print::number(to, sheet::short_calls(out) as u64);
-    print::text(to, b", calls written: ");
-    print::number(to, (filled(out) / 7) as u64);
-    print::text(to, b"\n");
+fn lent(text: &mut String, out: &mut [u8]) -> Result<(), AllocError> {
+    let room = out.len();
+    let refusal = refusal::number_in(&sheet::short_calls(out));
+    let calls = filled(out) / 7;
+    writeln!(text, "  {room} bytes: {refusal}, calls written: {calls}")
 }
 
-// The seven bytes from `at` on.
-fn call(to: Stdout, out: &[u8], at: usize)
-    requires { at + 7 ≤ length out.now }
-{
-    print::text(to, b"  \"");
-    let end = at + 7;
-    print::text(to, &out[at..end]);
-    print::text(to, b"\"\n");
-}
-
-pub fn calls(to: Stdout) {
-    print::text(
-        to,
-        b"Short calls: the sheet, its first three and its last\n",
-    );
+pub fn calls(text: &mut String) -> Result<(), AllocError> {
+    writeln!(text, "Short calls: the sheet, its first three and its last")?;
     let mut small = [0u8; 9848];
-    lent(to, &mut small);
+    lent(text, &mut small)?;
     let mut out = [0u8; 9856];
-    lent(to, &mut out);
-    call(to, &out, 0);
-    call(to, &out, 7);
-    call(to, &out, 14);
-    call(to, &out, 9842);
+    lent(text, &mut out)?;
+    let (calls, _rest) = out.as_chunks::<7>();
+    for call in [calls[0], calls[1], calls[2], calls[1406]] {
+        writeln!(text, "  \"{}\"", Call(call))?;
+    }
+    Ok(())
 }

@@ -2,59 +2,49 @@
 #![tactic(auto)]
 
 mod burst;
+mod call;
+mod command;
+mod control;
 mod event;
 mod frame;
-mod input;
-mod line;
+mod lines;
 mod message;
+mod names;
+mod parts;
 mod roster;
-mod say;
-mod who;
+mod word;
 
-use line::State;
-use std::io::{Stdin, Stdout};
+use lines::Explainer;
+use std::alloc::Global;
+use std::io::{self, BufRead, BufReader, BufWriter, Write};
 
-fn byte_at(b: &[u8], i: usize) -> u8 {
-    if i < b.len() { b[i] } else { b'\n' }
-}
-
-// The first n bytes of b.
-fn feed(
-    s: State,
-    b: &[u8],
-    n: usize,
-    kept: &mut [u8; 8],
-    bytes: &mut [u8; 255],
-    who: &mut [u8; 441],
-    to: Stdout,
-    t: &mut [u8; 65536],
-) -> State {
-    let mut u = s;
-    for i in 0..n {
-        u = line::step(u, byte_at(b, i), kept, bytes, who, to, t);
-    }
-    u
-}
-
-// Standard input to its end, at most 2^64 - 1 parts of 65,536 bytes. A last line needs no line end.
-fn read_all(from: Stdin, to: Stdout, t: &mut [u8; 65536]) -> usize {
-    let mut kept = [0u8; 8];
-    let mut bytes = [0u8; 255];
-    let mut who = [0u8; 441];
-    let mut b = [0u8; 65536];
-    let mut s = line::first();
+// The whole input, line by line; what can't be written is dropped. A last line needs no line end: without one nothing is said of a frame that it leaves open.
+fn explain_all(alloc: Global, from: &mut impl BufRead, to: &mut impl Write) -> io::Result<()> {
+    let mut explainer = Explainer::new(alloc);
+    let mut line = Vec::new(alloc);
+    let mut said = Vec::new(alloc);
     for _ in 0..u64::MAX {
-        let n = text::read_full(from, &mut b);
-        s = feed(s, &b, n, &mut kept, &mut bytes, &mut who, to, t);
-        if n < 65536 {
-            return line::last(s, &kept, &mut bytes, &mut who, to, t);
+        said.clear();
+        if !text::read_line(from, &mut line)? {
+            explainer.cut(&mut said)?;
+            let _ = to.write_all(&said);
+            break;
+        }
+        let whole = line.strip_suffix(b"\n");
+        explainer.line(whole.unwrap_or(&line), &mut said)?;
+        let _ = to.write_all(&said);
+        if whole.is_none() {
+            break;
         }
     }
-    s.end
+    Ok(())
 }
 
-fn main(rt: HostRuntime) {
-    let mut t = [0u8; 65536];
-    let n = read_all(rt.stdin(), rt.stdout(), &mut t);
-    text::flush(rt.stdout(), &t, n);
+fn main(rt: HostRuntime) -> io::Result<()> {
+    let alloc = rt.alloc();
+    let mut from = BufReader::new(alloc, rt.reader())?;
+    let mut to = BufWriter::new(alloc, io::writer(&rt))?;
+    explain_all(alloc, &mut from, &mut to)?;
+    let _ = to.flush();
+    Ok(())
 }

@@ -9,9 +9,7 @@ use lib.ListN.{length, get_or, take, drop, replicate}
 use lib.Seq.{take_at}
 use Rattle.words.specs.Words.{peek_at, item_at, words_for, bytes_at, payload_at, payload}
 use Rattle.words.proofs.Read.{least_left, length_bytes, payload_take}
-use Rattle.words.specs.declared.Item.{Item}
 use Rattle.words.specs.declared.Item.TheVariants as item
-use Rattle.frames.specs.declared.Frame.{Frame}
 use Rattle.frames.specs.Code.Frames.{frame_of}
 
 -- ### Frames
@@ -36,7 +34,7 @@ frame_same a b n slot len size q r s = rw (q, r, s)
 
 -- the frame that is read: the low bytes of its parts are the parts
 pub frame_read : (l : List ℕ) (a b n slot len size : ℕ) → peek_at l ≡ item.Frame a b n
-    → slot ≡ a % 64 % 256 → len ≡ n % 256 → size ≡ words_for n
+    → slot ≡ a % 64 → len ≡ n % 256 → size ≡ words_for n
     → record { lost = false; ty = a / 64; slot = slot; field = b; len = len; size = 2 + size } ≡ frame_of (peek_at l)
 frame_read l a b n slot len size e q r s =
     let h = peek_bytes l a b n e in

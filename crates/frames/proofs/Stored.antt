@@ -1,4 +1,5 @@
 -- A boat's piece, put together: the stores of the code, one element at a time, are what `piece_frame` says. Assumes nothing.
+use Rattle.std.specs.Prelude.{Option, Some, None}
 use mathlib.Core.Path.{◌≡◌, refl}
 use mathlib.Core.Bool.{Bool, true, false, not, cond, ◌&&◌, ◌||◌}
 use mathlib.Core.List.{List, [], append-nil}
@@ -12,14 +13,10 @@ use borrow.Author.Tests.{ltb-true, ltb-false}
 use Rattle.bits.specs.Stop.{stop}
 use Rattle.bits.proofs.Stops.{stop_is, stop_at}
 use Rattle.bits.proofs.Lists.{le_or_lt}
-use Rattle.wire.specs.declared.number.Number.{Number}
-use Rattle.wire.specs.declared.number.Number.TheVariants.{Is, Before}
 use Rattle.wire.specs.Numbers.{widened}
 use Rattle.inbox.specs.declared.cell.Cell.{Cell}
 use Rattle.inbox.specs.declared.keep.Kept.{Kept}
 use Rattle.inbox.specs.declared.keep.Kept.TheVariants.{Needless, Yes, Late, Overlong, Long, NoCell, NoPlace}
-use Rattle.inbox.specs.declared.store.Landed.{Landed}
-use Rattle.inbox.specs.declared.store.Landed.TheVariants.{Bytes, NotYet}
 use Rattle.inbox.specs.Keeping.{kept_of, shorter_of, full_of}
 use Rattle.inbox.specs.Messages.{empty_cell, empty, shows_of}
 use Rattle.inbox.specs.Stores.{landed_of, in_cell}
@@ -96,9 +93,9 @@ module _ (w : Window) (here : Bool) (slot field : ℕ) (owners : List ℕ) (busy
   unfolding piece_of
   piece_keeps P none room = go (widened (field / 65536 % 256) w.next)
     where
-      go : (n : Number) → P (piece_by n w here slot field owners busy landed count).room
-      go Before = none
-      go (Is k) = by (not here || handed_of w k)
+      go : (n : Option ℕ) → P (piece_by n w here slot field owners busy landed count).room
+      go None = none
+      go (Some k) = by (not here || handed_of w k)
         where
           by : (t : Bool) → P (cond t (unwanted_of slot here) (record { slot = slot; here = here; wanted = true; barred = barred_of w k; number = k; offset = field % 65536; room = room_for owners busy landed count (owner_of slot k) })).room
           by true = none
@@ -148,7 +145,7 @@ module _ (a : Air) (slot : ℕ) (x : Reading) where
     -- a piece that changes no cell, and is not lost: its boat is heard
     heard_only : (k n : ℕ)
         → stored_piece a slot p (took (left_of cell Needless) x.store) x
-        ≡ kept_piece a slot (record { table = table_of x.station; window = (member_at x.station slot).up; store = x.store; lost = false; bars = false; landed = NotYet; cell = n; number = k }) x
+        ≡ kept_piece a slot (record { table = table_of x.station; window = (member_at x.station slot).up; store = x.store; lost = false; bars = false; landed = None; cell = n; number = k }) x
     heard_only k n =
         rw (
           c,
@@ -202,23 +199,23 @@ module _ (a : Air) (slot : ℕ) (x : Reading) where
         )
 
     -- a kept piece in its cell, and what lands with it
-    abbrev kept : Cell → List ℕ → Landed → Took
+    abbrev kept : Cell → List ℕ → Option ℕ → Took
     kept cell' store' l = took (record { cell = cell'; kept = Yes; landed = l }) store'
 
-    abbrev kept_as : Cell → List ℕ → Landed → Reading
+    abbrev kept_as : Cell → List ℕ → Option ℕ → Reading
     kept_as cell' store' l =
         kept_piece a slot (accepted (table_of x.station) (member_at x.station slot).up p.room slot p.number (kept cell' store' l)) x
 
     landed_by_lem : (cell' : Cell) (store' : List ℕ) (n : ℕ) (t : Bool) → not (eqb a.polled slot) && is_member x.station.used a.polled ≡ t
-        → stored_piece a slot p (kept cell' store' (Bytes n)) x ≡ kept_as cell' store' (Bytes n)
+        → stored_piece a slot p (kept cell' store' (Some n)) x ≡ kept_as cell' store' (Some n)
     landed_by_lem cell' store' n true e =
         rw (c, h, e, or_yes x.station.round.traffic, or_yes x.station.round.rxdirty, stop_add (heard_member a (member_at x.station slot) slot).bytesin n)
     landed_by_lem cell' store' n false e =
         rw (c, h, e, or_yes x.station.round.traffic, or_no x.station.round.rxdirty, stop_add (heard_member a (member_at x.station slot) slot).bytesin n)
 
-    kept_by_lem : (cell' : Cell) (store' : List ℕ) (l : Landed) → stored_piece a slot p (kept cell' store' l) x ≡ kept_as cell' store' l
-    kept_by_lem cell' store' NotYet = rw (c, h, or_no x.station.round.traffic, or_no x.station.round.rxdirty)
-    kept_by_lem cell' store' (Bytes n) =
+    kept_by_lem : (cell' : Cell) (store' : List ℕ) (l : Option ℕ) → stored_piece a slot p (kept cell' store' l) x ≡ kept_as cell' store' l
+    kept_by_lem cell' store' None = rw (c, h, or_no x.station.round.traffic, or_no x.station.round.rxdirty)
+    kept_by_lem cell' store' (Some n) =
         landed_by_lem cell' store' n (not (eqb a.polled slot) && is_member x.station.used a.polled) refl
 
     -- whatever the kept rule answers
@@ -244,16 +241,16 @@ pub piece_whole : (a : Air) (slot field : ℕ) (bytes : List ℕ) (x : Reading)
 unfolding piece_of piece_frame accept
 piece_whole a slot field bytes x = go (is_member x.station.used slot) (widened (field / 65536 % 256) (member_at x.station slot).up.next)
   where
-    piece_at : Number → Bool → Piece
+    piece_at : Option ℕ → Bool → Piece
     piece_at n here = piece_by n (member_at x.station slot).up here slot field x.station.owners x.station.busy x.station.landed x.station.count
 
-    go : (here : Bool) (n : Number)
+    go : (here : Bool) (n : Option ℕ)
         → stored_piece a slot (piece_at n here) (taken_of (piece_at n here) (get_or x.station.cells (place_of (piece_at n here).room) no_cell) bytes x.store) x
         ≡ cond here (taken_piece a slot (accept_by n (table_of x.station) (member_at x.station slot).up x.store slot (field % 65536) bytes) x) x
-    go false Before = still a slot x
-    go false (Is k) = still a slot x
-    go true Before = heard_only a slot x (unwanted_of slot true) refl refl 0 0
-    go true (Is k) = by (handed_of (member_at x.station slot).up k)
+    go false None = still a slot x
+    go false (Some k) = still a slot x
+    go true None = heard_only a slot x (unwanted_of slot true) refl refl 0 0
+    go true (Some k) = by (handed_of (member_at x.station slot).up k)
       where
         wanted : Piece
         wanted = record { slot = slot; here = true; wanted = true; barred = barred_of (member_at x.station slot).up k; number = k; offset = field % 65536; room = table_room (table_of x.station) slot k }

@@ -3,7 +3,6 @@ use Rattle.std.specs.Prelude.{ℕ, ◌+◌, ◌/◌, ◌%◌, Bool, true, false,
 use Rattle.bits.specs.Mask.{has_bit, with_bit}
 use Rattle.wire.specs.Kinds.{t_up, t_ctrl, c_checkin, c_report, c_overheard, c_kids}
 use Rattle.words.specs.Words.{Heard, lost, heard}
-use Rattle.words.specs.declared.Item.TheVariants as item
 use Rattle.frames.specs.declared.Air.{Air}
 use Rattle.frames.specs.Reading.{Reading, also_said}
 use Rattle.frames.specs.Pieces.{piece_frame}

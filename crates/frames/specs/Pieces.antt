@@ -1,10 +1,8 @@
 -- `ncs_rx` of ncs.rs, T_UP: a boat's piece, kept or not, and what lands. Messages that claim too much are document 02's, U4.
-use Rattle.std.specs.Prelude.{ℕ, ◌+◌, Bool, true, not, cond, ◌&&◌, List, [], ◌∷◌, ◌++◌, eqb, Float}
+use Rattle.std.specs.Prelude.{ℕ, Bool, true, not, cond, ◌&&◌, List, [], ◌∷◌, ◌++◌, eqb, Float, Option, Some, None, is_some}
 use Rattle.bits.specs.Mask.{has_bit, with_bit}
 use Rattle.out.specs.Encode.{event_word, message_word}
-use Rattle.inbox.specs.declared.store.Landed.{Landed}
-use Rattle.inbox.specs.declared.store.Landed.TheVariants.{Bytes, NotYet}
-use Rattle.stream.specs.Table.{Accepted, accept, bars, has_landed}
+use Rattle.stream.specs.Table.{Accepted, accept}
 use Rattle.roster.specs.declared.Member.{Member}
 use Rattle.roster.specs.Members.{with_heard, with_direct, landed_one, barred_one}
 use Rattle.net.specs.declared.Station.{Station}
@@ -21,9 +19,9 @@ direct_if given m snr = cond given (with_direct m snr) m
 abbrev pub is_aside_leaf : Air → Member → ℕ → Bool
 is_aside_leaf a m slot = a.aside && not (eqb m.via 63) && has_bit a.start slot
 
-abbrev pub size_of : Landed → ℕ
-size_of (Bytes n) = n
-size_of NotYet = 0
+abbrev pub size_of : Option ℕ → ℕ
+size_of (Some n) = n
+size_of None = 0
 
 -- the boat in `slot`, heard with a piece
 abbrev pub heard_member : Air → Member → ℕ → Member
@@ -32,15 +30,15 @@ heard_member a m slot = direct_if (is_aside_leaf a m slot) (with_heard m a.time)
 -- the boat of a piece that counts as heard
 abbrev pub piece_member : Air → Member → ℕ → Accepted → Member
 piece_member a m slot r =
-    cond (has_landed r.landed) (landed_one (heard_member a m slot) r.number (size_of r.landed)) (heard_member a m slot)
+    cond (is_some r.landed) (landed_one (heard_member a m slot) r.number (size_of r.landed)) (heard_member a m slot)
 
 -- a polled boat other than the sender brought it
 abbrev pub is_relayed : Air → Station → ℕ → Accepted → Bool
-is_relayed a s slot r = has_landed r.landed && not (eqb a.polled slot) && is_member s.used a.polled
+is_relayed a s slot r = is_some r.landed && not (eqb a.polled slot) && is_member s.used a.polled
 
 abbrev pub piece_events : Air → Station → ℕ → Accepted → List ℕ
 piece_events a s slot r =
-    cond (has_landed r.landed)
+    cond (is_some r.landed)
     (cond (is_relayed a s slot r) (event_word 4 slot a.polled ∷ message_word slot r.cell r.number ∷ []) (message_word slot r.cell r.number ∷ [])) []
 
 abbrev pub relay_if : Bool → Station → Station
@@ -57,7 +55,7 @@ unkept_at x =
 abbrev pub kept_piece : Air → ℕ → Accepted → Reading → Reading
 kept_piece a slot r x =
     record {
-      station = relay_if (is_relayed a x.station slot r) (traffic_if (has_landed r.landed) (with_member (with_table x.station r.table) slot (piece_member a (member_at x.station slot) slot r)));
+      station = relay_if (is_relayed a x.station slot r) (traffic_if (is_some r.landed) (with_member (with_table x.station r.table) slot (piece_member a (member_at x.station slot) slot r)));
       store = r.store;
       words = x.words ++ piece_events a x.station slot r;
       frame = x.frame;

@@ -1,5 +1,5 @@
 -- The running values of `ncs_rx` of ncs.rs, frame by frame: the definitions' (Reading) and the code's (Rx).
-use Rattle.std.specs.Prelude.{ℕ, ◌+◌, Bool, List, ◌++◌}
+use Rattle.std.specs.Prelude.{ℕ, Bool, List, ◌++◌}
 use Rattle.net.specs.declared.Station.{Station}
 use Rattle.net.specs.Net.{Said}
 

@@ -121,6 +121,7 @@ pub fn report_hears(hears: &mut [u8; 3844], here: bool, slot: u8, words: &[u32],
     }
     let n = len as usize;
     let mut e: usize = 12;
+    // A while: a pair cut off at the end does not count, which (..n.saturating_sub(1)).step_by(2) says no plainer.
     while e + 2 <= n {
         let a = byte_in(words, at, len, e);
         let q = byte_in(words, at, len, e + 1);
@@ -174,14 +175,14 @@ pub fn checkin(
     let k = checkin_member(new, sits, a, words, at, len);
     s.members[i] = k;
     let r = s.recent[i];
-    let none = admit::recent_if(r, fresh);
+    let none = net::recent_if(r, fresh);
     let z = noted_if(none, sits, a.level);
     s.recent[i] = z;
     let q = s.queues[i];
     let y = admit::queue_if(q, fresh);
     s.queues[i] = y;
-    s.used = admit::with_if(s.used, fresh, i);
-    let acks = admit::with_if(s.round.toack, sits, i);
+    s.used = bits::with_if(s.used, fresh, i);
+    let acks = bits::with_if(s.round.toack, sits, i);
     s.round.toack = acks;
     s.round.activity = true;
     *end = admit::events_if(o, *end, fresh, slot, wire::ALL);
@@ -229,6 +230,7 @@ pub fn overheard(
     let n = len as usize;
     let mut put = *end;
     let mut e: usize = 1;
+    // A while: an entry cut off at the end does not count, which (..n.saturating_sub(7)).step_by(8) says no plainer.
     while e + 8 <= n {
         let call = call_in(words, at, len, e);
         let seat = admit::seat_of(s, call);
@@ -240,13 +242,13 @@ pub fn overheard(
         let k = new_boat(new, fresh, words, at, len, e);
         s.members[i] = k;
         let r = s.recent[i];
-        let z = admit::recent_if(r, fresh);
+        let z = net::recent_if(r, fresh);
         s.recent[i] = z;
         let q = s.queues[i];
         let y = admit::queue_if(q, fresh);
         s.queues[i] = y;
-        s.used = admit::with_if(s.used, fresh, i);
-        let acks = admit::with_if(s.round.toack, fresh, i);
+        s.used = bits::with_if(s.used, fresh, i);
+        let acks = bits::with_if(s.round.toack, fresh, i);
         s.round.toack = acks;
         put = admit::events_if(o, put, fresh, c, via);
         let here = net::is_member(s.used, slot);
@@ -333,6 +335,7 @@ pub fn kids(
     let n = len as usize;
     let mut put = *end;
     let mut e: usize = 1;
+    // A while: a pair cut off at the end does not count, which (..n.saturating_sub(1)).step_by(2) says no plainer.
     while e + 2 <= n {
         let c = byte_in(words, at, len, e);
         let b = byte_in(words, at, len, e + 1);

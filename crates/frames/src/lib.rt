@@ -1,7 +1,7 @@
 // Reception, the frames (ncs_rx of ncs.rs): what stands at the cursor, and what a frame of each kind does.
 #![tactic(auto)]
 
-ghost use Rattle.std.specs.Prelude.{◌≡◌, ◌+◌, ◌%◌, ◌^◌, ◌<◌, drop};
+ghost use Rattle.std.specs.Prelude.{◌≡◌, ◌+◌, ◌^◌, ◌<◌, drop};
 ghost use Rattle.words.specs.Words.{peek_at, byte_at};
 ghost use Rattle.frames.specs.Code.Reading.{first_rx, next_rx};
 ghost use Rattle.frames.specs.Code.Frames.{lost_frame, frame_of, control_byte};
@@ -73,9 +73,9 @@ pub fn frame_at(words: &[u32], at: usize) -> Frame
             Frame {
                 lost: false,
                 ty: flags / 64,
-                slot: low(flags % 64),
+                slot: (flags % 64) as u8,
                 field: field,
-                len: low_len(len),
+                len: (len % 256) as u8,
                 size: size,
             }
         }
@@ -97,7 +97,7 @@ pub fn next_frame(x: Rx, f: Frame) -> Rx
     requires { (x.word + f.size < 2 ^ 64) × (x.frame + 1 < 2 ^ 64) }
     ensures { result ≡ next_rx x f }
 {
-    let heard = pieces::with_if(x.heard, !f.lost & !bits::has(x.unkept, x.frame), x.frame);
+    let heard = bits::with_if(x.heard, !f.lost & !bits::has(x.unkept, x.frame), x.frame);
     let mut k = x;
     k.heard = heard;
     k.word = x.word + f.size;
@@ -116,16 +116,4 @@ fn lost_frame() -> Frame
         len: 0,
         size: 1,
     }
-}
-
-fn low(x: u32) -> u8
-    ensures { result ≡ x % 256 }
-{
-    (x % 256) as u8
-}
-
-fn low_len(x: usize) -> u8
-    ensures { result ≡ x % 256 }
-{
-    (x % 256) as u8
 }

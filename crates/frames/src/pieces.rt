@@ -1,6 +1,5 @@
 // Reception, up frames: a boat's piece, kept or not, and what lands.
 ghost use Rattle.std.specs.Prelude.{◌≡◌, ◌+◌, ◌/◌, ◌%◌, ◌^◌, ◌<◌, ◌≤◌, length, drop, cond};
-ghost use Rattle.bits.specs.Mask.{without_bit};
 ghost use Rattle.bits.specs.Stop.{stop};
 ghost use Rattle.roster.specs.Members.{barred_one};
 ghost use Rattle.words.specs.Words.{bytes_at};
@@ -8,20 +7,18 @@ ghost use Rattle.out.specs.Encode.{Wrote};
 ghost use Rattle.stream.specs.Table.{took, take_of, left_of, room_for, owner_of, place_of};
 ghost use Rattle.frames.specs.Pieces.{size_of, direct_if, heard_member};
 ghost use Rattle.frames.specs.Code.Reading.{next_rx};
-ghost use Rattle.frames.specs.Code.Pieces.{kept_rx, unwanted_of, numbered_of, piece_of, RoomIn, taken_of, owner_after, frees, busy_after, landed_after, with_if, member_after, relayed_by, round_after, totals_after, landed_events};
+ghost use Rattle.frames.specs.Code.Pieces.{kept_rx, unwanted_of, numbered_of, piece_of, RoomIn, taken_of, owner_after, frees, busy_after, landed_after, member_after, relayed_by, round_after, totals_after, landed_events};
 
 use crate::{Air, Frame, Rx};
 use inbox::cell::Cell;
 use inbox::keep;
 use inbox::keep::Kept;
-use inbox::store::Landed;
 use net::{Round, Totals};
 use roster::Member;
 use stream::table::{Room, Taken};
 use stream::window::Window;
 use stream::{table, window};
 use wire::number;
-use wire::number::Number;
 
 // A boat's piece as it is read. wanted: its slot has a member, and its message a number that is not handed over; else nothing is done
 // with its bytes. barred: that number is barred.
@@ -49,7 +46,7 @@ pub fn piece_of(
     ensures { result ≡ piece_of m.up here f.slot f.field owners.now busy landed count }
 {
     let w = m.up;
-    let Number::Is(n) = number::widen8(high8(f.field), w.next) else {
+    let Some(n) = number::widen8(high8(f.field), w.next) else {
         return unwanted(f.slot, here);
     };
     numbered(w, here, f.slot, f.field, n, owners, busy, landed, count)
@@ -95,7 +92,7 @@ pub fn busy_after(busy: u64, d: Taken, p: Piece, c: usize) -> u64
     if table::changed(kept) {
         return bits::with(busy, c);
     }
-    without_if(busy, is_freed(d, p), c)
+    bits::without_if(busy, is_freed(d, p), c)
 }
 
 // Which cells hold a landed message after it.
@@ -105,12 +102,12 @@ pub fn landed_after(mask: u64, d: Taken, p: Piece, c: usize) -> u64
     let kept = d.kept;
     let landed = d.landed;
     if table::changed(kept) {
-        if table::has_landed(landed) {
+        if landed.is_some() {
             return bits::with(mask, c);
         }
         return bits::without(mask, c);
     }
-    without_if(mask, is_freed(d, p), c)
+    bits::without_if(mask, is_freed(d, p), c)
 }
 
 // Whether the message claims too much and has a cell, which is given back.
@@ -120,18 +117,6 @@ fn is_freed(d: Taken, p: Piece) -> bool
     let kept = d.kept;
     let room = p.room;
     table::barring(kept) & table::has_own(room)
-}
-
-fn without_if(mask: u64, yes: bool, c: usize) -> u64
-    ensures { result ≡ cond yes (without_bit mask c) mask }
-{
-    if yes { bits::without(mask, c) } else { mask }
-}
-
-pub fn with_if(mask: u64, yes: bool, c: usize) -> u64
-    ensures { result ≡ with_if mask yes c }
-{
-    if yes { bits::with(mask, c) } else { mask }
 }
 
 // The boat whose piece it was: heard, unless the piece was not kept; a message that claims too much is barred.
@@ -145,7 +130,7 @@ pub fn member_after(m: Member, d: Taken, p: Piece, a: Air) -> Member
         return barred_if(m, table::barring(kept), p.number);
     }
     let k = heard_member(m, p.slot, a);
-    if table::has_landed(landed) {
+    if landed.is_some() {
         return roster::landed(k, p.number, size_of(landed));
     }
     k
@@ -156,7 +141,7 @@ pub fn is_relayed(d: Taken, p: Piece, a: Air, used: u64) -> bool
     ensures { result ≡ relayed_by d p a used }
 {
     let landed = d.landed;
-    table::has_landed(landed) & (a.polled != p.slot) & net::is_member(used, a.polled)
+    landed.is_some() & (a.polled != p.slot) & net::is_member(used, a.polled)
 }
 
 pub fn round_after(r: Round, d: Taken, relayed: bool) -> Round
@@ -164,7 +149,7 @@ pub fn round_after(r: Round, d: Taken, relayed: bool) -> Round
 {
     let landed = d.landed;
     let mut k = r;
-    k.traffic = r.traffic | table::has_landed(landed);
+    k.traffic = r.traffic | landed.is_some();
     k.rxdirty = r.rxdirty | relayed;
     k
 }
@@ -187,7 +172,7 @@ pub fn next_piece(x: Rx, f: Frame, d: Taken) -> Rx
 {
     let kept = d.kept;
     let mut k = x;
-    k.unkept = with_if(x.unkept, table::lost(kept), x.frame);
+    k.unkept = bits::with_if(x.unkept, table::lost(kept), x.frame);
     crate::next_frame(k, f)
 }
 
@@ -204,7 +189,7 @@ pub fn landed_events(
     ensures { Wrote o.old at (landed_events d p c relayed polled) o.new result }
 {
     let landed = d.landed;
-    if !table::has_landed(landed) {
+    if !landed.is_some() {
         return at;
     }
     let slot = p.slot as usize;
@@ -279,7 +264,7 @@ fn left(c: Cell, kept: Kept) -> Taken
     Taken {
         cell: c,
         kept: kept,
-        landed: Landed::NotYet,
+        landed: None,
     }
 }
 
@@ -308,12 +293,12 @@ fn offer(
     )
 }
 
-fn size_of(x: Landed) -> u32
+fn size_of(x: Option<usize>) -> u32
     ensures { result ≡ stop (size_of x) }
 {
     match x {
-        Landed::Bytes(n) => stopped(n),
-        Landed::NotYet => 0,
+        Some(n) => stopped(n),
+        None => 0,
     }
 }
 

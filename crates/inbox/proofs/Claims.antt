@@ -1,5 +1,5 @@
 -- What a piece would show of its message's length, by the bytes that the code looks at. Assumes nothing.
-use mathlib.Core.Bool.{Bool, true, false, cond}
+use mathlib.Core.Bool.{false, cond}
 use mathlib.Core.List.{List, [], ◌∷◌, ◌++◌}
 use mathlib.Core.Logic.{⊎_elim}
 use mathlib.Core.Path.{◌≡◌, refl, sym, ap, ◌∙◌, subst}
@@ -8,12 +8,11 @@ use native.Mathlib.Omega.{arith}
 use lib.Dec.{leb, ltb, eqb}
 use lib.ListN.{length, get_or, take, drop, length-append, length-take, length-drop, get_or-append}
 use lib.Seq.{paste, get_or-take, get_or-drop}
-use borrow.Author.Tests.{lt-ltb, le-ltb, le-leb, lt-leb, eq-eqb, ne_eqb}
+use borrow.Author.Tests.{lt-ltb, le-ltb, le-leb, lt-leb}
 use Rattle.bits.proofs.Lists.{cond_keeps, le_or_lt, eq_or_not, paste_in, paste_above}
 use Rattle.inbox.specs.declared.cell.Cell.{Cell}
 use Rattle.inbox.specs.Cells.{Held, held, offset, size, end_at, place, grow, rest, settle, store, await, accept, place_at, free_place, next, next_place}
-use Rattle.inbox.specs.Messages.{empty_cell, empty, announced, claims, shows_of}
-use Rattle.inbox.proofs.Search.{Goes}
+use Rattle.inbox.specs.Messages.{empty_cell, empty, claims, shows_of}
 use Rattle.inbox.proofs.Steps.{grown_to, goes_at, settle_go, settle_stop, accept_old, accept_empty, accept_join, accept_wait, join_step}
 
 -- the first two bytes are joined, and are x and y

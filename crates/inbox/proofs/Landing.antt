@@ -1,5 +1,6 @@
 -- Item 3's part for one message: with every piece kept by the kept rule, the message lands exactly with the piece that completes the cover, with
 -- the bytes that were sent. Assumes nothing.
+use Rattle.std.specs.Prelude.{Some, None}
 use mathlib.Core.Bool.{true}
 use mathlib.Core.List.{List, [], ◌∷◌}
 use mathlib.Core.Path.{◌≡◌, ap, ◌∙◌}
@@ -8,7 +9,6 @@ use native.Mathlib.Omega.{arith}
 use lib.ListN.{length, take, drop}
 use borrow.Author.Tests.{le-leb}
 use Rattle.bits.proofs.Lists.{cond_true}
-use Rattle.inbox.specs.declared.store.Landed.TheVariants.{Bytes, NotYet}
 use Rattle.inbox.specs.Cells.{Held, accept}
 use Rattle.inbox.specs.Messages.{Piece, empty, accept_all, KeptBy, announced, landed, framed, shows_of}
 use Rattle.inbox.specs.Stores.{landed_of, body_size, body_of}
@@ -35,8 +35,8 @@ lands_by_rule number body bs ps small room k = lands_exactly body bs ps small ro
 
 -- ---- a cell that has landed says its message's length, and is read as the message
 module _ (body : List ℕ) (ps : List Piece) (h : Held) (l : Lands body ps h) (e : landed h ≡ true) where
-  pub says_bytes : landed_of h ≡ Bytes (length body)
-  says_bytes = cond_true (landed h) (Bytes (announced h.bytes)) NotYet e ∙ ap Bytes (l.says e)
+  pub says_bytes : landed_of h ≡ Some (length body)
+  says_bytes = cond_true (landed h) (Some (announced h.bytes)) None e ∙ ap Some (l.says e)
 
   pub reads_body : length body ≤ 2046 → body_of h.bytes ≡ body
   reads_body small =

@@ -5,10 +5,11 @@ use mathlib.Core.Path.{◌≡◌, refl, sym, ap, ◌∙◌, subst}
 use Prim.Native.Nat.{ℕ, zero, suc, ◌+◌, ◌-◌, ◌≤◌, ◌<◌, zero-le}
 use native.Mathlib.Omega.{arith}
 use lib.Dec.{leb, ltb, eqb}
-use borrow.Author.Tests.{leb-true, ltb-true, eqb-true, le-leb, lt-ltb}
+use borrow.Author.Tests.{leb-true, ltb-true, ltb-false, eqb-true, le-leb, lt-ltb, le-ltb}
 use Rattle.bits.proofs.Lists.{cond_true, cond_false, and_true, never_both, cases, le_or_lt, eq_or_not}
+use Rattle.std.specs.declared.option.Option.TheVariants.{None, Some}
 use Rattle.inbox.specs.declared.cell.Cell.{Cell}
-use Rattle.inbox.specs.Cells.{offset, end_at, seek, place_at, free_place, better, next}
+use Rattle.inbox.specs.Cells.{offset, end_at, seek, place_at, free_place, better, next, found}
 
 ne_above : (k i : ℕ) → k ≤ i → (k ≡ i → ⊥) → k + 1 ≤ i
 ne_above k i a z = ⊎_elim (λ h. absurd (z (omega arith))) (λ h. omega arith) (le_or_lt i k)
@@ -128,3 +129,24 @@ next_turn_on m c k b o a e = ap (λ (n : ℕ). next n c k b o) (left m k a) ∙ 
 
 pub next_end : (m : ℕ) (c : Cell) (k b o : ℕ) → k ≡ m → next (m - k) c k b o ≡ b
 next_end m c k b o e = let z : m - k ≡ 0 = omega arith in ap (λ (n : ℕ). next n c k b o) z ∙ (unfold next in refl)
+
+-- ---- a place that was found, or none
+pub found_some : (n k : ℕ) → n ≡ k → k < 16 → Some k ≡ found n
+found_some n k e h = rw (e, lt-ltb k 16 h)
+
+pub found_none : (n : ℕ) → 16 ≤ n → None ≡ found n
+found_none n h = rw (le-ltb n 16 h)
+
+pub found_is : (n k : ℕ) → Some k ≡ found n → (k ≡ n) × (k < 16)
+found_is n k e = by (ltb n 16) refl e
+  where
+    by : (b : Bool) → ltb n 16 ≡ b → Some k ≡ cond b (Some n) None → (k ≡ n) × (k < 16)
+    by true f q = let h = ltb-true n 16 f in let z : k ≡ n = cc in (z, omega arith)
+    by false f q = absurd (cc)
+
+pub found_not : (n : ℕ) → None ≡ found n → 16 ≤ n
+found_not n e = by (ltb n 16) refl e
+  where
+    by : (b : Bool) → ltb n 16 ≡ b → None ≡ cond b (Some n) None → 16 ≤ n
+    by true f q = absurd (cc)
+    by false f q = ltb-false n 16 f

@@ -2,6 +2,8 @@
 -- A cell's bytes: the joined ones stand at 0 .. joined, the piece at place k from 2,048 + 256 k on.
 -- A place whose piece ends at or before the joined end waits for nothing: it is free.
 use Rattle.std.specs.Prelude.{Bool, cond, ◌&&◌, List, ℕ, zero, suc, ◌+◌, ◌-◌, ◌*◌, length, get_or, set, take, drop, leb, ltb, eqb}
+use Rattle.std.specs.declared.option.Option.{Option}
+use Rattle.std.specs.declared.option.Option.TheVariants.{None, Some}
 use Rattle.std.proofs.Math.Seq.{paste}
 use Rattle.inbox.specs.declared.cell.Cell.{Cell}
 use Rattle.inbox.specs.Sizes.{message_room}
@@ -39,6 +41,10 @@ place_at c o = seek (λ k. eqb (offset c k) o) 16 0
 -- the first free place; 16 if there is none
 abbrev pub free_place : Cell → ℕ
 free_place c = seek (λ k. leb (end_at c k) c.joined) 16 0
+
+-- the place itself, or none
+abbrev pub found : ℕ → Option ℕ
+found k = cond (ltb k 16) (Some k) None
 
 -- the piece at k starts at or before the joined end, reaches past it, and starts no earlier than o.
 -- A piece that ends above 2,048 never goes; no start reaches a cell with one

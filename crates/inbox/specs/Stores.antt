@@ -1,7 +1,5 @@
 -- Document 01, "Message cell": the cells of the store that the caller lends, each 6,400 bytes of it; landing, and what the host reads.
-use Rattle.std.specs.Prelude.{cond, List, ◌++◌, ℕ, ◌*◌, take, drop, leb}
-use Rattle.inbox.specs.declared.store.Landed.{Landed}
-use Rattle.inbox.specs.declared.store.Landed.TheVariants.{Bytes, NotYet}
+use Rattle.std.specs.Prelude.{cond, List, ◌++◌, ℕ, ◌*◌, take, drop, leb, Option, Some, None}
 use Rattle.inbox.specs.Sizes.{cell_size, body_room}
 use Rattle.inbox.specs.Cells.{Held}
 use Rattle.inbox.specs.Messages.{landed, announced}
@@ -15,8 +13,8 @@ abbrev pub in_cell : List ℕ → ℕ → List ℕ → List ℕ
 in_cell store c bs = take (cell_size * c) store ++ (bs ++ drop cell_size (drop (cell_size * c) store))
 
 -- how many bytes the message in a cell has, once it has landed
-abbrev pub landed_of : Held → Landed
-landed_of h = cond (landed h) (Bytes (announced h.bytes)) NotYet
+abbrev pub landed_of : Held → Option ℕ
+landed_of h = cond (landed h) (Some (announced h.bytes)) None
 
 -- the bytes that follow the two of the length: as many as these say, and no more than a cell can join
 abbrev pub body_size : List ℕ → ℕ

@@ -2,7 +2,7 @@
 // piece at place k from 2,048 + 256 k on. A place whose piece ends at or before the joined end is free.
 ghost use Rattle.std.specs.Prelude.{◌≡◌, [], ◌∷◌, ◌+◌, ◌*◌, ◌-◌, ◌≤◌, ◌<◌, ltb, length, take, drop};
 ghost use Rattle.std.proofs.Math.Seq.{paste};
-ghost use Rattle.inbox.specs.Cells.{size, end_at, better, settle, store, await, accept, held, place_at, free_place, next_place};
+ghost use Rattle.inbox.specs.Cells.{size, end_at, better, settle, store, await, accept, held, place_at, free_place, next_place, found};
 ghost use Rattle.inbox.specs.Messages.{empty, shows_of};
 ghost use Rattle.inbox.specs.Sizes.{message_room, body_room};
 
@@ -29,8 +29,8 @@ pub fn join(bytes: &mut [u8], cell: Cell, offset: u16, piece: &[u8]) -> Cell
     requires piece_len_bound { (length piece.now ≤ 255) × (offset + length piece.now ≤ message_room) }
     ensures { held result bytes.new ≡ accept (held cell bytes.old) offset piece.now }
 {
-    let joined = wide16(cell.joined);
-    let start = wide16(offset);
+    let joined = usize::from(cell.joined);
+    let start = usize::from(offset);
     let end = start + piece.len();
     if end <= joined {
         return cell;
@@ -54,11 +54,11 @@ pub fn shows(bytes: &[u8], cell: Cell, offset: u16, piece: &[u8]) -> bool
     requires piece_len_bound { length piece.now ≤ 255 }
     ensures { result ≡ shows_of (held cell bytes.now) offset piece.now }
 {
-    let joined = wide16(cell.joined);
+    let joined = usize::from(cell.joined);
     if 2 <= joined {
         return is_over(bytes[0], bytes[1]);
     }
-    let start = wide16(offset);
+    let start = usize::from(offset);
     let end = start + piece.len();
     if joined < start {
         return false;
@@ -96,11 +96,10 @@ fn shows_next(bytes: &[u8], cell: Cell, first: u8) -> bool
 {
     let mut c = cell;
     c.joined = 1;
-    let k = next_place(c);
-    if 16 <= k {
+    let Some(k) = next_place(c) else {
         return false;
-    }
-    let start = wide16(cell.offsets[k]);
+    };
+    let start = usize::from(cell.offsets[k]);
     is_over(first, bytes[MESSAGE_ROOM + 256 * k + (1 - start)])
 }
 
@@ -108,7 +107,7 @@ fn shows_next(bytes: &[u8], cell: Cell, first: u8) -> bool
 fn is_over(low: u8, high: u8) -> bool
     ensures { result ≡ ltb body_room (low + 256 * high) }
 {
-    BODY_ROOM < wide8(low) + 256 * wide8(high)
+    BODY_ROOM < usize::from(low) + 256 * usize::from(high)
 }
 
 // The waiting pieces that have come into reach are joined.
@@ -118,12 +117,11 @@ fn settle_all(bytes: &mut [u8], cell: Cell) -> Cell
 {
     let mut c = cell;
     loop {
-        let k = next_place(c);
-        if 16 <= k {
+        let Some(k) = next_place(c) else {
             return c;
-        }
-        let joined = wide16(c.joined);
-        let start = wide16(c.offsets[k]);
+        };
+        let joined = usize::from(c.joined);
+        let start = usize::from(c.offsets[k]);
         let end = end_of(c, k);
         move_down(
             bytes,
@@ -141,15 +139,13 @@ fn wait(bytes: &mut [u8], cell: Cell, offset: u16, piece: &[u8]) -> Cell
     requires piece_len_bound { length piece.now ≤ 255 }
     ensures { held result bytes.new ≡ await (held cell bytes.old) offset piece.now }
 {
-    let i = at_offset(cell, offset);
-    if i < 16 {
-        if wide8(cell.lengths[i]) < piece.len() {
+    if let Some(i) = at_offset(cell, offset) {
+        if usize::from(cell.lengths[i]) < piece.len() {
             return store_at(bytes, cell, i, offset, piece);
         }
         return cell;
     }
-    let j = free_place(cell);
-    if j < 16 {
+    if let Some(j) = free_place(cell) {
         return store_at(bytes, cell, j, offset, piece);
     }
     cell
@@ -168,49 +164,42 @@ fn store_at(bytes: &mut [u8], cell: Cell, k: usize, offset: u16, piece: &[u8]) -
     c
 }
 
-// The place whose piece starts at offset; 16 if there is none.
-pub fn at_offset(cell: Cell, offset: u16) -> usize
-    ensures { result ≡ place_at cell offset }
+// The place whose piece starts at offset.
+pub fn at_offset(cell: Cell, offset: u16) -> Option<usize>
+    ensures { result ≡ found (place_at cell offset) }
 {
-    let mut k = 0;
-    while k < 16 {
+    for k in 0..16 {
         if cell.offsets[k] == offset {
-            return k;
+            return Some(k);
         }
-        k += 1;
     }
-    k
+    None
 }
 
-// The first free place; 16 if there is none.
-pub fn free_place(cell: Cell) -> usize
-    ensures { result ≡ free_place cell }
+// The first free place.
+pub fn free_place(cell: Cell) -> Option<usize>
+    ensures { result ≡ found (free_place cell) }
 {
-    let joined = wide16(cell.joined);
-    let mut k = 0;
-    while k < 16 {
+    let joined = usize::from(cell.joined);
+    for k in 0..16 {
         if end_of(cell, k) <= joined {
-            return k;
+            return Some(k);
         }
-        k += 1;
     }
-    k
+    None
 }
 
-// The place that goes next: of those that start at or before the joined end and reach past it, the one with the greatest offset;
-// 16 if there is none.
-fn next_place(cell: Cell) -> usize
-    ensures { result ≡ next_place cell }
+// The place that goes next: of those that start at or before the joined end and reach past it, the one with the greatest offset.
+fn next_place(cell: Cell) -> Option<usize>
+    ensures { result ≡ found (next_place cell) }
 {
-    let mut best = 16;
+    let mut best = None;
     let mut from = 0;
-    let mut k = 0;
-    while k < 16 {
+    for k in 0..16 {
         if better_place(cell, k, from) {
-            best = k;
+            best = Some(k);
             from = cell.offsets[k];
         }
-        k += 1;
     }
     best
 }
@@ -226,7 +215,7 @@ fn better_place(cell: Cell, k: usize, from: u16) -> bool
         return false;
     }
     let end = end_of(cell, k);
-    if end <= wide16(joined) {
+    if end <= usize::from(joined) {
         return false;
     }
     if MESSAGE_ROOM < end {
@@ -240,7 +229,7 @@ fn end_of(cell: Cell, k: usize) -> usize
     requires { k < 16 }
     ensures { (result ≡ end_at cell k) × (size cell k < 256) }
 {
-    wide16(cell.offsets[k]) + wide8(cell.lengths[k])
+    usize::from(cell.offsets[k]) + usize::from(cell.lengths[k])
 }
 
 // All of src into dst from index at on.
@@ -248,11 +237,7 @@ fn copy_in(dst: &mut [u8], at: usize, src: &[u8])
     requires { at + length src.now ≤ length dst.old }
     ensures { dst.new ≡ paste dst.old at src.now (length src.now) }
 {
-    let mut j = 0;
-    while j < src.len() {
-        dst[at + j] = src[j];
-        j += 1;
-    }
+    dst[at..at + src.len()].copy_from_slice(src);
 }
 
 // The n bytes at from, down to index to.
@@ -260,23 +245,5 @@ fn move_down(bytes: &mut [u8], to: usize, from: usize, n: usize)
     requires { (to ≤ from) × (from + n ≤ length bytes.old) }
     ensures { bytes.new ≡ paste bytes.old to (take n (drop from bytes.old)) n }
 {
-    let mut j = 0;
-    while j < n {
-        bytes[to + j] = bytes[from + j];
-        j += 1;
-    }
-}
-
-// The number as an index, with its bound.
-pub fn wide16(x: u16) -> usize
-    ensures { (result ≡ x) × (result < 65536) }
-{
-    x as usize
-}
-
-// The byte as an index, with its bound.
-pub fn wide8(x: u8) -> usize
-    ensures { (result ≡ x) × (result < 256) }
-{
-    x as usize
+    bytes.copy_within(from..from + n, to);
 }

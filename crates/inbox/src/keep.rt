@@ -34,8 +34,8 @@ pub fn keeping(number: u32, offset: u16, n: u8, over: bool, room: bool, cell: Ce
     if n == 0 {
         return Kept::Needless;
     }
-    let end = cell::wide16(offset) + cell::wide8(n);
-    if end <= cell::wide16(cell.joined) {
+    let end = usize::from(offset) + usize::from(n);
+    if end <= usize::from(cell.joined) {
         return Kept::Needless;
     }
     if shorter(cell, offset, n) {
@@ -66,11 +66,10 @@ fn shorter(cell: Cell, offset: u16, n: u8) -> bool
     if offset <= cell.joined {
         return false;
     }
-    let i = cell::at_offset(cell, offset);
-    if 16 <= i {
-        return false;
+    match cell::at_offset(cell, offset) {
+        Some(i) => n <= cell.lengths[i],
+        None => false,
     }
-    n <= cell.lengths[i]
 }
 
 // Whether 16 pieces wait, a piece at offset starts past the joined end, and none waits there.
@@ -80,8 +79,5 @@ fn full(cell: Cell, offset: u16) -> bool
     if offset <= cell.joined {
         return false;
     }
-    if cell::at_offset(cell, offset) < 16 {
-        return false;
-    }
-    16 <= cell::free_place(cell)
+    cell::at_offset(cell, offset).is_none() && cell::free_place(cell).is_none()
 }

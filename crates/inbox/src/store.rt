@@ -11,13 +11,6 @@ use crate::cell::Cell;
 // The bytes of the store that one cell has.
 pub const CELL_SIZE: usize = 6400;
 
-// Whether a message has landed, and how many bytes it has.
-#[derive(Clone, Copy)]
-pub enum Landed {
-    Bytes(usize),
-    NotYet,
-}
-
 // A cell that has just been taken, or freed: nothing of the store is touched.
 pub fn empty_cell() -> Cell
     ensures { result ≡ empty_cell }
@@ -52,19 +45,19 @@ pub fn shows_in(store: &[u8], c: usize, cell: Cell, offset: u16, piece: &[u8]) -
 }
 
 // Whether the message in cell c has landed.
-pub fn landed_at(store: &[u8], c: usize, cell: Cell) -> Landed
+pub fn landed_at(store: &[u8], c: usize, cell: Cell) -> Option<usize>
     requires { (c < 64) × (cell_size * c + cell_size ≤ length store.now) }
     ensures { result ≡ landed_of (held cell (cell_of store.now c)) }
 {
-    let joined = cell::wide16(cell.joined);
+    let joined = usize::from(cell.joined);
     if joined < 2 {
-        return Landed::NotYet;
+        return None;
     }
     let n = length_in(store, c);
     if joined < 2 + n {
-        return Landed::NotYet;
+        return None;
     }
-    Landed::Bytes(n)
+    Some(n)
 }
 
 // The landed message of cell c, as a part of the store itself.
@@ -96,5 +89,5 @@ fn length_in(store: &[u8], c: usize) -> usize
     ensures { (result ≡ announced (cell_of store.now c)) × (result < 65536) }
 {
     let at = CELL_SIZE * c;
-    cell::wide8(store[at]) + 256 * cell::wide8(store[at + 1])
+    usize::from(store[at]) + 256 * usize::from(store[at + 1])
 }

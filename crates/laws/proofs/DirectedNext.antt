@@ -1,4 +1,5 @@
 -- What is said has no frame of word back but those of the burst of it, and what is kept stays. Assumes nothing.
+use Rattle.std.specs.Prelude.{Option, None}
 use mathlib.Core.Path.{◌≡◌, refl, sym, ◌∙◌, subst}
 use Prim.Native.Nat.{ℕ, ◌≤◌, ◌<◌}
 use native.Mathlib.Omega.{arith}
@@ -25,8 +26,6 @@ use Rattle.bursts.specs.Reroute.{source_for}
 use Rattle.bursts.specs.Direct.{room_at, payload_at, down_frames, down_burst, direct_burst}
 use Rattle.bursts.proofs.Directing.{least_le}
 use Rattle.next.specs.Next.{ncs_next}
-use mathlib.Core.Option.{Option}
-use Rattle.level.specs.declared.Clock.TheVariants.{Never}
 use Rattle.net.specs.declared.Turn.TheVariants.{Sending}
 use Rattle.rx.specs.Ending.{turn_over_in}
 use Rattle.promise.proofs.Walk.{Allowed}
@@ -85,7 +84,7 @@ module _ {F : Type 0} {now : Float} {lent : List ℕ} {s : Station} (P : Said �
   sends_cases (Sends.word f e slot here) = back f slot here
   sends_cases (Sends.poll e slot h) = other _ (refl, refl) (poll_other s.settings (is_member s.used slot) (member_at s slot) slot (source_for s slot) false)
   sends_cases (Sends.pollack r n heard e l) = other _ (refl, refl) (other_tiny k_pollack _ _)
-  sends_cases (Sends.ack r n heard e) = other _ (over_alike (with_wait s (wait_of Sending Never)) r.slot r.relayfor) (other_tiny k_ack _ _)
+  sends_cases (Sends.ack r n heard e) = other _ (over_alike (with_wait s (wait_of Sending None)) r.slot r.relayfor) (other_tiny k_ack _ _)
   sends_cases (Sends.idle r e) = other _ (over_alike (one_reply (with_wait s idle_wait)) r.slot r.relayfor) Other.none
 
 -- a reception has none; and its end leaves members and queues alone

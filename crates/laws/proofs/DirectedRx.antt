@@ -1,5 +1,6 @@
 -- Admissions and receptions: a report gives back what it names, and nothing else touches what is kept; and their words have no frame of word back. Assumes
 -- nothing.
+use Rattle.std.specs.Prelude.{is_some}
 use mathlib.Core.Path.{◌≡◌, refl, sym, ap, ◌∙◌, subst}
 use mathlib.Core.Logic.{inl, ⊎_elim}
 use Prim.Native.Nat.{ℕ, ◌+◌, ◌/◌, ◌%◌, ◌<◌}
@@ -26,7 +27,7 @@ use Rattle.admit.specs.declared.Seat.{Seat}
 use Rattle.admit.specs.declared.Seat.TheVariants.{Known, Free, Full}
 use Rattle.admit.specs.Admission.{seat_of, slot_of, admit_by}
 use Rattle.admit.proofs.Laws.{seat_lt, seat_free}
-use Rattle.stream.specs.Table.{accept, has_landed}
+use Rattle.stream.specs.Table.{accept}
 use Rattle.frames.specs.declared.Air.{Air}
 use Rattle.frames.specs.Reading.{Reading}
 use Rattle.frames.specs.Pieces.{is_relayed, relay_if, traffic_if, piece_frame}
@@ -75,7 +76,7 @@ piece_alike a slot field p x =
     cond_keeps (λ (y : Reading). Alike s y.station) (is_member s.used slot) _ x
     (λ _. cond_keeps (λ (y : Reading). Alike s y.station) r.lost _ _
     (λ _. cond_keeps (λ (y : Reading). Alike s y.station) r.bars _ x (λ _. (refl, refl)) (λ _. (refl, refl)))
-    (λ _. relay_alike (is_relayed a s slot r) s _ (traffic_alike (has_landed r.landed) s _ (refl, refl))))
+    (λ _. relay_alike (is_relayed a s slot r) s _ (traffic_alike (is_some r.landed) s _ (refl, refl))))
     (λ _. (refl, refl))
 
 kid_alike : (a : Air) (p : List ℕ) (slot e : ℕ) (s : Station) (x : Said) → Alike s x.station → Alike s (kid_entry a p slot e x).station

@@ -10,7 +10,8 @@ use Rattle.bits.proofs.Lists.{and_true, or_elim}
 use Rattle.net.specs.declared.Station.{Station}
 use Rattle.net.specs.State.{member_at}
 use Rattle.net.specs.Net.{is_member}
-use Rattle.dues.specs.Dues.{dues_refusal, dues_of}
+use Rattle.std.specs.Prelude.{IsOkAnd}
+use Rattle.dues.specs.Dues.{dues_refusal, bill_of, dues_of}
 use Rattle.dues.proofs.Balance.{balanced}
 use Rattle.promise.specs.Promise.{after, started, leads, LinksHold}
 use Rattle.laws.specs.Balance.{Balanced, Balance}
@@ -26,8 +27,8 @@ relay_is s h i m =
     (λ e. inl (eqb-true (member_at s i).via 63 e))
     (λ e. inr (and_true (is_member s.used (member_at s i).via) (eqb (member_at s (member_at s i).via).via 63 || leads s 59 (member_at s (member_at s i).via).via) e).0)
 
-dues_balance : (s : Station) → LinksHold s → (figures : List ℕ) → dues_refusal figures ≡ 0 → Balanced (dues_of s figures)
-unfolding dues_of
+dues_balance : (s : Station) → LinksHold s → (figures : List ℕ) → dues_refusal figures ≡ 0 → IsOkAnd (dues_of s figures) Balanced
+unfolding dues_of bill_of
 dues_balance s h figures e = rw e (balanced s figures (relay_is s h))
 
 pub balance : Balance

@@ -1,7 +1,7 @@
 -- With no premise on pieces: a boat's window has handed over exactly the messages whose events 2 the calls returned. Assumes nothing.
+use Rattle.std.specs.Prelude.{Some, None, is_some}
 use mathlib.Core.Path.{◌≡◌, refl, sym, ap, ◌∙◌, subst}
 use mathlib.Core.Bool.{Bool, true, false, cond, ◌&&◌, ◌||◌}
-use mathlib.Core.Option.{none, some}
 use mathlib.Core.List.{List, [], ◌∷◌, ◌++◌, append-nil}
 use mathlib.Core.Logic.{⊎_elim}
 use Prim.Native.Nat.{ℕ, ◌%◌, ◌≤◌, ◌<◌}
@@ -22,7 +22,7 @@ use Rattle.stream.specs.declared.window.Window.{Window}
 use Rattle.stream.specs.declared.table.Room.{Room}
 use Rattle.stream.specs.declared.table.Room.TheVariants.{Own, Free, Full}
 use Rattle.stream.specs.Window.{handed_of, land_of, barred_of, bar_of}
-use Rattle.stream.specs.Table.{Table, Accepted, passed, accept, cell_at, cell_for, cell_count, owner_of, place_of, has_room, has_landed, put_in, table_room, is_over, barred_table}
+use Rattle.stream.specs.Table.{Table, Accepted, passed, accept, cell_at, cell_for, cell_count, owner_of, place_of, has_room, put_in, table_room, is_over, barred_table}
 use Rattle.stream.proofs.Rooms.{RoomIs}
 use Rattle.stream.proofs.Tables.{Tidy, table_room_lem, place_in, kept_other, freed_other}
 use Rattle.stream.proofs.Accepts.{left_as, answer_of, cell_in, held_after, put_as, barred_as, accept_cases, accept_window}
@@ -56,9 +56,9 @@ use Rattle.promise.proofs.Sounds.{Fit, FitRead, fit_frame, step_read_fit, read_f
 -- a piece leaves the cells of landed messages alone, and the cell of a message that lands with it has its number
 pub record Landing (t : Table) (x : Accepted) : Type 0 where
   pub stays : (c : ℕ) → has_bit t.landed c ≡ true → (has_bit x.table.landed c ≡ true) × (get_or x.table.owners c 0 ≡ get_or t.owners c 0)
-  pub fit : has_landed x.landed ≡ true → x.cell < 64
-  pub whole : has_landed x.landed ≡ true → has_bit x.table.landed x.cell ≡ true
-  pub number : has_landed x.landed ≡ true → get_or x.table.owners x.cell 0 % 4294967296 ≡ x.number
+  pub fit : is_some x.landed ≡ true → x.cell < 64
+  pub whole : is_some x.landed ≡ true → has_bit x.table.landed x.cell ≡ true
+  pub number : is_some x.landed ≡ true → get_or x.table.owners x.cell 0 % 4294967296 ≡ x.number
 
 module _ (t : Table) (w : Window) (store : List ℕ) (slot field : ℕ) (p : List ℕ) (tidy : Tidy t store) where
   module _ (k : ℕ) (yes : answer_of t w store slot k (field % 65536) p ≡ Yes) where
@@ -95,13 +95,13 @@ module _ (t : Table) (w : Window) (store : List ℕ) (slot field : ℕ) (p : Lis
         }
 
   -- a piece that lands nothing and leaves the table alone
-  still : (x : Accepted) → x.table ≡ t → has_landed x.landed ≡ false → Landing t x
+  still : (x : Accepted) → x.table ≡ t → is_some x.landed ≡ false → Landing t x
   still x p q =
       record {
         stays = λ c h. (ap (λ (u : Table). has_bit u.landed c) p ∙ h, ap (λ (u : Table). get_or u.owners c 0) p);
-        fit = λ h. absurd (never_both (has_landed x.landed) h q);
-        whole = λ h. absurd (never_both (has_landed x.landed) h q);
-        number = λ h. absurd (never_both (has_landed x.landed) h q);
+        fit = λ h. absurd (never_both (is_some x.landed) h q);
+        whole = λ h. absurd (never_both (is_some x.landed) h q);
+        number = λ h. absurd (never_both (is_some x.landed) h q);
       }
 
   -- a message that claims too much has not landed
@@ -176,15 +176,15 @@ module _ (f : ℕ → ℕ → Bool) (v : View) (es : List Event2) (log : Log f v
   before : (i k : ℕ) → g i k ≡ handed_of (v.windows i) k
   before i k = ap (λ (h : ℕ → ℕ → Bool). h i k) (landed_stays v.table r landing es f log.whole) ∙ log.numbers i k
 
-  land_handed : has_landed r.landed ≡ true → (j : ℕ) → handed_of (land_of (v.windows slot) r.number) j ≡ handed_of (v.windows slot) j || eqb j r.number
+  land_handed : is_some r.landed ≡ true → (j : ℕ) → handed_of (land_of (v.windows slot) r.number) j ≡ handed_of (v.windows slot) j || eqb j r.number
   land_handed q j =
       ap (λ (w : Window). handed_of w j)
-      (sym (accept_land v.table (v.windows slot) v.store slot field p ∙ cond_true (has_landed r.landed) (land_of (v.windows slot) r.number) _ q))
+      (sym (accept_land v.table (v.windows slot) v.store slot field p ∙ cond_true (is_some r.landed) (land_of (v.windows slot) r.number) _ q))
       ∙ (accept_window v.table (v.windows slot) v.store slot field p fit.tidy short (fit.sound slot)).1 j
       ∙ ap (λ (t : Bool). handed_of (v.windows slot) j || (t && eqb j r.number)) q
 
-  after_numbers : (b : Bool) → has_landed r.landed ≡ b → (i k : ℕ)
-      → also_landed (also_one (cond b (some (record { slot = slot; cell = r.cell; number = r.number % 256 })) none) []) r.table.owners g i k
+  after_numbers : (b : Bool) → is_some r.landed ≡ b → (i k : ℕ)
+      → also_landed (also_one (cond b (Some (record { slot = slot; cell = r.cell; number = r.number % 256 })) None) []) r.table.owners g i k
       ≡ handed_of (windows_after v.windows slot b r.number i) k
   after_numbers false q i k = before i k
   after_numbers true q i k =
@@ -202,8 +202,8 @@ module _ (f : ℕ → ℕ → Bool) (v : View) (es : List Event2) (log : Log f v
       ∙ sym (ap (λ (t : Bool). handed_of (cond t (land_of (v.windows i) r.number) (v.windows i)) k) (ne_eqb slot i z)))
       (eq_or_not slot i)
 
-  after_whole : (b : Bool) → has_landed r.landed ≡ b
-      → AllWhole (also_one (cond b (some (record { slot = slot; cell = r.cell; number = r.number % 256 })) none) []) r.table.landed
+  after_whole : (b : Bool) → is_some r.landed ≡ b
+      → AllWhole (also_one (cond b (Some (record { slot = slot; cell = r.cell; number = r.number % 256 })) None) []) r.table.landed
   after_whole false q = tt
   after_whole true q = (landing.whole q, tt)
 
@@ -212,9 +212,9 @@ module _ (f : ℕ → ℕ → Bool) (v : View) (es : List Event2) (log : Log f v
       record {
         numbers = λ i k.
             ap (λ (h : ℕ → ℕ → Bool). h i k) (landed_append es (also_one (event_for slot r) []) r.table.owners f)
-            ∙ after_numbers (has_landed r.landed) refl i k;
+            ∙ after_numbers (is_some r.landed) refl i k;
         whole = whole_append es (also_one (event_for slot r) []) r.table.landed (whole_stays v.table r landing es log.whole)
-            (after_whole (has_landed r.landed) refl);
+            (after_whole (is_some r.landed) refl);
       }
 
   -- a message that claims too much

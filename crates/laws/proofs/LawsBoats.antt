@@ -1,5 +1,6 @@
 -- Pieces of two boats, each with a cell and no message landing, in either order: each piece changes what is held of its own message by what was held of it, and leaves
 -- what is held of every other. Assumes nothing.
+use Rattle.std.specs.Prelude.{Option, Some, None, is_some}
 use mathlib.Core.Path.{◌≡◌, refl, sym, ap, ap₂, ◌∙◌, subst}
 use mathlib.Core.Bool.{Bool, true, false, cond, ◌&&◌, ◌||◌}
 use mathlib.Core.List.{List, []}
@@ -13,15 +14,12 @@ use borrow.Author.Tests.{leb-true}
 use Rattle.bits.specs.Mask.{has_bit, with_bit, without_bit}
 use Rattle.bits.proofs.Laws.{with_same, without_same, without_other}
 use Rattle.bits.proofs.Lists.{cond_true, cond_false, cond_keeps, cases, eq_or_not, never_both}
-use Rattle.wire.specs.declared.number.Number.{Number}
-use Rattle.wire.specs.declared.number.Number.TheVariants.{Is, Before}
 use Rattle.wire.specs.Numbers.{widened}
 use Rattle.inbox.specs.declared.cell.Cell.{Cell}
 use Rattle.inbox.specs.declared.keep.Kept.{Kept}
 use Rattle.inbox.specs.declared.keep.Kept.TheVariants.{Yes, Overlong}
 use Rattle.inbox.specs.Cells.{Held, held}
 use Rattle.inbox.specs.Keeping.{kept_of}
-use Rattle.inbox.specs.declared.store.Landed.TheVariants.{Bytes, NotYet}
 use Rattle.inbox.specs.Messages.{Fits, empty_cell, empty, announced, landed, shows_of}
 use Rattle.inbox.specs.Stores.{cell_of, landed_of}
 use Rattle.inbox.specs.Box.{Box, take_in, pieces_of, box_of}
@@ -34,7 +32,7 @@ use Rattle.stream.specs.declared.window.Window.{Window}
 use Rattle.stream.specs.declared.table.Room.{Room}
 use Rattle.stream.specs.declared.table.Room.TheVariants.{Own, Free, Full}
 use Rattle.stream.specs.Window.{handed_of, barred_of, fresh_of, land_of}
-use Rattle.stream.specs.Table.{Table, Accepted, accept, no_cell, is_own, cell_at, cell_count, cell_for, held_for, place_of, has_room, owner_of, room_for, table_room, is_over, changes, bars, has_landed, put_in, barred_table}
+use Rattle.stream.specs.Table.{Table, Accepted, accept, no_cell, is_own, cell_at, cell_count, cell_for, held_for, place_of, has_room, owner_of, room_for, table_room, is_over, changes, bars, put_in, barred_table}
 use Rattle.stream.proofs.Rooms.{RoomIs, room_is, own_filling, filling_own, owner_same, cells_are}
 use Rattle.stream.proofs.Tables.{Tidy, filling, kept_other, filling_other, freed_other, place_in}
 use Rattle.stream.proofs.Windows.{Sound, sound_next}
@@ -216,13 +214,13 @@ box_asked Full t store = empty_box (cell_of store 0)
 
 -- a piece with this field is of message k, which is not handed over
 record Named (w : Window) (field k : ℕ) : Type 0 where
-  pub is : widened (field / 65536 % 256) w.next ≡ Is k
+  pub is : widened (field / 65536 % 256) w.next ≡ Some k
   pub fresh : handed_of w k ≡ false
 
-number_same : (n : Number) (k j : ℕ) → n ≡ Is k → n ≡ Is j → k ≡ j
+number_same : (n : Option ℕ) (k j : ℕ) → n ≡ Some k → n ≡ Some j → k ≡ j
 number_same n k j p q = cc
 
-number_none : (n : Number) (k : ℕ) → n ≡ Is k → n ≡ Before → ⊥
+number_none : (n : Option ℕ) (k : ℕ) → n ≡ Some k → n ≡ None → ⊥
 number_none n k p q = let z : ◌≡◌ {A = ℕ} 0 1 = cc in omega arith
 
 -- the rule's answer, by the cell that is asked and whether the number is barred
@@ -237,7 +235,7 @@ grown_by a o p b = cond (changes a) (take_in b o p) (cond (bars a) none_yet b)
 abbrev lands_in : Box → Bool
 lands_in b = leb 2 (length b.joined) && leb (2 + announced b.joined) (length b.joined)
 
-lands_box : (h : Held) → h.cell.joined ≤ length h.bytes → has_landed (landed_of h) ≡ lands_in (box_of h)
+lands_box : (h : Held) → h.cell.joined ≤ length h.bytes → is_some (landed_of h) ≡ lands_in (box_of h)
 lands_box h fits =
     has_landed_lem (landed h)
     ∙ ⊎_elim (λ a. ap (λ (x : ℕ). leb 2 j && leb (2 + x) j) (sym (front (leb-true 2 j a))))
@@ -247,7 +245,7 @@ lands_box h fits =
     j : ℕ
     j = h.cell.joined
 
-    has_landed_lem : (b : Bool) → has_landed (cond b (Bytes (announced h.bytes)) NotYet) ≡ b
+    has_landed_lem : (b : Bool) → is_some (cond b (Some (announced h.bytes)) None) ≡ b
     has_landed_lem true = refl
     has_landed_lem false = refl
 
@@ -338,7 +336,7 @@ module _ (t : Table) (w : Window) (store : List ℕ) (slot field : ℕ) (p : Lis
         (asked_fits t store tidy (owner_of slot k) low, cell_length store c in_store) off p short ends
         ∙ ap (λ (b : Box). take_in b off p) (box_asked (table_room t slot k) t store)
 
-    own_put : Tidy t' store' → has_landed (put_as t w store slot k off p).landed ≡ false
+    own_put : Tidy t' store' → is_some (put_as t w store slot k off p).landed ≡ false
         → box_at t' store' (owner_of slot k) ≡ take_in (box_at t store (owner_of slot k)) off p
     own_put tidy' quiet =
         let n = tidy.cells in
@@ -433,9 +431,9 @@ module _ (t : Table) (w : Window) (store : List ℕ) (slot field : ℕ) (p : Lis
   Grows x k =
       has_room (table_room t slot k) ≡ true → box_at x.table x.store (owner_of slot k) ≡ grown_by (rule k) off p (box_at t store (owner_of slot k))
 
-  own : (k : ℕ) → Named w field k → has_landed r.landed ≡ false → Grows r k
+  own : (k : ℕ) → Named w field k → is_some r.landed ≡ false → Grows r k
   own k m quiet =
-      accept_cases t w store slot field p (λ x. Tidy x.table x.store → has_landed x.landed ≡ false → Grows x k)
+      accept_cases t w store slot field p (λ x. Tidy x.table x.store → is_some x.landed ≡ false → Grows x k)
       (λ e d q. absurd (number_none _ k m.is e))
       (λ j e h d q. absurd (never_both (handed_of w j) h (ap (handed_of w) (number_same _ j k e m.is) ∙ m.fresh)))
       (λ j u a q c z d v. subst (Grows (left_as t w store (cell_in t slot j) j a)) (number_same _ j k u.is m.is) (left j a q c z))
@@ -455,13 +453,13 @@ module _ (t : Table) (w : Window) (store : List ℕ) (slot field : ℕ) (p : Lis
       bar j q d room = own_barred j d ∙ sym (ap (λ (x : Kept). grown_by x off p (box_at t store (owner_of slot j))) (rule_is j Overlong q room))
 
       put : (j : ℕ) (q : answer_of t w store slot j off p ≡ Yes) → Tidy (put_as t w store slot j off p).table (put_as t w store slot j off p).store
-          → has_landed (put_as t w store slot j off p).landed ≡ false → Grows (put_as t w store slot j off p) j
+          → is_some (put_as t w store slot j off p).landed ≡ false → Grows (put_as t w store slot j off p) j
       put j q d v room = own_put j q d v ∙ sym (ap (λ (x : Kept). grown_by x off p (box_at t store (owner_of slot j))) (rule_is j Yes q room))
 
   -- it lands as the rule says
   abbrev Lands : Accepted → ℕ → Type 0
   Lands x k =
-      has_room (table_room t slot k) ≡ true → has_landed x.landed ≡ lands_by (rule k) off p (box_at t store (owner_of slot k))
+      has_room (table_room t slot k) ≡ true → is_some x.landed ≡ lands_by (rule k) off p (box_at t store (owner_of slot k))
 
   lands : (k : ℕ) → Named w field k → Lands r k
   lands k m =
@@ -495,9 +493,9 @@ module _ (t : Table) (w : Window) (store : List ℕ) (slot field : ℕ) (p : Lis
       accept_cases t w store slot field p (λ x. Spare x.table)
       (λ e. (a, low-a, free-a)) (λ k e h. (a, low-a, free-a)) (λ k u y q v z. (a, low-a, free-a))
       (λ k u q. let i = free_barred k (table_room t slot k) a low-a free-a in (a, i.0, i.1))
-      (λ k u q. put k q (subst (λ (n : Number). CellFor n slot t b) u.is for-b))
+      (λ k u q. put k q (subst (λ (n : Option ℕ). CellFor n slot t b) u.is for-b))
     where
-      put : (k : ℕ) (q : answer_of t w store slot k off p ≡ Yes) → CellFor (Is k) slot t b → Spare (put_as t w store slot k off p).table
+      put : (k : ℕ) (q : answer_of t w store slot k off p ≡ Yes) → CellFor (Some k) slot t b → Spare (put_as t w store slot k off p).table
       put k q g =
           ⊎_elim (λ e. ⊎_elim (λ i. absurd (z (e ∙ own_is i))) (λ i. (b, i.0, stays b (λ j. z (e ∙ sym j)) i.1)) g)
           (λ n. (a, low-a, stays a n free-a)) (eq_or_not a (cell_in t slot k))
@@ -549,10 +547,10 @@ module _ (n : Net) (f : Fit n) where
   whose : (x : Up) (o : ℕ) → ((k : ℕ) × Its x o k) ⊎ ((k : ℕ) → Named (win x) x.field k → o ≡ owner_of x.slot k → ⊥)
   whose x o = go (widened (x.field / 65536 % 256) (win x).next) refl
     where
-      go : (m : Number) → widened (x.field / 65536 % 256) (win x).next ≡ m
+      go : (m : Option ℕ) → widened (x.field / 65536 % 256) (win x).next ≡ m
           → ((k : ℕ) × Its x o k) ⊎ ((k : ℕ) → Named (win x) x.field k → o ≡ owner_of x.slot k → ⊥)
-      go Before e = inr (λ k m q. number_none _ k m.is e)
-      go (Is k) e =
+      go None e = inr (λ k m q. number_none _ k m.is e)
+      go (Some k) e =
           ⊎_elim (λ h. inr (λ j m q. never_both (handed_of (win x) j) (ap (handed_of (win x)) (number_same _ j k m.is e) ∙ h) m.fresh))
           (λ h.
           ⊎_elim (λ q. inl (k, (record { is = e; fresh = h }, q)))
@@ -563,7 +561,7 @@ module _ (n : Net) (f : Fit n) where
   -- there is room for x's message, and x does not land it
   record Calm (x : Up) (k : ℕ) (t : Table) (store : List ℕ) : Type 0 where
     pub room : has_room (table_room t x.slot k) ≡ true
-    pub quiet : has_landed (takes s x t store).landed ≡ false
+    pub quiet : is_some (takes s x t store).landed ≡ false
 
   module _ (x y : Up) (u : IsUp s x) (v : IsUp s y) (apart : x.slot ≡ y.slot → ⊥) (o : ℕ) where
     -- a message of x's boat is none of y's
@@ -614,7 +612,7 @@ module _ (n : Net) (f : Fit n) where
           room = ⊎_elim
               (λ i. ap has_room (own_room t₀ n.store f.view.tidy (owner_of x.slot k) c (own_filling t₀.owners t₀.busy t₀.landed (owner_of x.slot k) c i)))
               (λ i. free_room t₀ n.store f.view.tidy (owner_of x.slot k) c i.0 i.1)
-              (subst (λ (z : Number). CellFor z x.slot t₀ c) m.0.is g);
+              (subst (λ (z : Option ℕ). CellFor z x.slot t₀ c) m.0.is g);
           quiet = q;
         }
 
@@ -644,7 +642,7 @@ module _ (n : Net) (f : Fit n) where
             (λ i.
             let w = spare t₀ (win y) n.store y.slot y.field y.bytes f.view.tidy v.short c d z i.0 i.1 e in
             free_room (one y).table (one y).store (tidy_one y v) (owner_of x.slot k) w.0 w.1 w.2)
-            (subst (λ (z : Number). CellFor z x.slot t₀ c) m.0.is g)
+            (subst (λ (z : Option ℕ). CellFor z x.slot t₀ c) m.0.is g)
           where
             own_stays : room_at t₀ (owner_of x.slot k) ≡ Own c → SameAt t₀ n.store (one y).table (one y).store (owner_of x.slot k)
                 → has_room (table_room (one y).table x.slot k) ≡ true
@@ -689,7 +687,7 @@ module _ (a : Air) (x : Up) (r : Reading) (here : is_member r.station.used x.slo
     pub store : z.store ≡ d.store
     pub used : z.station.used ≡ r.station.used
     pub long : length z.station.members ≡ 62
-    pub windows : has_landed d.landed ≡ false → (i : ℕ) → (i ≡ x.slot → ⊥) → window_at z.station i ≡ window_at r.station i
+    pub windows : is_some d.landed ≡ false → (i : ℕ) → (i ≡ x.slot → ⊥) → window_at z.station i ≡ window_at r.station i
 
   relay_used : (b : Bool) (s : Station) → (relay_if b s).used ≡ s.used
   relay_used true s = refl
@@ -705,7 +703,7 @@ module _ (a : Air) (x : Up) (r : Reading) (here : is_member r.station.used x.slo
       record {
         table = ap (λ (y : View). y.table) v;
         store = refl;
-        used = relay_used (is_relayed a r.station x.slot d) _ ∙ traffic_used (has_landed d.landed) _;
+        used = relay_used (is_relayed a r.station x.slot d) _ ∙ traffic_used (is_some d.landed) _;
         long = piece_long a x.slot d r here many;
         windows = λ q i z.
             ap (λ (y : View). y.windows i) v

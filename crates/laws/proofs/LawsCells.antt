@@ -1,4 +1,5 @@
 -- A cell is what the pieces that went into it since it was taken make of an empty one: so after any calls from a start, nobody else writing the store. Assumes nothing.
+use Rattle.std.specs.Prelude.{Option}
 use mathlib.Core.Path.{◌≡◌, refl, sym, ap, ◌∙◌, subst}
 use mathlib.Core.Bool.{Bool, true, false, cond, ◌&&◌}
 use mathlib.Core.List.{List, [], ◌∷◌, ◌++◌}
@@ -13,7 +14,6 @@ use borrow.Author.Tests.{eq-eqb, ne_eqb}
 use Rattle.bits.specs.Mask.{has_bit, without_bit}
 use Rattle.bits.proofs.Laws.{has_none, without_same, without_other}
 use Rattle.bits.proofs.Lists.{cond_keeps, cond_true, and_true, eq_or_not, never_both}
-use Rattle.wire.specs.declared.number.Number.{Number}
 use Rattle.wire.specs.Kinds.{t_up}
 use Rattle.wire.specs.Numbers.{widened}
 use Rattle.words.specs.Words.{Heard, lost, heard, Burst, Parsed, parsed, parse}
@@ -176,11 +176,11 @@ module _ (t : Table) (w : Window) (store : List ℕ) (slot field : ℕ) (p : Lis
   piece_traced : Traced (went_by (widened (field / 65536 % 256) w.next) t w store slot o p f) (table.accept t w store slot field p).table (table.accept t w store slot field p).store
   piece_traced =
       accept_cases t w store slot field p (λ x. Traced (went_by (widened (field / 65536 % 256) w.next) t w store slot o p f) x.table x.store)
-      (λ e. subst (λ (n : Number). Traced (went_by n t w store slot o p f) t store) (sym e) old)
-      (λ k e h. subst (λ (n : Number). Traced (went_by n t w store slot o p f) t store) (sym e) (rw h old))
-      (λ k u a q n z. subst (λ (m : Number). Traced (went_by m t w store slot o p f) t store) (sym u.is) (rw (u.fresh, q, n) old))
-      (λ k u q. subst (λ (m : Number). Traced (went_by m t w store slot o p f) (barred_as t w store slot k).table store) (sym u.is) (rw (u.fresh, q) (bar_traced k)))
-      (λ k u q. subst (λ (m : Number). Traced (went_by m t w store slot o p f) (put_as t w store slot k o p).table (put_as t w store slot k o p).store) (sym u.is)
+      (λ e. subst (λ (n : Option ℕ). Traced (went_by n t w store slot o p f) t store) (sym e) old)
+      (λ k e h. subst (λ (n : Option ℕ). Traced (went_by n t w store slot o p f) t store) (sym e) (rw h old))
+      (λ k u a q n z. subst (λ (m : Option ℕ). Traced (went_by m t w store slot o p f) t store) (sym u.is) (rw (u.fresh, q, n) old))
+      (λ k u q. subst (λ (m : Option ℕ). Traced (went_by m t w store slot o p f) (barred_as t w store slot k).table store) (sym u.is) (rw (u.fresh, q) (bar_traced k)))
+      (λ k u q. subst (λ (m : Option ℕ). Traced (went_by m t w store slot o p f) (put_as t w store slot k o p).table (put_as t w store slot k o p).store) (sym u.is)
       (rw (u.fresh, q) (put_traced k q)))
 
   -- one that is not kept, and bars nothing, leaves the cells alone

@@ -1,11 +1,11 @@
 -- The station's own logs pass the turn check: what the monitor accepts, the check accepts. Assumes nothing.
+use Rattle.std.specs.Prelude.{Option, Some, None}
 use mathlib.Core.Path.{◌≡◌, refl, sym, ap, ◌∙◌, subst}
 use mathlib.Core.Logic.{inl, inr}
 use Prim.Native.Nat.{ℕ, zero, suc, ◌+◌, ◌/◌, ◌%◌, ◌<◌}
 use native.Mathlib.Omega.{arith}
 use mathlib.Core.Bool.{Bool, true, false, cond, ◌&&◌}
 use mathlib.Core.List.{List, [], ◌∷◌, ◌++◌, append_assoc, append-nil}
-use mathlib.Core.Option.{Option, none, some}
 use lib.ListN.{length}
 use borrow.Author.Tests.{eq-eqb, ne_eqb, lt-ltb}
 use Rattle.bits.specs.Mask.{has_bit, slots_of}
@@ -104,8 +104,8 @@ goes_ack es k x y g left (turn s p a) (runs (log-turns.turn z q b)) l c =
     rw (eq-eqb x z (c.0 ∙ sym l.2), lt-ltb b 4 (omega (arith, l.4, c.1))) (g left rest idle l.0 c.2.1)
 
 goes_over_if : (es : List Entry) (k : List TurnEvent) (o : Option ℕ) → Goes es k → Goes es (over_if o ++ k)
-goes_over_if es k none g = g
-goes_over_if es k (some x) g = goes_over es k x g
+goes_over_if es k None g = g
+goes_over_if es k (Some x) g = goes_over es k x g
 
 goes_burst : {b : List TurnEvent} {o : Option ℕ} {h : List Entry} (es : List Entry) (k : List TurnEvent) → Agree b o h → Goes es k → Goes (h ++ es) (b ++ (over_if o ++ k))
 goes_burst {b} {o} es k Agree.neither g = goes_over_if es k o g
@@ -216,12 +216,12 @@ sound_burst {ws} {o} v k s f =
 
 -- the mark of a list that is drawn up
 abbrev mark_if : Option ℕ → List ℕ
-mark_if none = []
-mark_if (some list) = mark_words (slots_of list 62 0)
+mark_if None = []
+mark_if (Some list) = mark_words (slots_of list 62 0)
 
 sound_mark : (o : Option ℕ) (v : List ℕ) (k : List TurnEvent) → Sound v k → Sound (mark_if o ++ v) (drew_if o ++ k)
-sound_mark none v k f = f
-sound_mark (some m) v k f =
+sound_mark None v k f = f
+sound_mark (Some m) v k f =
     let l = slots_of m 62 0 in
     let h : Slots l = λ x i. below m 62 0 x i in
     let short : length l < 64 = omega (arith, slots_length m 62 0) in
@@ -235,12 +235,12 @@ sound_before : (o : Option ℕ) (v : List ℕ) (k : List TurnEvent) → Sound v 
 sound_before o v k f = record { good = f.good; marks = f.marks; goes = goes_over_if (entries_from 0 v) k o f.goes }
 
 marks_over : (o : Option ℕ) (es : List TurnEvent) → marks_in (over_if o ++ es) ≡ marks_in es
-marks_over none es = refl
-marks_over (some x) es = refl
+marks_over None es = refl
+marks_over (Some x) es = refl
 
 marks_drew : (o : Option ℕ) → marks_in (drew_if o) ≡ mark_if o
-marks_drew none = refl
-marks_drew (some m) = append-nil (mark_words (slots_of m 62 0))
+marks_drew None = refl
+marks_drew (Some m) = append-nil (mark_words (slots_of m 62 0))
 
 sound_by : (b : Bool) (r d o : Option ℕ) (ws v : List ℕ) (k : List TurnEvent) → Logged ws o → Sound v k
     → Sound (cond b [] (mark_if d ++ sent_in ws) ++ v) (cond b [] ((over_if r ++ drew_if d) ++ (bursts_in ws ++ over_if o)) ++ k)

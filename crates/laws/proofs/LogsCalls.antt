@@ -1,10 +1,10 @@
 -- What each call returns, as a log has it: events, and one burst behind them at most. Assumes nothing.
+use Rattle.std.specs.Prelude.{Option, Some, None}
 use mathlib.Core.Path.{◌≡◌, refl, sym, ap, ◌∙◌, subst}
 use Prim.Native.Nat.{ℕ, zero, suc, ◌%◌, ◌+◌, ◌-◌, ◌*◌, ◌≤◌}
 use native.Mathlib.Omega.{arith}
 use mathlib.Core.Bool.{Bool, true, false, cond, ◌&&◌, ◌||◌}
 use mathlib.Core.List.{List, [], ◌++◌, append_assoc, append-nil}
-use mathlib.Core.Option.{Option, none, some}
 use lib.Dec.{eqb, ltb}
 use lib.Ieee.{Float}
 use lib.ListN.{length, get_or}
@@ -58,11 +58,11 @@ logged_mute ws behind m = record { events = ws; burst = []; words = sym (append-
 
 -- ---- each burst
 
-here_poll : (here t : Bool) (x y l m : ℕ) → Burst (cond here (tiny_words (cond t 1 5) x l) (tiny_words (cond t 1 5) y m)) none
+here_poll : (here t : Bool) (x y l m : ℕ) → Burst (cond here (tiny_words (cond t 1 5) x l) (tiny_words (cond t 1 5) y m)) None
 here_poll true t x y l m = burst_poll t x l
 here_poll false t x y l m = burst_poll t y m
 
-poll_ok : (g : Settings) (here : Bool) (m : Member) (slot relayfor : ℕ) (robust : Bool) → Burst (poll_burst g here m slot relayfor robust) none
+poll_ok : (g : Settings) (here : Bool) (m : Member) (slot relayfor : ℕ) (robust : Bool) → Burst (poll_burst g here m slot relayfor robust) None
 unfolding poll_burst
 poll_ok g here m slot relayfor robust = here_poll here (eqb relayfor 63) _ _ _ 0
 
@@ -85,7 +85,7 @@ frames_downs (suc k) queue slot max last o h =
     (frames_downs k queue slot max last (o + max) h)))
     (λ _. frames_none (suc k))
 
-down_ok : (s : Station) (queue : List ℕ) (slot : ℕ) → Burst (direct_burst s queue slot).words none
+down_ok : (s : Station) (queue : List ℕ) (slot : ℕ) → Burst (direct_burst s queue slot).words None
 unfolding direct_burst down_burst
 down_ok s queue slot =
     let g = s.settings in
@@ -109,7 +109,7 @@ module _ {F : Type 0} {now : Float} {lent : List ℕ} where
   -- that leaves relays in order
   sends_logged : {s : Station} {x : Said} {o : Option ℕ} → Sends F now lent s x o → Sendable s.settings → LinksHold x.station → Burst x.words o
   unfolding acks_burst beacon_of direct_burst
-  sends_logged Sends.nothing g l = burst_none none
+  sends_logged Sends.nothing g l = burst_none None
   sends_logged {s} Sends.closing g l = burst_close s.settings.beaconlevel
   sends_logged {s} (Sends.again r e z) g l = poll_ok s.settings (is_member s.used r.slot) (member_at s r.slot) r.slot r.relayfor true
   sends_logged {s} (Sends.beacon f e) g l = burst_other s.settings.beaconlevel _ (beacon_frames s g) (beacon_other s now)
@@ -119,7 +119,7 @@ module _ {F : Type 0} {now : Float} {lent : List ℕ} where
   sends_logged {s} (Sends.poll e slot h) g l = poll_ok s.settings (is_member s.used slot) (member_at s slot) slot (source_for s slot) false
   sends_logged (Sends.pollack r n heard e h) g l = burst_pollack _ _
   sends_logged (Sends.ack r n heard e) g l = burst_ack _ _ r.slot
-  sends_logged (Sends.idle r e) g l = burst_none (some r.slot)
+  sends_logged (Sends.idle r e) g l = burst_none (Some r.slot)
 
   logged : {A : Allowed} {n : ℕ} {s : Station} {x : Said} {a b o : Option ℕ} → Spoken A F now lent n s x a b o → Sendable s.settings
       → LinksHold x.station → Logged x.words o
@@ -148,13 +148,13 @@ logged_unless n s store o behind f = by (eqb n 0)
 
 -- one that returns no burst
 logged_quiet : (n : ℕ) (s t : Station) (store old ws : List ℕ) → Mute ws → LinksHold (unless n s store (done t old ws)).station
-    → Logged (unless n s store (done t old ws)).words none
-logged_quiet n s t store old ws m = logged_unless n s store (done t old ws) none (λ l. logged_mute ws none m)
+    → Logged (unless n s store (done t old ws)).words None
+logged_quiet n s t store old ws m = logged_unless n s store (done t old ws) None (λ l. logged_mute ws None m)
 
 logged_receive : (p : Parsed words.Burst) (n : ℕ) (s : Station) (snr now : Float) (store : List ℕ) → Sendable s.settings
     → LinksHold (unless n s store (receive_by p s snr now store)).station
-    → Logged (unless n s store (receive_by p s snr now store)).words (of_burst p none (λ b. (ncs_rx s b snr now store).over))
-logged_receive malformed n s snr now store g = logged_unless n s store (refused 3 s store) none (λ l. logged_mute [] none mute_none)
+    → Logged (unless n s store (receive_by p s snr now store)).words (of_burst p None (λ b. (ncs_rx s b snr now store).over))
+logged_receive malformed n s snr now store g = logged_unless n s store (refused 3 s store) None (λ l. logged_mute [] None mute_none)
 logged_receive (parsed b) n s snr now store g =
     logged_unless n s store (receive_by (parsed b) s snr now store) (ncs_rx s b snr now store).over
     (λ l. logged (rx_spoken all tt now [] tt s b snr store tt) g l)
@@ -173,7 +173,7 @@ reports (reception words snr now lent room numbers) n f g =
     (lent_to lent n.store) g
 reports (decision now queue room) n f g =
     let s = n.station in
-    logged_unless (next_refusal now (length queue) room) s [] (done (ncs_next s now queue).station [] (ncs_next s now queue).words) none
+    logged_unless (next_refusal now (length queue) room) s [] (done (ncs_next s now queue).station [] (ncs_next s now queue).words) None
     (λ l. logged (next_spoken all tt now queue s) g l)
 reports (posting slot message queue) n f g =
     logged_quiet (post_refusal (length queue) n.station.used slot (queue_at n.station slot) (length message)) n.station _ queue _ [] mute_none

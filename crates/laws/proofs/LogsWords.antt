@@ -5,7 +5,7 @@ use native.Mathlib.Nat.{zero-add}
 use native.Mathlib.Omega.{arith}
 use mathlib.Core.Bool.{Bool, true, false, cond, ◌||◌}
 use mathlib.Core.List.{List, [], ◌∷◌, ◌++◌, append_assoc}
-use mathlib.Core.Option.{Option, none, some}
+use Rattle.std.specs.Prelude.{Some, Option, None}
 use lib.Dec.{eqb}
 use lib.ListN.{length, take, drop, length-drop}
 use borrow.Author.Tests.{eq-eqb, ne_eqb, le-leb}
@@ -99,8 +99,8 @@ module _ (flags field : ℕ) (fl : flags < 256) (fi : field < 16777216) (p ws : 
   -- a frame, where one may follow
   good_frame : (m : ℕ) → GoodFrom m ws → GoodFrom (suc m) (frame_words flags field p ++ ws)
   good_frame m g room h =
-      let q : part_of room (frame_words flags field p ++ ws) ≡ part (2 + words_for (length p)) (room - 1) = frame_part_lem room ∙ cond_false (eqb room 0) _ _ (ne_eqb room 0 (λ e. omega arith)) in
-      parts_more (frame_words flags field p ++ ws) 0 room (part (2 + words_for (length p)) (room - 1)) (sym q) (omega arith) (λ e. omega arith)
+      let q : part_of room (frame_words flags field p ++ ws) ≡ Some (part (2 + words_for (length p)) (room - 1)) = frame_part_lem room ∙ cond_false (eqb room 0) _ _ (ne_eqb room 0 (λ e. omega arith)) in
+      parts_more (frame_words flags field p ++ ws) 0 room (omega arith) (part (2 + words_for (length p)) (room - 1)) (sym q) (omega arith)
       ∙ rw (zero-add (2 + words_for (length p)), rest_back flags field p ws fl fi n bs) (g (room - 1) (omega arith))
 
 -- ---- frames
@@ -159,9 +159,9 @@ frames_rows kind size n l k m bs e = frames_chunks kind (chunk_size size) k m (l
 -- what the monitor sees of a burst, the slot whose waiting ends behind it, and what the log shows of it: only K_ACK ends a waiting
 pub data Agree : List TurnEvent → Option ℕ → List Entry → Type 0 where
   neither : {b : Option ℕ} → Agree [] b []
-  polls : {x : ℕ} → Agree (poll x ∷ []) none (log.poll x ∷ [])
-  goes : {x : ℕ} → Agree (ack x ∷ []) none (log.pollack x ∷ [])
-  ends : {x y : ℕ} → Agree (ack x ∷ []) (some y) (log.ack x ∷ [])
+  polls : {x : ℕ} → Agree (poll x ∷ []) None (log.poll x ∷ [])
+  goes : {x : ℕ} → Agree (ack x ∷ []) None (log.pollack x ∷ [])
+  ends : {x y : ℕ} → Agree (ack x ∷ []) (Some y) (log.ack x ∷ [])
 
 -- a burst as a log has it
 pub record Burst (b : List ℕ) (behind : Option ℕ) : Type 0 where
@@ -214,16 +214,16 @@ module _ (code hi extra level : ℕ) (fs : List ℕ) (f : Frames 64 fs) where
       }
 
 -- a burst with frames
-pub burst_other : (level : ℕ) (fs : List ℕ) → Frames 64 fs → bursts_in (head_words 0 0 0 level ++ fs) ≡ [] → Burst (head_words 0 0 0 level ++ fs) none
-burst_other level fs f e = burst_of_lem 0 0 0 level fs f none (subst (λ (l : List TurnEvent). Agree l none []) (sym e) Agree.neither)
+pub burst_other : (level : ℕ) (fs : List ℕ) → Frames 64 fs → bursts_in (head_words 0 0 0 level ++ fs) ≡ [] → Burst (head_words 0 0 0 level ++ fs) None
+burst_other level fs f e = burst_of_lem 0 0 0 level fs f None (subst (λ (l : List TurnEvent). Agree l None []) (sym e) Agree.neither)
 
 -- one of data, whose code is its level
-pub burst_level : (level : ℕ) (fs : List ℕ) → level < 17 → Frames 64 fs → bursts_in (head_words level 0 0 level ++ fs) ≡ [] → Burst (head_words level 0 0 level ++ fs) none
+pub burst_level : (level : ℕ) (fs : List ℕ) → level < 17 → Frames 64 fs → bursts_in (head_words level 0 0 level ++ fs) ≡ [] → Burst (head_words level 0 0 level ++ fs) None
 burst_level level fs l f e =
     let w = head_word level 0 0 in
     let c : w / 2097152 % 128 ≡ level = omega arith in
-    burst_of_lem level 0 0 level fs f none
-    (subst (λ (x : List Entry). Agree (bursts_in (head_words level 0 0 level ++ fs)) none x) (sym (rw (c, ne_eqb level 62 (λ z. omega arith)))) (subst (λ (x : List TurnEvent). Agree x none []) (sym e) Agree.neither))
+    burst_of_lem level 0 0 level fs f None
+    (subst (λ (x : List Entry). Agree (bursts_in (head_words level 0 0 level ++ fs)) None x) (sym (rw (c, ne_eqb level 62 (λ z. omega arith)))) (subst (λ (x : List TurnEvent). Agree x None []) (sym e) Agree.neither))
 
 -- ---- header-only bursts
 
@@ -246,15 +246,15 @@ burst_tiny kind extra level behind h a =
     (subst (λ (l : List TurnEvent). Agree l behind (sending_by (head_of (head_word 62 kind extra)))) (sym (tiny_head kind extra level h))
     (subst (λ (l : List Entry). Agree (tiny_burst kind (extra % 64) ++ []) behind l) (sym (tiny_entry_lem kind extra h)) a))
 
-pub burst_poll : (t : Bool) (extra level : ℕ) → Burst (tiny_words (cond t 1 5) extra level) none
-burst_poll true extra level = burst_tiny 1 extra level none (omega arith) Agree.polls
-burst_poll false extra level = burst_tiny 5 extra level none (omega arith) Agree.polls
+pub burst_poll : (t : Bool) (extra level : ℕ) → Burst (tiny_words (cond t 1 5) extra level) None
+burst_poll true extra level = burst_tiny 1 extra level None (omega arith) Agree.polls
+burst_poll false extra level = burst_tiny 5 extra level None (omega arith) Agree.polls
 
-pub burst_pollack : (extra level : ℕ) → Burst (tiny_words 2 extra level) none
-burst_pollack extra level = burst_tiny 2 extra level none (omega arith) Agree.goes
+pub burst_pollack : (extra level : ℕ) → Burst (tiny_words 2 extra level) None
+burst_pollack extra level = burst_tiny 2 extra level None (omega arith) Agree.goes
 
-pub burst_ack : (extra level slot : ℕ) → Burst (tiny_words 3 extra level) (some slot)
-burst_ack extra level slot = burst_tiny 3 extra level (some slot) (omega arith) Agree.ends
+pub burst_ack : (extra level slot : ℕ) → Burst (tiny_words 3 extra level) (Some slot)
+burst_ack extra level slot = burst_tiny 3 extra level (Some slot) (omega arith) Agree.ends
 
-pub burst_close : (level : ℕ) → Burst (tiny_words 6 0 level) none
-burst_close level = burst_tiny 6 0 level none (omega arith) Agree.neither
+pub burst_close : (level : ℕ) → Burst (tiny_words 6 0 level) None
+burst_close level = burst_tiny 6 0 level None (omega arith) Agree.neither

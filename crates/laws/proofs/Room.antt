@@ -1,5 +1,6 @@
 -- The words of a call fit the output that it must be lent: a reception has 64 frames, each with 127 events at most, and two words of reply; what an admission
 -- and a next decision have at most is said in promise's proofs/Short.antt. Assumes nothing.
+use Rattle.std.specs.Prelude.{Option}
 use mathlib.Core.Path.{◌≡◌, refl, sym, ap, ◌∙◌}
 use Prim.Native.Nat.{ℕ, ◌+◌, ◌*◌, ◌≤◌}
 use native.Mathlib.Nat.{zero-add}
@@ -25,7 +26,6 @@ use Rattle.rx.specs.Reception.{ncs_rx}
 use Rattle.station.specs.declared.Answer.TheVariants.{Refused, Words}
 use Rattle.station.specs.Entries.{Outcome, answer_of, number_in, words_in, refused, done, unless, check4, admit_refusal, admit_of, admitted, receive_by, receive_refusal, receive_of, next_refusal, next_of}
 use Rattle.next.specs.Next.{ncs_next}
-use mathlib.Core.Option.{Option}
 use Rattle.net.specs.declared.Settings.{Settings}
 use Rattle.roster.specs.declared.Member.{Member}
 use Rattle.bursts.specs.Bursts.{poll_burst}

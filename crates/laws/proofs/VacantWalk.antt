@@ -1,4 +1,5 @@
 -- Every change leaves a slot without a boat as at a start, and nothing names it: so it is after any calls (an instance of the walk). Assumes nothing.
+use Rattle.std.specs.Prelude.{Option, Some, None}
 use mathlib.Core.Path.{◌≡◌, refl, ap, ◌∙◌, subst}
 use mathlib.Core.Logic.{◌⊎◌, inl, inr}
 use Prim.Native.Nat.{ℕ, zero, suc, ◌+◌, ◌*◌, ◌%◌, ◌≤◌, ◌<◌}
@@ -9,8 +10,6 @@ use lib.Dec.{eqb, ltb}
 use lib.ListN.{length, get_or, replicate, length-replicate, get_or-replicate}
 use Rattle.bits.specs.Loop.{first}
 use Rattle.bits.specs.Mask.{has_bit, without_bit}
-use Rattle.bits.specs.declared.Found.{Found}
-use Rattle.bits.specs.declared.Found.TheVariants as found
 use Rattle.bits.proofs.Lists.{and_true, lt_or_le, never_both}
 use Rattle.bits.proofs.Laws.{has_none}
 use Rattle.bits.proofs.Loops.{first_found}
@@ -40,10 +39,10 @@ use Rattle.laws.proofs.VacantSign.{AllKeep, sign_keeps}
 
 module _ (i : ℕ) (low : i < 62) where
   -- the source of a poll is a boat, or none
-  source_by : (s : Station) (slot : ℕ) (f : has_bit s.used i ≡ false) (x : Found)
+  source_by : (s : Station) (slot : ℕ) (f : has_bit s.used i ≡ false) (x : Option ℕ)
       → first (is_source s.hears (without_bit (needs_of s) slot) (able_of s) (tried_of s) slot s.settings.relaysnr) 62 0 ≡ x → slot_or63 x ≡ i → ⊥
-  source_by s slot f found.Nothing q e = omega arith
-  source_by s slot f (found.At a) q e =
+  source_by s slot f None q e = omega arith
+  source_by s slot f (Some a) q e =
       let r = first_found (is_source s.hears (without_bit (needs_of s) slot) (able_of s) (tried_of s) slot s.settings.relaysnr) 62 0 a q in
       let h : has_bit (without_bit (needs_of s) slot) a ≡ true = (and_true (has_bit (without_bit (needs_of s) slot) a) _ r.1).0 in
       let z : has_bit (needs_of s) i ≡ false = mask_where_lem (needs_at s) i low ∙ ap (λ (b : Bool). b && needs_relay (member_in s i)) f in

@@ -1,4 +1,5 @@
 -- The call answers the lowest of the last 32 readings: each call's updates are what its definition makes of the rings. Assumes nothing.
+use Rattle.std.specs.Prelude.{Option, Some, None, is_some}
 use mathlib.Core.Path.{◌≡◌, refl, sym, ap, ap₂, ◌∙◌, subst}
 use mathlib.Core.Bool.{Bool, true, false, not, cond, ◌&&◌, ◌||◌}
 use mathlib.Core.List.{List, [], ◌∷◌, ◌++◌}
@@ -11,8 +12,6 @@ use lib.Seq.{set-get_or, get_or-set_other}
 use borrow.Author.Tests.{le-ltb, eq-eqb}
 use Rattle.bits.specs.Loop.{fold}
 use Rattle.bits.specs.Mask.{has_bit, without_bit, lowest_bit}
-use Rattle.bits.specs.declared.Found.{Found}
-use Rattle.bits.specs.declared.Found.TheVariants as found
 use Rattle.bits.proofs.Laws.{without_same}
 use Rattle.bits.proofs.Lists.{cond_keeps, cond_true, cond_false, and_true, never_both}
 use Rattle.bits.proofs.Loops.{fold_keeps}
@@ -27,7 +26,7 @@ use Rattle.wire.specs.Fields.{snr_from_q}
 use Rattle.wire.specs.Kinds.{tiny, k_idle, t_up, t_ctrl, c_checkin, c_report, c_overheard, c_kids}
 use Rattle.words.specs.declared.Head.{Head}
 use Rattle.words.specs.Words.{Heard, lost, heard, Burst, Parsed, malformed, parsed, parse}
-use Rattle.stream.specs.Table.{accept, has_landed}
+use Rattle.stream.specs.Table.{accept}
 use Rattle.roster.specs.declared.Member.{Member}
 use Rattle.roster.specs.Members.{no_member}
 use Rattle.roster.specs.Relays.{promotable_at}
@@ -173,8 +172,8 @@ module _ (a : Air) where
       (λ _. cond_keeps (λ (y : Reading). y.station.recent ≡ s.recent) r.lost _ (kept_piece a slot r x)
       (λ _. cond_keeps (λ (y : Reading). (unkept_at y).station.recent ≡ s.recent) r.bars (barred_piece slot r x) x (λ _. refl) (λ _. refl))
       (λ _. cond_keeps P (is_relayed a s slot r) _ _
-      (λ _. cond_keeps P (has_landed r.landed) _ _ (λ _. refl) (λ _. refl))
-      (λ _. cond_keeps P (has_landed r.landed) _ _ (λ _. refl) (λ _. refl))))
+      (λ _. cond_keeps P (is_some r.landed) _ _ (λ _. refl) (λ _. refl))
+      (λ _. cond_keeps P (is_some r.landed) _ _ (λ _. refl) (λ _. refl))))
       (λ _. refl)
 
   frame_follows : (f : Heard) (x : Reading) → Follows x.station (read_frame a f x).station (of_frame a f x.station)
@@ -275,15 +274,15 @@ reroute_follows s =
     fold_keeps (λ (y : Said). y.station.recent ≡ x.station.recent) (move_at (leaves_of x.station)) (λ c y e. move_same (leaves_of x.station) c y ∙ e) 62 0 x refl
     ∙ follow_slots (λ (y : Said). y.station) (promote_at (floor_of s)) _ (λ i y. Same s i y.station) (λ i y h. promote_one s i y h) 62 0 (said s []) (record { used = refl; seat = λ j l. refl })
 
-poll_same : (f : Found) (s : Station) → (poll_by f s).station.recent ≡ s.recent
-poll_same found.Nothing s = refl
-poll_same (found.At slot) s = refl
+poll_same : (f : Option ℕ) (s : Station) → (poll_by f s).station.recent ≡ s.recent
+poll_same None s = refl
+poll_same (Some slot) s = refl
 
 -- word back before it
-word_same : (f : Found) (s : Station) (queue : List ℕ) → (word_by f s queue).station.recent ≡ s.recent
+word_same : (f : Option ℕ) (s : Station) (queue : List ℕ) → (word_by f s queue).station.recent ≡ s.recent
 unfolding direct_burst
-word_same found.Nothing s queue = poll_same (lowest_bit s.round.list) s
-word_same (found.At slot) s queue = refl
+word_same None s queue = poll_same (lowest_bit s.round.list) s
+word_same (Some slot) s queue = refl
 
 rerouted_same : (x : Said) (now : Float) (queue : List ℕ) → (rerouted_stage x now queue).station.recent ≡ x.station.recent
 unfolding draw_stage poll_stage acks_burst

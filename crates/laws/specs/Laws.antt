@@ -1,14 +1,12 @@
 -- Three laws that a radio engineer can lean on, `Laws`, the last definition: they hold of the station after any calls from a start that is not refused, each call
 -- getting the store that the last one left. In order: a smoothed level lies between old and new; a piece may come in two parts; two boats' pieces may change places.
-use Rattle.std.specs.Prelude.{ℕ, ◌+◌, ◌/◌, ◌%◌, ◌≤◌, ◌<◌, ◌≡◌, Bool, true, false, not, cond, ◌&&◌, List, [], ◌∷◌, ◌++◌, ◌⊎◌, length, get_or, take, replicate, T, eqb, Float}
+use Rattle.std.specs.Prelude.{ℕ, ◌+◌, ◌/◌, ◌%◌, ◌≤◌, ◌<◌, ◌≡◌, Bool, true, false, not, cond, ◌&&◌, List, [], ◌∷◌, ◌++◌, ◌⊎◌, length, get_or, take, replicate, T, eqb, Float, Option, Some, None, is_some}
 use Rattle.std.specs.Float.{binary32}
 use Rattle.std.specs.Float.Ieee.{fits}
 use Rattle.bits.specs.Mask.{has_bit}
 use Rattle.level.specs.declared.Level.TheVariants.{Decibels}
 use Rattle.level.specs.Levels.{smoothed}
 use Rattle.rounding.specs.Between.{sized, Between}
-use Rattle.wire.specs.declared.number.Number.{Number}
-use Rattle.wire.specs.declared.number.Number.TheVariants.{Is, Before}
 use Rattle.wire.specs.Numbers.{widened}
 use Rattle.words.specs.Words.{Heard, lost, heard, Burst, parsed, parse}
 use Rattle.inbox.specs.Cells.{Held, held}
@@ -21,7 +19,7 @@ use Rattle.stream.specs.declared.window.Window.{Window}
 use Rattle.stream.specs.declared.table.Room.{Room}
 use Rattle.stream.specs.declared.table.Room.TheVariants.{Own, Free, Full}
 use Rattle.stream.specs.Window.{handed_of, barred_of}
-use Rattle.stream.specs.Table.{Table, accept, owner_of, is_own, cell_at, place_of, table_room, kept_for, changes, is_lost, has_landed}
+use Rattle.stream.specs.Table.{Table, accept, owner_of, is_own, cell_at, place_of, table_room, kept_for, changes, is_lost}
 use Rattle.net.specs.declared.Station.{Station}
 use Rattle.net.specs.State.{member_at, table_of, with_wait}
 use Rattle.net.specs.Net.{is_member}
@@ -90,9 +88,9 @@ also_in (Free c) x f d = cond (eqb c d) (x ∷ []) (f d)
 also_in Full x f d = f d
 
 -- a boat's piece as `accept` of crate stream takes it: it goes into a cell where its message is not handed over and the kept rule keeps it, as it changes something
-abbrev pub went_by : Number → Table → Window → List ℕ → ℕ → ℕ → List ℕ → InCells → InCells
-went_by Before t w store slot o p f = f
-went_by (Is k) t w store slot o p f =
+abbrev pub went_by : Option ℕ → Table → Window → List ℕ → ℕ → ℕ → List ℕ → InCells → InCells
+went_by None t w store slot o p f = f
+went_by (Some k) t w store slot o p f =
     let r = table_room t slot k in
     cond (not (handed_of w k) && changes (kept_for (barred_of w k) store r (cell_at t (place_of r)) k o p)) (also_in r (from o p) f) f
 
@@ -202,13 +200,13 @@ pub record IsUp (s : Station) (x : Up) : Type 0 where
   pub short : length x.bytes ≤ 255
 
 -- the number of a piece, of which eight bits are on air, made whole
-abbrev pub number_of : Station → Up → Number
+abbrev pub number_of : Station → Up → Option ℕ
 number_of s x = widened (x.field / 65536 % 256) (member_at s x.slot).up.next
 
 -- cell c is for a piece of this number and slot: it is filling with its message, or is free; a piece whose number is none needs no cell
-abbrev pub CellFor : Number → ℕ → Table → ℕ → Type 0
-CellFor Before slot t c = Unit {0}
-CellFor (Is k) slot t c =
+abbrev pub CellFor : Option ℕ → ℕ → Table → ℕ → Type 0
+CellFor None slot t c = Unit {0}
+CellFor (Some k) slot t c =
     (is_own t.busy t.landed c (get_or t.owners c 0) (owner_of slot k) ≡ true) ⊎ ((c < t.count) × (has_bit t.busy c ≡ false))
 
 -- one for each
@@ -222,7 +220,7 @@ pub record Cells (s : Station) (x y : Up) : Type 0 where
 -- no message lands with x
 abbrev pub LandsNone : Net → Up → Type 0
 LandsNone n x =
-    has_landed (accept (table_of n.station) (member_at n.station x.slot).up n.store x.slot x.field x.bytes).landed ≡ false
+    is_some (accept (table_of n.station) (member_at n.station x.slot).up n.store x.slot x.field x.bytes).landed ≡ false
 
 -- pieces of two boats, a cell for each and no message landing with either: after both, in either order and in any bursts, every message, those of the two boats
 -- among them, has equal joined bytes and equal waiting pieces. Two new messages may have changed cells

@@ -1,5 +1,5 @@
 -- What is equal to itself, and the order of `total_lt` on finite values. Assumes nothing.
-use mathlib.Core.Path.{◌≡◌, refl, sym, ap, ◌∙◌, subst, subst⁻¹}
+use mathlib.Core.Path.{◌≡◌, refl, ap, ◌∙◌, subst, subst⁻¹}
 use Prim.Native.Nat.{ℕ, ◌*◌, ◌<◌}
 use native.Mathlib.Nat.{mul_right_comm, lt_irrefl, lt_trans, le_of_eq, lt_of_le_of_lt, lt_of_lt_of_le, mul-lt-mul_of_pos_right, lt_of_mul-lt-mul_right}
 use mathlib.Core.Bool.{Bool, true, false, not, beq, ◌&&◌, ◌||◌}

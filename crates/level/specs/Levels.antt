@@ -1,13 +1,10 @@
--- `smooth`, `level_of` and `tiny_wave`'s choice of level in net.rs, `Option::or` on levels, over the declared Level and Clock. Definitions only.
-use Rattle.std.specs.Prelude.{ℕ, zero, suc, List, Bool, true, false, cond, get_or, Float}
-use Rattle.std.proofs.Math.Option.{Option, none, some}
+-- `smooth`, `level_of` and `tiny_wave`'s choice of level in net.rs, `Option::or` on levels, over the declared Level; a clock that may be missing is an Option of seconds. Definitions only.
+use Rattle.std.specs.Prelude.{ℕ, zero, suc, List, Bool, true, false, cond, get_or, Float, Option, Some, None}
 use Rattle.std.specs.Float.{nan, binary32}
 use Rattle.std.specs.Float.Ieee.{add, mul, le}
 use Rattle.level.specs.Consts.{half}
 use Rattle.level.specs.declared.Level.{Level}
 use Rattle.level.specs.declared.Level.TheVariants.{Unheard, Decibels}
-use Rattle.level.specs.declared.Clock.{Clock}
-use Rattle.level.specs.declared.Clock.TheVariants.{Never, At}
 
 -- 0.5 times old plus 0.5 times new, each operation rounded once; new alone where nothing was heard before
 abbrev pub smoothed : Level → Float → Float
@@ -35,13 +32,9 @@ or_else (Decibels x) b = Decibels x
 
 -- the decibels that a level is, an `Option<f32>` of the Rust
 abbrev pub decibels_in : Level → Option Float
-decibels_in Unheard = none
-decibels_in (Decibels x) = some x
+decibels_in Unheard = None
+decibels_in (Decibels x) = Some x
 
 abbrev pub is_heard : Level → Bool
 is_heard Unheard = false
 is_heard (Decibels x) = true
-
-abbrev pub is_at : Clock → Bool
-is_at Never = false
-is_at (At t) = true

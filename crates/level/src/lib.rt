@@ -2,7 +2,7 @@
 #![tactic(auto)]
 
 ghost use Rattle.std.specs.Prelude.{◌≡◌};
-ghost use Rattle.level.specs.Levels.{smoothed, level_of, level_for, or_else, is_heard, is_at};
+ghost use Rattle.level.specs.Levels.{smoothed, level_of, level_for, or_else, is_heard};
 ghost use Rattle.level.specs.Order.{negative, total_lt, is_nan, least};
 ghost use Rattle.level.specs.Spans.{up_to, within};
 
@@ -11,13 +11,6 @@ ghost use Rattle.level.specs.Spans.{up_to, within};
 pub enum Level {
     Unheard,
     Decibels(f32),
-}
-
-// A time in seconds, or none.
-#[derive(Clone, Copy)]
-pub enum Clock {
-    Never,
-    At(f64),
 }
 
 // The level kept after hearing new.
@@ -34,9 +27,7 @@ pub fn smooth(old: Level, new: f32) -> f32
 pub fn level_of(thresholds: &[f32; 17], margin: f32, snr: f32) -> u32
     ensures { result ≡ level_of thresholds.now margin snr }
 {
-    let mut l = 17usize;
-    while 0 < l {
-        l -= 1;
+    for l in (0..17).rev() {
         if snr >= thresholds[l] + margin {
             return l as u32;
         }
@@ -73,37 +64,28 @@ pub fn is_heard(x: Level) -> bool
     }
 }
 
-pub fn is_at(c: Clock) -> bool
-    ensures { result ≡ is_at c }
-{
-    match c {
-        Clock::At(_) => true,
-        Clock::Never => false,
-    }
-}
-
-// The sign: of a zero by the infinity that 1 over it is.
+// The sign, also of a zero; a NaN has none.
 fn is_negative(x: f32) -> bool
     ensures { result ≡ negative x }
 {
-    if x == 0.0 { 1.0 / x < 0.0 } else { x < 0.0 }
+    !x.is_nan() && x.is_sign_negative()
 }
 
-// total_cmp: a is less than b, and -0 less than +0.
+// total_cmp: a is less than b, and -0 less than +0. (std's asks that neither is a NaN; here a NaN is less than nothing.)
 pub fn total_lt(a: f32, b: f32) -> bool
     ensures { result ≡ total_lt a b }
 {
     (a < b) | ((a == b) & (is_negative(a) & !is_negative(b)))
 }
 
-// A NaN is not equal to itself.
+// f64::is_nan.
 pub fn is_nan(x: f64) -> bool
     ensures { result ≡ is_nan x }
 {
-    !(x == x)
+    x.is_nan()
 }
 
-// f64::min of two times: the lesser, or the one that is no NaN.
+// f64::min of two times: the lesser, or the one that is no NaN. (std's promises nothing of which of 0 and -0 it gives; here it is a.)
 pub fn least(a: f64, b: f64) -> f64
     ensures { result ≡ least a b }
 {

@@ -5,25 +5,29 @@ mod burst;
 mod count;
 mod refused;
 mod slip;
-mod tell;
+mod trial;
 
-fn refusals(t: &mut [u8; 65536], lent: &mut [u8; 64000], out: &mut [u32; 8192]) -> usize {
-    let a = refused::short(t, 0);
-    let b = refused::output(t, a, lent, out);
-    let c = refused::store(t, b, out);
-    let d = refused::queue(t, c, lent, out);
-    let e = refused::clock(t, d, lent, out);
-    refused::level(t, e, lent, out)
+use std::alloc::AllocError;
+use std::io::Write;
+use trial::Trial;
+
+fn refusals(trial: &mut Trial) -> Result<(), AllocError> {
+    refused::short(trial)?;
+    refused::output(trial)?;
+    refused::store(trial)?;
+    refused::queue(trial)?;
+    refused::clock(trial)?;
+    refused::level(trial)
 }
 
-fn main(rt: HostRuntime) {
-    let mut t = [0u8; 65536];
-    let mut lent = [0u8; 64000];
-    let mut out = [0u32; 8192];
-    let a = refusals(&mut t, &mut lent, &mut out);
-    let b = count::numbers(&mut t, a, &mut lent, &mut out);
-    let c = count::claims(&mut t, b, &mut lent, &mut out);
-    let d = count::counters(&mut t, c, &lent, &mut out);
-    let e = slip::ties(&mut t, d);
-    text::flush(rt.stdout(), &t, e);
+fn main(rt: HostRuntime) -> Result<(), AllocError> {
+    let mut trial = Trial::new(rt.alloc())?;
+    refusals(&mut trial)?;
+    count::numbers(&mut trial)?;
+    count::claims(&mut trial)?;
+    count::counters(&mut trial)?;
+    slip::ties(&mut trial)?;
+    // What cannot be written is dropped.
+    let _ = rt.stdout().write_all(trial.text.as_bytes());
+    Ok(())
 }

@@ -1,105 +1,73 @@
 // Refusals that no script reaches: 7 with a store below a cell, 4, 7 after the start and for the directed queue, 1 and 2 with a NaN.
-use super::{burst, tell};
+use crate::burst;
+use crate::trial::Trial;
+use std::alloc::AllocError;
 
-pub fn short(t: &mut [u8; 65536], at: usize) -> usize {
+pub fn short(trial: &mut Trial) -> Result<(), AllocError> {
     let g = preset::tape_settings();
-    let small = [0u8; 6399];
-    let cell = [0u8; 6400];
-    let r = station::start(preset::blank(), g, &small);
-    let a = r.answer;
-    let e = tell::answer(t, at, b"start over 6,399 bytes", a);
-    let q = station::start(preset::blank(), g, &cell);
-    let b = q.answer;
-    tell::answer(t, e, b"start over 6,400 bytes", b)
+    let r = station::start(preset::blank(), g, &[0u8; 6399]);
+    trial.answer("start over 6,399 bytes", r.answer)?;
+    let r = station::start(preset::blank(), g, &[0u8; 6400]);
+    trial.answer("start over 6,400 bytes", r.answer)
 }
 
-pub fn output(t: &mut [u8; 65536], at: usize, lent: &[u8; 64000], out: &mut [u32; 8192]) -> usize {
-    let s = burst::fresh(lent);
+pub fn output(trial: &mut Trial) -> Result<(), AllocError> {
+    let s = burst::fresh(&trial.store);
     let mut less = [0u32; 8191];
     let queue = [0u8; 126976];
     let r = station::next(s, 0.0, &queue, &mut less);
-    let a = r.answer;
-    let e = tell::answer(t, at, b"next decision, output of 8,191 words", a);
-    let q = station::next(s, 0.0, &queue, out);
-    let b = q.answer;
-    let f = tell::answer(t, e, b"next decision, output of 8,192 words", b);
-    let p = station::admit(s, [1, 0, 0, 0, 0], 63, 0.0, &mut less);
-    let c = p.answer;
-    tell::answer(t, f, b"direct admission, output of 8,191 words", c)
+    trial.answer("next decision, output of 8,191 words", r.answer)?;
+    let r = station::next(s, 0.0, &queue, &mut trial.out);
+    trial.answer("next decision, output of 8,192 words", r.answer)?;
+    let r = station::admit(s, [1, 0, 0, 0, 0], 63, 0.0, &mut less);
+    trial.answer("direct admission, output of 8,191 words", r.answer)
 }
 
-pub fn store(t: &mut [u8; 65536], at: usize, out: &mut [u32; 8192]) -> usize {
+pub fn store(trial: &mut Trial) -> Result<(), AllocError> {
     let mut two = [0u8; 12800];
     let mut less = [0u8; 12799];
     let s = burst::fresh(&two);
-    let mut w = [0u32; 8192];
-    let n = burst::head(&mut w, 0);
-    let r = burst::heard(s, &w, n, &mut less, out);
-    let a = r.answer;
-    let e = tell::answer(t, at, b"reception, two cells over 12,799 bytes", a);
-    let q = burst::heard(s, &w, n, &mut two, out);
-    let b = q.answer;
-    let f = tell::answer(t, e, b"reception, two cells over 12,800 bytes", b);
+    let burst = [burst::HEAD];
+    let r = station::receive(s, &burst, 0.0, 1.0, &mut less, &mut trial.out);
+    trial.answer("reception, two cells over 12,799 bytes", r.answer)?;
+    let r = station::receive(s, &burst, 0.0, 1.0, &mut two, &mut trial.out);
+    trial.answer("reception, two cells over 12,800 bytes", r.answer)?;
     let mut no: u8 = 0;
-    let m = station::read(s, &less, 0, &mut no);
-    tell::slot(
-        t,
-        f,
-        b"reading, two cells over 12,799 bytes, sent back with",
-        no,
+    let _m = station::read(s, &less, 0, &mut no);
+    trial.number(
+        "reading, two cells over 12,799 bytes, sent back with",
+        u64::from(no),
     )
 }
 
-pub fn queue(t: &mut [u8; 65536], at: usize, lent: &[u8; 64000], out: &mut [u32; 8192]) -> usize {
-    let s = burst::fresh(lent);
+pub fn queue(trial: &mut Trial) -> Result<(), AllocError> {
+    let s = burst::fresh(&trial.store);
     let mut less = [0u8; 126975];
     let mut queue = [0u8; 126976];
-    let r = station::next(s, 0.0, &less, out);
-    let a = r.answer;
-    let e = tell::answer(t, at, b"next decision, queue of 126,975 bytes", a);
-    let q = station::post(s, 0, b"hold off", &mut less);
-    let b = q.answer;
-    let f = tell::answer(t, e, b"posting to nobody, queue of 126,975 bytes", b);
-    let p = station::post(s, 0, b"hold off", &mut queue);
-    let c = p.answer;
-    tell::answer(t, f, b"posting to nobody, queue of 126,976 bytes", c)
+    let r = station::next(s, 0.0, &less, &mut trial.out);
+    trial.answer("next decision, queue of 126,975 bytes", r.answer)?;
+    let r = station::post(s, 0, b"hold off", &mut less);
+    trial.answer("posting to nobody, queue of 126,975 bytes", r.answer)?;
+    let r = station::post(s, 0, b"hold off", &mut queue);
+    trial.answer("posting to nobody, queue of 126,976 bytes", r.answer)
 }
 
-fn nan64() -> f64 {
-    0.0 / 0.0
-}
-
-fn nan32() -> f32 {
-    0.0 / 0.0
-}
-
-pub fn clock(t: &mut [u8; 65536], at: usize, lent: &[u8; 64000], out: &mut [u32; 8192]) -> usize {
-    let s = burst::fresh(lent);
+pub fn clock(trial: &mut Trial) -> Result<(), AllocError> {
+    let s = burst::fresh(&trial.store);
     let queue = [0u8; 126976];
-    let r = station::next(s, nan64(), &queue, out);
-    let a = r.answer;
-    let e = tell::answer(t, at, b"next decision, clock NaN", a);
-    let q = station::sent(s, nan64());
-    let b = q.answer;
-    let f = tell::answer(t, e, b"end of a sending, clock NaN", b);
-    let p = station::admit(s, [1, 0, 0, 0, 0], 63, nan64(), out);
-    let c = p.answer;
-    tell::answer(t, f, b"direct admission, clock NaN", c)
+    let r = station::next(s, f64::NAN, &queue, &mut trial.out);
+    trial.answer("next decision, clock NaN", r.answer)?;
+    let r = station::sent(s, f64::NAN);
+    trial.answer("end of a sending, clock NaN", r.answer)?;
+    let r = station::admit(s, [1, 0, 0, 0, 0], 63, f64::NAN, &mut trial.out);
+    trial.answer("direct admission, clock NaN", r.answer)
 }
 
-pub fn level(
-    t: &mut [u8; 65536],
-    at: usize,
-    lent: &mut [u8; 64000],
-    out: &mut [u32; 8192],
-) -> usize {
-    let s = burst::fresh(lent);
-    let mut w = [0u32; 8192];
-    let n = burst::head(&mut w, 0);
-    let r = burst::heard_at(s, &w, n, nan32(), lent, out);
-    let a = r.answer;
-    let e = tell::answer(t, at, b"reception, level NaN", a);
-    let q = burst::heard_at(s, &w, n, 200.0, lent, out);
-    let b = q.answer;
-    tell::answer(t, e, b"reception, level 200", b)
+pub fn level(trial: &mut Trial) -> Result<(), AllocError> {
+    let s = burst::fresh(&trial.store);
+    let burst = [burst::HEAD];
+    let r = station::receive(s, &burst, f32::NAN, 1.0, &mut trial.store, &mut trial.out);
+    trial.answer("reception, level NaN", r.answer)?;
+    let r = station::receive(s, &burst, 200.0, 1.0, &mut trial.store, &mut trial.out);
+    trial.answer("reception, level 200", r.answer)
 }

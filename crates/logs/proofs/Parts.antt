@@ -1,71 +1,81 @@
 -- The parts of a log at an index of its words, and a walk at an index. Assumes nothing.
-use mathlib.Core.Path.{◌≡◌, refl, ◌∙◌}
-use mathlib.Core.Bool.{Bool, true, false, cond, ◌&&◌}
+use mathlib.Core.Path.{◌≡◌, refl, sym, ◌∙◌, subst}
+use mathlib.Core.Bool.{Bool, true, false, cond}
 use mathlib.Core.List.{List, [], ◌∷◌}
 use Prim.Native.Nat.{ℕ, zero, suc, ◌+◌, ◌-◌, ◌≤◌, ◌<◌}
 use native.Mathlib.Numerals.{add-one}
 use native.Mathlib.Omega.{arith}
-use lib.Dec.{eqb, ltb}
+use lib.Dec.{eqb}
+use Rattle.std.specs.Prelude.{Option, Some, None}
 use lib.ListN.{length, drop, get_or, drop_of_length-le, length-drop}
 use lib.Seq.{drop-cons, drop-drop}
-use borrow.Author.Tests.{lt-ltb}
 use Rattle.words.specs.Words.{size_of, item_at, head_ok}
 use Rattle.words.specs.declared.Item.{Item}
 use Rattle.words.specs.declared.Item.TheVariants.{End, Bad, Lost, Frame}
 use Rattle.words.proofs.Laws.{item_room}
 use Rattle.logs.specs.declared.Part.{Part}
-use Rattle.logs.specs.Reading.{is_mark, wave_ok, part, no_part, head_part, frame_part, part_of, parts_from}
-use Rattle.logs.specs.Steps.{walk}
+use Rattle.logs.specs.Reading.{is_mark, wave_ok, part, head_part, frame_part, part_of, part_and, parts_from}
+use Rattle.logs.specs.Steps.{on, walk}
 
 module _ (ws : List ℕ) (at : ℕ) where
-  pub part_end : (room : ℕ) → length ws ≤ at → part_of room (drop at ws) ≡ no_part
+  pub part_end : (room : ℕ) → length ws ≤ at → part_of room (drop at ws) ≡ None
   unfolding part_of
   part_end room h = rw (drop_of_length-le ws h)
 
   pub part_cons : (room : ℕ) → at < length ws
       → part_of room (drop at ws)
-      ≡ cond (is_mark (get_or ws at 0)) (part 1 0) (cond (head_ok (get_or ws at 0)) (head_part (drop (at + 1) ws)) (frame_part room (item_at (drop at ws))))
+      ≡ cond (is_mark (get_or ws at 0)) (Some (part 1 0)) (cond (head_ok (get_or ws at 0)) (head_part (drop (at + 1) ws)) (frame_part room (item_at (drop at ws))))
   unfolding part_of
   part_cons room h = rw (drop-cons ws at 0, add-one)
 
-  pub head_end : length ws ≤ at → head_part (drop at ws) ≡ no_part
+  pub head_end : length ws ≤ at → head_part (drop at ws) ≡ None
   head_end h = rw (drop_of_length-le ws h)
 
-  pub head_cons : at < length ws → head_part (drop at ws) ≡ cond (wave_ok (get_or ws at 0)) (part 2 64) no_part
+  pub head_cons : at < length ws → head_part (drop at ws) ≡ cond (wave_ok (get_or ws at 0)) (Some (part 2 64)) None
   head_cons h = rw (drop-cons ws at 0)
 
--- ---- a part lies within the words
+-- ---- a part has a word, and lies within the words
 
-frame_fits : (room : ℕ) (i : Item) → (frame_part room i).size ≤ size_of i
-frame_fits room End = omega arith
-frame_fits room Bad = omega arith
-frame_fits room Lost = omega arith
+abbrev Within : Option Part → ℕ → Type 0
+Within None n = Unit {0}
+Within (Some p) n = (0 < p.size) × (p.size ≤ n)
+
+frame_fits : (room : ℕ) (i : Item) → Within (frame_part room i) (size_of i)
+frame_fits room End = tt
+frame_fits room Bad = tt
+frame_fits room Lost = tt
 frame_fits room (Frame a b n) = by (eqb room 0)
   where
-    by : (t : Bool) → (cond t no_part (part (size_of (Frame a b n)) (room - 1))).size ≤ size_of (Frame a b n)
-    by true = omega arith
-    by false = omega arith
+    by : (t : Bool) → Within (cond t None (Some (part (size_of (Frame a b n)) (room - 1)))) (size_of (Frame a b n))
+    by true = tt
+    by false = (omega arith, omega arith)
 
-head_fits : (ws : List ℕ) → (head_part ws).size ≤ suc (length ws)
-head_fits [] = omega arith
+head_fits : (ws : List ℕ) → Within (head_part ws) (suc (length ws))
+head_fits [] = tt
 head_fits (w ∷ ws) = by (wave_ok w)
   where
-    by : (t : Bool) → (cond t (part 2 64) no_part).size ≤ suc (suc (length ws))
-    by true = omega arith
-    by false = omega arith
+    by : (t : Bool) → Within (cond t (Some (part 2 64)) None) (suc (suc (length ws)))
+    by true = (omega arith, omega arith)
+    by false = tt
 
-part_fits : (room : ℕ) (l : List ℕ) → (part_of room l).size ≤ length l
+wider : (x : Option Part) (m n : ℕ) → m ≤ n → Within x m → Within x n
+wider None m n h w = tt
+wider (Some p) m n h w = (w.0, omega (arith, w.1))
+
+part_fits : (room : ℕ) (l : List ℕ) → Within (part_of room l) (length l)
 unfolding part_of
-part_fits room [] = omega arith
+part_fits room [] = tt
 part_fits room (w ∷ ws) = by (is_mark w) (head_ok w)
   where
-    by : (s t : Bool) → (cond s (part 1 0) (cond t (head_part ws) (frame_part room (item_at (w ∷ ws))))).size ≤ suc (length ws)
-    by true t = omega arith
+    by : (s t : Bool) → Within (cond s (Some (part 1 0)) (cond t (head_part ws) (frame_part room (item_at (w ∷ ws))))) (suc (length ws))
+    by true t = (omega arith, omega arith)
     by false true = head_fits ws
-    by false false = let h = frame_fits room (item_at (w ∷ ws)) in omega (arith, item_room (w ∷ ws))
+    by false false = wider (frame_part room (item_at (w ∷ ws))) _ _ (item_room (w ∷ ws)) (frame_fits room (item_at (w ∷ ws)))
 
-pub part_within : (ws : List ℕ) (at room : ℕ) (p : Part) → at ≤ length ws → p ≡ part_of room (drop at ws) → at + p.size ≤ length ws
-part_within ws at room p h e = rw e (omega (arith, part_fits room (drop at ws), length-drop at ws))
+pub part_within : (ws : List ℕ) (at room : ℕ) (p : Part) → at ≤ length ws → Some p ≡ part_of room (drop at ws) → (0 < p.size) × (at + p.size ≤ length ws)
+part_within ws at room p h e =
+    let w : Within (Some p) (length (drop at ws)) = subst (λ (x : Option Part). Within x (length (drop at ws))) (sym e) (part_fits room (drop at ws)) in
+    (w.0, omega (arith, w.1, length-drop at ws))
 
 -- ---- part after part
 
@@ -77,7 +87,7 @@ parts_skip (suc k) room [] = refl
 parts_skip (suc k) room (w ∷ ws) = parts_skip k room ws
 
 parts_cons : (room w : ℕ) (ws : List ℕ)
-    → parts_from 0 room (w ∷ ws) ≡ ltb 0 (part_of room (w ∷ ws)).size && parts_from ((part_of room (w ∷ ws)).size - 1) (part_of room (w ∷ ws)).room ws
+    → parts_from 0 room (w ∷ ws) ≡ part_and (part_of room (w ∷ ws)) (λ p. parts_from (p.size - 1) p.room ws)
 unfolding parts_from
 parts_cons room w ws = refl
 
@@ -85,25 +95,25 @@ pub parts_end : (ws : List ℕ) (at room : ℕ) → length ws ≤ at → parts_f
 unfolding parts_from
 parts_end ws at room h = rw (drop_of_length-le ws h)
 
-module _ (ws : List ℕ) (at room : ℕ) (p : Part) (e : p ≡ part_of room (drop at ws)) (h : at < length ws) where
-  parts_at : parts_from 0 room (drop at ws) ≡ ltb 0 p.size && parts_from (p.size - 1) p.room (drop (suc at) ws)
-  parts_at = rw (e, drop-cons ws at 0) (parts_cons room (get_or ws at 0) (drop (suc at) ws))
+module _ (ws : List ℕ) (at room : ℕ) (h : at < length ws) where
+  parts_at : (x : Option Part) → x ≡ part_of room (drop at ws) → parts_from 0 room (drop at ws) ≡ part_and x (λ p. parts_from (p.size - 1) p.room (drop (suc at) ws))
+  parts_at x e = rw (e, drop-cons ws at 0) (parts_cons room (get_or ws at 0) (drop (suc at) ws))
 
-  pub parts_bad : p.size ≡ 0 → parts_from 0 room (drop at ws) ≡ false
-  parts_bad z = parts_at ∙ rw z
+  pub parts_bad : None ≡ part_of room (drop at ws) → parts_from 0 room (drop at ws) ≡ false
+  parts_bad e = parts_at None e
 
-  pub parts_more : (p.size ≡ 0 → ⊥) → parts_from 0 room (drop at ws) ≡ parts_from 0 p.room (drop (at + p.size) ws)
-  parts_more z =
+  pub parts_more : (p : Part) → Some p ≡ part_of room (drop at ws) → 0 < p.size → parts_from 0 room (drop at ws) ≡ parts_from 0 p.room (drop (at + p.size) ws)
+  parts_more p e z =
       let k : suc at + (p.size - 1) ≡ at + p.size = omega arith in
-      parts_at ∙ rw (lt-ltb 0 p.size (omega arith)) (parts_skip (p.size - 1) p.room (drop (suc at) ws) ∙ rw (drop-drop, k))
+      parts_at (Some p) e ∙ parts_skip (p.size - 1) p.room (drop (suc at) ws) ∙ rw (drop-drop, k)
 
 -- ---- a walk
 
-pub walk_end : {A : Type 0} (f : A → ℕ → A) (a : A) (ws : List ℕ) (at : ℕ) → length ws ≤ at → walk f a (drop at ws) ≡ a
+pub walk_end : {A : Type 0} (f : A → ℕ → Option A) (a : A) (ws : List ℕ) (at : ℕ) → length ws ≤ at → walk f a (drop at ws) ≡ Some a
 unfolding walk
 walk_end f a ws at h = rw (drop_of_length-le ws h)
 
-pub walk_step : {A : Type 0} (f : A → ℕ → A) (a b : A) (ws : List ℕ) (at : ℕ) → at < length ws → b ≡ f a (get_or ws at 0)
-    → walk f a (drop at ws) ≡ walk f b (drop (at + 1) ws)
+pub walk_step : {A : Type 0} (f : A → ℕ → Option A) (a : A) (ws : List ℕ) (at : ℕ) (x : Option A) → at < length ws → x ≡ f a (get_or ws at 0)
+    → walk f a (drop at ws) ≡ on x (λ b. walk f b (drop (at + 1) ws))
 unfolding walk
-walk_step f a b ws at h e = rw (drop-cons ws at 0, add-one, e)
+walk_step f a ws at x h e = rw (drop-cons ws at 0, add-one, e)

@@ -3,13 +3,15 @@ use mathlib.Core.Path.{◌≡◌, refl}
 use mathlib.Core.Bool.{Bool, true, false, cond, ◌&&◌}
 use mathlib.Core.List.{List}
 use Prim.Native.Nat.{ℕ}
-use Rattle.logs.specs.declared.Verdict.{Verdict}
-use Rattle.logs.specs.declared.Verdict.TheVariants.{Refused, Accepted, Rejected}
+use Rattle.std.specs.Prelude.{Result, Ok, Err}
+use Rattle.refusal.specs.declared.Refusal.{Refusal}
+use Rattle.refusal.specs.declared.Refusal.TheVariants.{Words, Marks}
+use Rattle.refusal.specs.Numbers.{number_in}
 use Rattle.logs.specs.Reading.{sendings_ok, marks_ok, entries_of}
-use Rattle.logs.specs.Turns.{accepted, number_in, is_accepted, refusal_of, verdict_of}
+use Rattle.logs.specs.Turns.{accepted, is_accepted, refusal_of, verdict_of}
 
-abbrev by : Bool → Bool → Bool → Verdict
-by a b c = cond a (cond b (cond c Accepted Rejected) (Refused 27)) (Refused 3)
+abbrev by : Bool → Bool → Bool → Result Bool Refusal
+by a b c = cond a (cond b (Ok c) (Err Marks)) (Err Words)
 
 says : (a b c : Bool) → (number_in (by a b c) ≡ cond a (cond b 0 27) 3) × (is_accepted (by a b c) ≡ a && b && c)
 says true true true = (refl, refl)

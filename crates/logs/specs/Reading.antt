@@ -1,5 +1,5 @@
 -- The words of a log: sendings as a station returns them, words 8 to 12, between marks. A mark is a word 6 with a count, then so many words 6 with a slot each.
-use Rattle.std.specs.Prelude.{Bool, true, false, not, cond, ◌&&◌, ◌||◌, List, [], ◌∷◌, ◌++◌, ℕ, zero, suc, ◌+◌, ◌-◌, ◌/◌, ◌%◌, eqb, ltb, leb}
+use Rattle.std.specs.Prelude.{Bool, true, false, not, cond, ◌&&◌, ◌||◌, List, [], ◌∷◌, ◌++◌, ℕ, zero, suc, ◌+◌, ◌-◌, ◌/◌, ◌%◌, eqb, ltb, leb, Option, Some, None}
 use Rattle.wire.specs.Kinds.{tiny, k_poll, k_pollack, k_ack, k_relay}
 use Rattle.words.specs.Words.{words_for, item_at, head_ok, head_of}
 use Rattle.words.specs.declared.Item.{Item}
@@ -17,38 +17,37 @@ is_mark w = eqb (w / 268435456) 6
 abbrev pub wave_ok : ℕ → Bool
 wave_ok w = eqb (w / 32) 75497472
 
--- a part of a log takes `size` words, and after it so many frames may follow
+-- a part of a log takes `size` words, and after it so many frames may follow; words that are no part of a log are none
 abbrev pub part : ℕ → ℕ → Part
 part size room = record { size = size; room = room }
 
--- words that are no part of a log
-abbrev pub no_part : Part
-no_part = part 0 0
-
 -- after a head stands its wave, and then up to 64 frames
-abbrev pub head_part : List ℕ → Part
-head_part [] = no_part
-head_part (w ∷ ws) = cond (wave_ok w) (part 2 64) no_part
+abbrev pub head_part : List ℕ → Option Part
+head_part [] = None
+head_part (w ∷ ws) = cond (wave_ok w) (Some (part 2 64)) None
 
 -- a frame, where one may follow; a lost frame is none of a sending
-abbrev pub frame_part : ℕ → Item → Part
-frame_part room End = no_part
-frame_part room Bad = no_part
-frame_part room Lost = no_part
-frame_part room (Frame flags field len) = cond (eqb room 0) no_part (part (2 + words_for len) (room - 1))
+abbrev pub frame_part : ℕ → Item → Option Part
+frame_part room End = None
+frame_part room Bad = None
+frame_part room Lost = None
+frame_part room (Frame flags field len) = cond (eqb room 0) None (Some (part (2 + words_for len) (room - 1)))
 
 -- what stands at the head of the words: a word of a mark, which ends the burst before it, a head with its wave, or a frame
-unfoldable pub part_of : ℕ → List ℕ → Part
-part_of room [] = no_part
-part_of room (w ∷ ws) = cond (is_mark w) (part 1 0) (cond (head_ok w) (head_part ws) (frame_part room (item_at (w ∷ ws))))
+unfoldable pub part_of : ℕ → List ℕ → Option Part
+part_of room [] = None
+part_of room (w ∷ ws) = cond (is_mark w) (Some (part 1 0)) (cond (head_ok w) (head_part ws) (frame_part room (item_at (w ∷ ws))))
+
+-- a test of a part; where there is none it fails
+abbrev pub part_and : Option Part → (Part → Bool) → Bool
+part_and None f = false
+part_and (Some p) f = f p
 
 -- part after part to the end, where the first `skip` words belong to a part already read
 unfoldable pub parts_from : ℕ → ℕ → List ℕ → Bool
 parts_from skip room [] = true
 parts_from (suc skip) room (w ∷ ws) = parts_from skip room ws
-parts_from zero room (w ∷ ws) =
-    let p = part_of room (w ∷ ws) in
-    ltb 0 p.size && parts_from (p.size - 1) p.room ws
+parts_from zero room (w ∷ ws) = part_and (part_of room (w ∷ ws)) (λ p. parts_from (p.size - 1) p.room ws)
 
 -- nothing but words 6 and sendings: a head, its wave, and 0 to 64 frames
 abbrev pub sendings_ok : List ℕ → Bool

@@ -1,8 +1,8 @@
 -- The turns in a log, and which logs are accepted.
-use Rattle.std.specs.Prelude.{Bool, true, false, cond, ◌&&◌, List, [], ◌∷◌, ℕ, suc, eqb, leb}
+use Rattle.std.specs.Prelude.{Bool, true, false, cond, ◌&&◌, List, [], ◌∷◌, ℕ, suc, eqb, leb, Result, Ok, Err}
 use Rattle.logs.specs.Reading.{Entry, mark, poll, pollack, ack, has, sendings_ok, marks_ok, entries_of}
-use Rattle.logs.specs.declared.Verdict.{Verdict}
-use Rattle.logs.specs.declared.Verdict.TheVariants.{Refused, Accepted, Rejected}
+use Rattle.refusal.specs.declared.Refusal.{Refusal}
+use Rattle.refusal.specs.declared.Refusal.TheVariants.{Words, Marks}
 
 -- ---- turns
 
@@ -97,22 +97,15 @@ accepted es = round_ok [] es && rounds_ok es
 
 -- ---- the verdict
 
--- What a verdict says, by its cases: the number that sends the log back, 0 for none, and whether the log is accepted.
-abbrev pub number_in : Verdict → ℕ
-number_in (Refused n) = n
-number_in Accepted = 0
-number_in Rejected = 0
-
-abbrev pub is_accepted : Verdict → Bool
-is_accepted (Refused n) = false
-is_accepted Accepted = true
-is_accepted Rejected = false
+-- whether the log is accepted; one that is sent back is not
+abbrev pub is_accepted : Result Bool Refusal → Bool
+is_accepted (Ok b) = b
+is_accepted (Err r) = false
 
 -- 3 for words that are no sendings, then 27 for a fault in the marks
 abbrev pub refusal_of : List ℕ → ℕ
 refusal_of ws = cond (sendings_ok ws) (cond (marks_ok ws) 0 27) 3
 
 -- the contract's: its number is `refusal_of`, and it is accepted where no number sends it back and the turns keep to the lists (law `verdict_says`)
-unfoldable pub verdict_of : List ℕ → Verdict
-verdict_of ws =
-    cond (sendings_ok ws) (cond (marks_ok ws) (cond (accepted (entries_of ws)) Accepted Rejected) (Refused 27)) (Refused 3)
+unfoldable pub verdict_of : List ℕ → Result Bool Refusal
+verdict_of ws = cond (sendings_ok ws) (cond (marks_ok ws) (Ok (accepted (entries_of ws))) (Err Marks)) (Err Words)

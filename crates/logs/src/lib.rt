@@ -5,19 +5,12 @@ ghost use Rattle.std.specs.Prelude.{◌≡◌, ◌<◌, drop};
 ghost use Rattle.words.specs.Words.{head_ok};
 ghost use Rattle.logs.specs.Reading.{is_mark, mark_ok, wave_ok, head_part, frame_part, part_of, sendings_ok, marks_ok, entries_of};
 ghost use Rattle.logs.specs.Turns.{accepted, verdict_of};
-ghost use Rattle.logs.specs.Steps.{count_step, slot_fits, slot_step, mark_step, drawn, listed, begins, again, polled, slot_after, acked, tiny_sent, sent, word_step, watch_step, rejected};
+ghost use Rattle.logs.specs.Steps.{walk, marks, count_step, slot_fits, slot_step, mark_step, drawn, listed, begins, again, is_slot, polled, slot_after, acked, tiny_sent, sent, word_step, watch_step};
 
+use refusal::Refusal;
 use words::{Head, Item};
 
-// Refused with document 01's number, or what the check says of the log.
-#[derive(Clone, Copy)]
-pub enum Verdict {
-    Refused(u8),
-    Accepted,
-    Rejected,
-}
-
-// What stands at a place: it takes `size` words, 0 for words that are no part of a log, and `room` frames may follow.
+// What stands at a place: it takes `size` words, and `room` frames may follow.
 #[derive(Clone, Copy)]
 pub struct Part {
     pub size: usize,
@@ -29,35 +22,30 @@ pub struct Part {
 pub struct Marks {
     pub left: u32,
     pub before: u64,
-    pub good: bool,
 }
 
-// While the turns are read: words of a list to come, the listed slots that have had no turn, the slot whose turn runs, 64 for none, and
+// While the turns are read: words of a list to come, the listed slots that have had no turn, the slot whose turn runs, if one does, and
 // the polls and acknowledgements that it has had.
 #[derive(Clone, Copy)]
 pub struct Watch {
     pub left: u32,
     pub due: u64,
-    pub slot: u32,
+    pub slot: Option<u32>,
     pub polls: u32,
     pub acks: u32,
-    pub good: bool,
 }
 
-// The turn check.
-pub fn turn_check(words: &[u32]) -> Verdict
+// The turn check: whether the log is accepted.
+pub fn turn_check(words: &[u32]) -> Result<bool, Refusal>
     ensures { result ≡ verdict_of words.now }
 {
     if !sendings_ok(words) {
-        return Verdict::Refused(3);
+        return Err(Refusal::Words);
     }
     if !marks_ok(words) {
-        return Verdict::Refused(27);
+        return Err(Refusal::Marks);
     }
-    if turns_ok(words) {
-        return Verdict::Accepted;
-    }
-    Verdict::Rejected
+    Ok(turns_ok(words))
 }
 
 // Nothing but words 6 and sendings.
@@ -66,28 +54,27 @@ fn sendings_ok(words: &[u32]) -> bool
 {
     let mut at: usize = 0;
     let mut room: usize = 0;
+    // A step is as long as its part.
     while at < words.len() {
-        let p = part_at(words, at, room);
-        let size = p.size;
-        if size == 0 {
+        let Some(p) = part_at(words, at, room) else {
             return false;
-        }
-        at += size;
+        };
+        at += p.size;
         room = p.room;
     }
     true
 }
 
-// What stands at `at`, where `room` frames may follow.
-fn part_at(words: &[u32], at: usize, room: usize) -> Part
+// What stands at `at`, where `room` frames may follow; words that are no part of a log are nothing.
+fn part_at(words: &[u32], at: usize, room: usize) -> Option<Part>
     ensures { result ≡ part_of room (drop at words.now) }
 {
     if words.len() <= at {
-        return Part { size: 0, room: 0 };
+        return None;
     }
     let w = words[at];
     if is_mark(w) {
-        return Part { size: 1, room: 0 };
+        return Some(Part { size: 1, room: 0 });
     }
     if head_ok(w) {
         return head_part(words, at + 1);
@@ -96,26 +83,26 @@ fn part_at(words: &[u32], at: usize, room: usize) -> Part
 }
 
 // A head's wave stands at `at`.
-fn head_part(words: &[u32], at: usize) -> Part
+fn head_part(words: &[u32], at: usize) -> Option<Part>
     ensures { result ≡ head_part (drop at words.now) }
 {
     if words.len() <= at {
-        return Part { size: 0, room: 0 };
+        return None;
     }
     if words[at] / 32 == 75497472 {
-        return Part { size: 2, room: 64 };
+        return Some(Part { size: 2, room: 64 });
     }
-    Part { size: 0, room: 0 }
+    None
 }
 
 // A frame, where one may follow.
-fn frame_part(room: usize, i: Item) -> Part
+fn frame_part(room: usize, i: Item) -> Option<Part>
     ensures { result ≡ frame_part room i }
 {
     match i {
-        Item::End => Part { size: 0, room: 0 },
-        Item::Bad => Part { size: 0, room: 0 },
-        Item::Lost => Part { size: 0, room: 0 },
+        Item::End => None,
+        Item::Bad => None,
+        Item::Lost => None,
         Item::Frame {
             flags: _,
             field: _,
@@ -124,44 +111,45 @@ fn frame_part(room: usize, i: Item) -> Part
     }
 }
 
-fn one_frame(room: usize, len: usize) -> Part
+fn one_frame(room: usize, len: usize) -> Option<Part>
     ensures { result ≡ frame_part room (Item.Frame 0 0 len) }
 {
     if room == 0 {
-        return Part { size: 0, room: 0 };
+        return None;
     }
-    Part {
+    Some(Part {
         size: 2 + words::words_for(len),
         room: room - 1,
-    }
+    })
 }
 
 // No fault in the words of kind 6.
 fn marks_ok(words: &[u32]) -> bool
     ensures { result ≡ marks_ok words.now }
 {
-    let mut m = Marks {
-        left: 0,
-        before: 0,
-        good: true,
-    };
-    let mut i: usize = 0;
-    while i < words.len() {
-        m = mark_step(m, words[i]);
-        i += 1;
+    match marks_read(words) {
+        Some(m) => m.left == 0,
+        None => false,
     }
-    if m.left == 0 {
-        return m.good;
-    }
-    false
 }
 
-fn mark_step(m: Marks, w: u32) -> Marks
+// The words of marks, read to the end; nothing where there is a fault.
+fn marks_read(words: &[u32]) -> Option<Marks>
+    ensures { result ≡ walk mark_step (marks 0 0) words.now }
+{
+    let mut m = Marks { left: 0, before: 0 };
+    for w in words {
+        let Some(n) = mark_step(m, *w) else {
+            return None;
+        };
+        m = n;
+    }
+    Some(m)
+}
+
+fn mark_step(m: Marks, w: u32) -> Option<Marks>
     ensures { result ≡ mark_step m w }
 {
-    if !m.good {
-        return m;
-    }
     if m.left == 0 {
         return count_step(m, w);
     }
@@ -169,36 +157,33 @@ fn mark_step(m: Marks, w: u32) -> Marks
 }
 
 // Where no list is being read a word 6 is a count.
-fn count_step(m: Marks, w: u32) -> Marks
+fn count_step(m: Marks, w: u32) -> Option<Marks>
     ensures { result ≡ count_step m w }
 {
     if !is_mark(w) {
-        return m;
+        return Some(m);
     }
-    Marks {
+    if !mark_ok(w) {
+        return None;
+    }
+    Some(Marks {
         left: w % 64,
         before: 0,
-        good: mark_ok(w),
-    }
+    })
 }
 
 // In a list each word has a slot that none before it has.
-fn slot_step(m: Marks, w: u32) -> Marks
+fn slot_step(m: Marks, w: u32) -> Option<Marks>
     requires { 0 < m.left }
     ensures { result ≡ slot_step m w }
 {
     if !slot_ok(m.before, w) {
-        return Marks {
-            left: 0,
-            before: 0,
-            good: false,
-        };
+        return None;
     }
-    Marks {
+    Some(Marks {
         left: m.left - 1,
         before: bits::with(m.before, (w % 64) as usize),
-        good: true,
-    }
+    })
 }
 
 // A word 6 with a slot that is none of those before it.
@@ -221,33 +206,31 @@ fn turns_ok(words: &[u32]) -> bool
     let mut s = Watch {
         left: 0,
         due: 0,
-        slot: 64,
+        slot: None,
         polls: 0,
         acks: 0,
-        good: true,
     };
-    let mut i: usize = 0;
-    while i < words.len() {
-        s = watch_step(s, words[i]);
-        i += 1;
+    for w in words {
+        let Some(t) = watch_step(s, *w) else {
+            return false;
+        };
+        s = t;
     }
-    s.good
+    true
 }
 
-fn watch_step(s: Watch, w: u32) -> Watch
+// Nothing where the log is not accepted.
+fn watch_step(s: Watch, w: u32) -> Option<Watch>
     ensures { result ≡ watch_step s w }
 {
-    if !s.good {
-        return s;
-    }
     if s.left == 0 {
         return word_step(s, w);
     }
-    listed(s, w % 64)
+    Some(listed(s, w % 64))
 }
 
 // A word where no list is being read.
-fn word_step(s: Watch, w: u32) -> Watch
+fn word_step(s: Watch, w: u32) -> Option<Watch>
     ensures { result ≡ word_step s w }
 {
     if is_mark(w) {
@@ -256,24 +239,23 @@ fn word_step(s: Watch, w: u32) -> Watch
     if w / 268435456 == 8 {
         return sent(s, words::head_of(w));
     }
-    s
+    Some(s)
 }
 
 // A mark: each slot of the last list has had its turn.
-fn drawn(s: Watch, n: u32) -> Watch
+fn drawn(s: Watch, n: u32) -> Option<Watch>
     ensures { result ≡ drawn s n }
 {
     if s.due != 0 {
-        return rejected();
+        return None;
     }
-    Watch {
+    Some(Watch {
         left: n,
         due: 0,
-        slot: 64,
+        slot: None,
         polls: 0,
         acks: 0,
-        good: true,
-    }
+    })
 }
 
 // A slot of a list.
@@ -284,24 +266,21 @@ fn listed(s: Watch, x: u32) -> Watch
     Watch {
         left: s.left - 1,
         due: bits::with(s.due, x as usize),
-        slot: s.slot,
-        polls: s.polls,
-        acks: s.acks,
-        good: true,
+        ..s
     }
 }
 
 // A sending: header-only ones may be of a turn.
-fn sent(s: Watch, h: Head) -> Watch
+fn sent(s: Watch, h: Head) -> Option<Watch>
     ensures { result ≡ sent s h }
 {
     if h.code == wire::TINY {
         return tiny_sent(s, h.hi, h.extra % 64);
     }
-    s
+    Some(s)
 }
 
-fn tiny_sent(s: Watch, hi: u32, x: u32) -> Watch
+fn tiny_sent(s: Watch, hi: u32, x: u32) -> Option<Watch>
     ensures { result ≡ tiny_sent s hi x }
 {
     if (hi == wire::K_POLL) | (hi == wire::K_RELAY) {
@@ -313,91 +292,79 @@ fn tiny_sent(s: Watch, hi: u32, x: u32) -> Watch
     if hi == wire::K_ACK {
         return acked(s, x, true);
     }
-    s
+    Some(s)
 }
 
-fn polled(s: Watch, x: u32) -> Watch
+// The turn of slot x runs.
+fn runs(slot: Option<u32>, x: u32) -> bool
+    ensures { result ≡ is_slot slot x }
+{
+    match slot {
+        Some(y) => x == y,
+        None => false,
+    }
+}
+
+fn polled(s: Watch, x: u32) -> Option<Watch>
     ensures { result ≡ polled s x }
 {
-    if x == s.slot {
+    if runs(s.slot, x) {
         return again(s);
     }
     begins(s, x)
 }
 
 // A further poll of the turn that runs.
-fn again(s: Watch) -> Watch
+fn again(s: Watch) -> Option<Watch>
     ensures { result ≡ again s }
 {
     if s.polls < 5 {
-        return Watch {
-            left: s.left,
-            due: s.due,
-            slot: s.slot,
+        return Some(Watch {
             polls: s.polls + 1,
-            acks: s.acks,
-            good: true,
-        };
+            ..s
+        });
     }
-    rejected()
+    None
 }
 
 // A poll that begins a turn: its slot is listed and has had none.
-fn begins(s: Watch, x: u32) -> Watch
+fn begins(s: Watch, x: u32) -> Option<Watch>
     ensures { result ≡ begins s x }
 {
     let slot = x as usize;
     if bits::has(s.due, slot) {
-        return Watch {
+        return Some(Watch {
             left: s.left,
             due: bits::without(s.due, slot),
-            slot: x,
+            slot: Some(x),
             polls: 1,
             acks: 0,
-            good: true,
-        };
+        });
     }
-    rejected()
+    None
 }
 
 // An acknowledgement in the turn that runs; K_ACK, the last, ends it.
-fn acked(s: Watch, x: u32, last: bool) -> Watch
+fn acked(s: Watch, x: u32, last: bool) -> Option<Watch>
     ensures { result ≡ acked s x last }
 {
-    if x != s.slot {
-        return rejected();
+    if !runs(s.slot, x) {
+        return None;
     }
     if 4 <= s.acks {
-        return rejected();
+        return None;
     }
-    Watch {
-        left: s.left,
-        due: s.due,
+    Some(Watch {
         slot: slot_after(x, last),
-        polls: s.polls,
         acks: s.acks + 1,
-        good: true,
-    }
+        ..s
+    })
 }
 
-fn slot_after(x: u32, last: bool) -> u32
+fn slot_after(x: u32, last: bool) -> Option<u32>
     ensures { result ≡ slot_after x last }
 {
-    if last { 64 } else { x }
-}
-
-// The log is not accepted.
-fn rejected() -> Watch
-    ensures { result ≡ rejected }
-{
-    Watch {
-        left: 0,
-        due: 0,
-        slot: 64,
-        polls: 0,
-        acks: 0,
-        good: false,
-    }
+    if last { None } else { Some(x) }
 }
 
 // Kind 6.

@@ -1,11 +1,9 @@
 -- net.rs: `NetStation::new`, `on_tx_done`, `level_for`, `tiny_wave`, `slot_len`; `cap_for`, `down_level` and `leaf_wait_s` of ncs.rs.
-use Rattle.std.specs.Prelude.{ℕ, ◌-◌, ◌^◌, ◌≡◌, Bool, true, false, cond, ◌&&◌, List, replicate, get_or, eqb, ltb, Float}
+use Rattle.std.specs.Prelude.{ℕ, ◌-◌, ◌^◌, ◌≡◌, Bool, true, false, cond, ◌&&◌, List, replicate, get_or, eqb, ltb, Float, Option, Some, None}
 use Rattle.std.specs.Float.{nan, binary64}
 use Rattle.std.specs.Float.Ieee.{add, mul}
 use Rattle.bits.specs.Mask.{has_bit, both_of}
 use Rattle.level.specs.declared.Level.{Level}
-use Rattle.level.specs.declared.Clock.{Clock}
-use Rattle.level.specs.declared.Clock.TheVariants.{Never, At}
 use Rattle.level.specs.Levels.{level_for, is_heard}
 use Rattle.level.specs.Consts.{zero_time, one, two, three, slot_slack}
 use Rattle.inbox.specs.Messages.{empty_cell}
@@ -49,12 +47,12 @@ first_round = record { list = 0; toack = 0; treenews = 0; windowend = zero_time;
 abbrev pub no_totals : Totals
 no_totals = record { polls = 0; relays = 0; rxlists = 0; rounds = 0; replies = 0; silent = 0 }
 
-abbrev pub wait_of : Turn → Clock → Wait
+abbrev pub wait_of : Turn → Option Float → Wait
 wait_of turn deadline = record { turn = turn; deadline = deadline }
 
 -- nothing is waited for
 abbrev pub idle_wait : Wait
-idle_wait = wait_of Idle Never
+idle_wait = wait_of Idle None
 
 -- no boat, no message: every slot and every cell is free
 unfoldable pub new_station : Settings → ℕ → Station
@@ -80,8 +78,8 @@ polled_by (Waiting r) = r.slot
 abbrev pub reply_time : Settings → Bool → Member → Float
 reply_time g here m = cond (here && is_heard m.snrup && eqb m.missed 0) g.detect g.maxburst
 
-abbrev pub deadline_of : Settings → Bool → Member → Float → Clock
-deadline_of g here m t = At (plus (plus (plus t g.turnaround) (reply_time g here m)) g.replyslack)
+abbrev pub deadline_of : Settings → Bool → Member → Float → Option Float
+deadline_of g here m t = Some (plus (plus (plus t g.turnaround) (reply_time g here m)) g.replyslack)
 
 abbrev pub done_by : Turn → Wait → Settings → Bool → Member → Float → Wait
 done_by Idle w g here m t = w

@@ -2,12 +2,13 @@
 #![tactic(auto)]
 
 ghost use Rattle.std.specs.Prelude.{◌≡◌, cond};
+ghost use Rattle.recent.specs.Readings.{empty};
 ghost use Rattle.net.specs.State.{index_of, member_at};
 ghost use Rattle.net.specs.Code.Done.{is_sure, deadline_for, done_for};
 ghost use Rattle.net.specs.Net.{is_member, members_in, first_round, no_totals, new_station, wait_of, idle_wait, is_idle, polled_by, on_tx_done, level_in, down_level, slot_len, leaf_wait};
 
 use inbox::cell::Cell;
-use level::{Clock, Level};
+use level::Level;
 use queue::Queue;
 use recent::Recent;
 use roster::Member;
@@ -30,11 +31,11 @@ pub enum Turn {
     Waiting(Reply),
 }
 
-// A field that is an enum takes no store; a struct that holds it does.
+// The turn, and when its waiting ends.
 #[derive(Clone, Copy)]
 pub struct Wait {
     pub turn: Turn,
-    pub deadline: Clock,
+    pub deadline: Option<f64>,
 }
 
 #[derive(Clone, Copy)]
@@ -180,7 +181,7 @@ pub fn new(settings: Settings, count: usize) -> Station
     let c = inbox::store::empty_cell();
     let wait = Wait {
         turn: Turn::Idle,
-        deadline: Clock::Never,
+        deadline: None,
     };
     let round = first_round();
     let totals = no_totals();
@@ -216,15 +217,13 @@ pub fn new(settings: Settings, count: usize) -> Station
 pub fn sending(w: Wait) -> Wait
     ensures { result ≡ wait_of Turn.Sending w.deadline }
 {
-    let deadline = w.deadline;
-    Wait {
-        turn: Turn::Sending,
-        deadline: deadline,
-    }
+    let mut v = w;
+    v.turn = Turn::Sending;
+    v
 }
 
 // The wait for a reply.
-pub fn waiting(reply: Reply, deadline: Clock) -> Wait
+pub fn waiting(reply: Reply, deadline: Option<f64>) -> Wait
     ensures { result ≡ wait_of (Turn.Waiting reply) deadline }
 {
     Wait {
@@ -239,19 +238,14 @@ pub fn idle() -> Wait
 {
     Wait {
         turn: Turn::Idle,
-        deadline: Clock::Never,
+        deadline: None,
     }
 }
 
 pub fn is_idle(w: Wait) -> bool
     ensures { result ≡ is_idle w.turn }
 {
-    let turn = w.turn;
-    match turn {
-        Turn::Idle => true,
-        Turn::Sending => false,
-        Turn::Waiting(_) => false,
-    }
+    matches!(w.turn, Turn::Idle)
 }
 
 // The slot whose reply is waited for; 255 for none.
@@ -290,11 +284,11 @@ fn is_sure(s: Station, slot: u8) -> bool
 }
 
 // A boat that is unheard, or missed its poll, may still be answering: a whole burst is waited out.
-fn deadline_of(g: Settings, sure: bool, t: f64) -> Clock
+fn deadline_of(g: Settings, sure: bool, t: f64) -> Option<f64>
     ensures { result ≡ deadline_for g sure t }
 {
     let reply = if sure { g.detect } else { g.maxburst };
-    Clock::At(t + g.turnaround + reply + g.replyslack)
+    Some(t + g.turnaround + reply + g.replyslack)
 }
 
 fn done_wait(w: Wait, g: Settings, sure: bool, t: f64) -> Wait
@@ -330,6 +324,13 @@ fn wait_if(ok: bool, a: Wait, b: Wait) -> Wait
     ensures { result ≡ cond ok a b }
 {
     if ok { a } else { b }
+}
+
+// The readings of a boat; none where it starts anew.
+pub fn recent_if(r: Recent, fresh: bool) -> Recent
+    ensures { result ≡ cond fresh empty r }
+{
+    if fresh { recent::empty() } else { r }
 }
 
 // ---- levels

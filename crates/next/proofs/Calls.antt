@@ -1,8 +1,6 @@
 -- The calls of a function one after the other: what each says and leaves, put together. Assumes nothing.
-use Rattle.std.proofs.Common.{◌≡◌, ℕ, ◌<◌, Bool, true, false, cond, not, ◌&&◌, ◌||◌, eqb, ltb, List, [], get_or, set, sym, refl, ap, ◌∙◌, arith, eq-eqb, ne_eqb}
+use Rattle.std.proofs.Common.{◌≡◌, ℕ, ◌<◌, Bool, true, false, cond, not, ◌&&◌, ◌||◌, eqb, ltb, List, [], get_or, set, sym, refl, ap, ◌∙◌, arith, eq-eqb, ne_eqb, Option, Some, None}
 use lib.Ieee.{Float, lt}
-use Rattle.bits.specs.declared.Found.{Found}
-use Rattle.bits.specs.declared.Found.TheVariants as found
 use Rattle.bits.proofs.Lists.{cond_true, cond_false}
 use Rattle.out.specs.Encode.{Wrote}
 use Rattle.out.proofs.Laws.{then, wrote_none}
@@ -137,9 +135,9 @@ direct_none to s queue e = rw (eq-eqb to 255 e)
 pub direct_some : (to : ℕ) (s : Station) (queue : List ℕ) → (to ≡ 255 → ⊥) → direct_burst s queue to ≡ direct_if to s queue
 direct_some to s queue n = rw (ne_eqb to 255 n)
 
-slot_or : (f : Found) → ((i : ℕ) → f ≡ found.At i → i < 62) → (slot_or255 f ≡ 255 → ⊥) → slot_or255 f < 62
-slot_or found.Nothing h n = absurd (n refl)
-slot_or (found.At i) h n = omega (arith, h i refl)
+slot_or : (f : Option ℕ) → ((i : ℕ) → f ≡ Some i → i < 62) → (slot_or255 f ≡ 255 → ⊥) → slot_or255 f < 62
+slot_or None h n = absurd (n refl)
+slot_or (Some i) h n = omega (arith, h i refl)
 
 pub direct_lt : (a : Act) (s : Station) (to : ℕ) → to ≡ direct_to a s → (to ≡ 255 → ⊥) → to < 62
 direct_lt a s to e n = by (eqb (front_of s.wait s.round.list a) 255) e

@@ -1,11 +1,9 @@
 -- One look over the slots in use: to whom word goes before a poll, and whose traffic the polled slot is to forward. Assumes nothing.
-use Rattle.std.proofs.Common.{◌≡◌, ℕ, ◌+◌, ◌-◌, ◌^◌, ◌<◌, ◌≤◌, Bool, true, false, cond, not, ◌&&◌, eqb, ltb, List, get_or, sym, refl, ap, ◌∙◌, ap₂, ⊎_elim, arith, eq-eqb, ne_eqb, eqb-true}
+use Rattle.std.proofs.Common.{◌≡◌, ℕ, ◌+◌, ◌-◌, ◌^◌, ◌<◌, ◌≤◌, Bool, true, false, cond, not, ◌&&◌, eqb, ltb, List, get_or, sym, refl, ap, ◌∙◌, ap₂, ⊎_elim, arith, eq-eqb, ne_eqb, eqb-true, Option, Some, None}
 use lib.Count.{count_leading_zeros, leading_length}
 use borrow.Author.Tests.{not-true, not-false}
 use Rattle.bits.specs.Loop.{first, fold}
 use Rattle.bits.specs.Mask.{has_bit, with_bit, without_bit, lowest_bit}
-use Rattle.bits.specs.declared.Found.{Found}
-use Rattle.bits.specs.declared.Found.TheVariants as found
 use Rattle.bits.proofs.Lists.{cond_true, cond_false, and_true, eq_or_not, lt_or_le}
 use Rattle.bits.proofs.Laws.{has_none, has_past}
 use Rattle.bits.proofs.Loops.{fold_turn, fold_keeps_below, first_at, first_none, first_lt, first_found, first_before, first_nothing, first_ext}
@@ -128,10 +126,10 @@ module _ (s : Station) (slot : ℕ) where
       none : (b : Bool) → has_word s slot && b ≡ false
       none b = rw e
 
-  first_short : (p : ℕ → Bool) → ((j : ℕ) → 62 ≤ j → p j ≡ false) → (f : Found) → first p 62 0 ≡ f → first p 64 0 ≡ f
-  first_short p n found.Nothing e =
+  first_short : (p : ℕ → Bool) → ((j : ℕ) → 62 ≤ j → p j ≡ false) → (f : Option ℕ) → first p 62 0 ≡ f → first p 64 0 ≡ f
+  first_short p n None e =
       first_none p 64 (λ j l. ⊎_elim (λ h. first_nothing p 62 0 e j (omega arith) (omega arith)) (λ h. n j h) (lt_or_le j 62))
-  first_short p n (found.At i) e =
+  first_short p n (Some i) e =
       first_at p 64 i (omega (arith, first_lt p 62 i e)) (λ j l. first_before p 62 0 i e j (omega arith) l) (first_found p 62 0 i e).1
 
   lowest_is : has_word s slot ≡ false → lowest_bit (mask_where (word_at s slot)) ≡ first (leaf_word s slot) 62 0

@@ -1,15 +1,11 @@
 -- The code goes in one line through the station, with what is due as numbers; here that comes to the stages of `ncs_next`. Assumes nothing.
-use Rattle.std.proofs.Common.{◌≡◌, ℕ, zero, suc, ◌-◌, ◌%◌, ◌<◌, Bool, true, false, cond, not, ◌&&◌, ◌||◌, eqb, ltb, List, [], refl, ap, ◌∙◌, append_assoc, append-nil, arith, lt-ltb, ne_eqb, eqb-true}
+use Rattle.std.proofs.Common.{◌≡◌, ℕ, zero, suc, ◌-◌, ◌%◌, ◌<◌, Bool, true, false, cond, not, ◌&&◌, ◌||◌, eqb, ltb, List, [], refl, ap, ◌∙◌, append_assoc, append-nil, arith, lt-ltb, ne_eqb, eqb-true, Option, Some, None}
 use mathlib.Core.Bool.{and-false, or-true}
 use lib.Ieee.{Float, lt, le}
 use Rattle.bits.specs.Mask.{has_bit, lowest_bit}
-use Rattle.bits.specs.declared.Found.{Found}
-use Rattle.bits.specs.declared.Found.TheVariants as found
 use Rattle.bits.proofs.Lists.{cond_true, cond_false}
 use Rattle.bits.proofs.Loops.{first_lt, first_none}
 use Rattle.bits.proofs.Laws.{has_none}
-use Rattle.level.specs.declared.Clock.{Clock}
-use Rattle.level.specs.declared.Clock.TheVariants.{Never, At}
 use Rattle.wire.specs.Kinds.{k_close}
 use Rattle.roster.specs.declared.Member.{Member}
 use Rattle.roster.specs.Members.{missed_one}
@@ -52,9 +48,9 @@ same_cond false e = refl
 
 -- ### The poll
 
-poll_found : (s : Station) (f : Found) → ((slot : ℕ) → f ≡ found.At slot → slot < 64) → poll_slot s (front_by f) ≡ said_of (poll_by f s)
-poll_found s found.Nothing h = refl
-poll_found s (found.At slot) h =
+poll_found : (s : Station) (f : Option ℕ) → ((slot : ℕ) → f ≡ Some slot → slot < 64) → poll_slot s (front_by f) ≡ said_of (poll_by f s)
+poll_found s None h = refl
+poll_found s (Some slot) h =
     let l : slot < 64 = h slot refl in
     let e : slot % 256 ≡ slot = omega arith in
     let n : eqb slot 255 ≡ false = ne_eqb slot 255 (λ q. omega arith) in
@@ -91,20 +87,20 @@ module _ (s : Station) (a : Act) (queue : List ℕ) where
   word_none : front_of s.wait s.round.list a ≡ 255 → word_then a s queue ≡ poll_if a s
   word_none e = rw e
 
-  word_at : (f : Found) → ((i : ℕ) → f ≡ found.At i → i < 62) → poll_if a s ≡ said_of (poll_front s)
+  word_at : (f : Option ℕ) → ((i : ℕ) → f ≡ Some i → i < 62) → poll_if a s ≡ said_of (poll_front s)
       → poll_after a (direct_if (slot_or255 f) s queue) ≡ said_of (word_by f s queue)
-  word_at found.Nothing h p = p
-  word_at (found.At i) h p =
+  word_at None h p = p
+  word_at (Some i) h p =
       let l : i < 62 = h i refl in
       let e : i % 256 ≡ i = omega arith in
       let n : eqb i 255 ≡ false = ne_eqb i 255 (λ q. omega arith) in
       let x = direct_burst s queue i in
       rw (e, n) (ap (said_after x.words) (poll_busy x.station a (direct_busy s queue i)) ∙ said_nil x)
 
-  word_front : (f : Found) → ((slot : ℕ) → f ≡ found.At slot → slot < 64) → poll_if a s ≡ said_of (poll_front s)
+  word_front : (f : Option ℕ) → ((slot : ℕ) → f ≡ Some slot → slot < 64) → poll_if a s ≡ said_of (poll_front s)
       → poll_after a (direct_if (direct_slot s (front_by f)) s queue) ≡ said_of (word_by (directed_by f s) s queue)
-  word_front found.Nothing h p = p
-  word_front (found.At slot) h p =
+  word_front None h p = p
+  word_front (Some slot) h p =
       let l : slot < 64 = h slot refl in
       let e : slot % 256 ≡ slot = omega arith in
       let n : eqb slot 255 ≡ false = ne_eqb slot 255 (λ q. omega arith) in
@@ -124,7 +120,7 @@ module _ (s : Station) (a : Act) (queue : List ℕ) where
       word_none (cond_true _ _ _ (ap (λ (b : Bool). not (is_idle s.wait.turn) || not b) f ∙ or-true (not (is_idle s.wait.turn))))
       ∙ cond_false _ _ _ (ap (λ (b : Bool). is_idle s.wait.turn && b) f ∙ and-false (is_idle s.wait.turn))
 
-pub lowest_none : lowest_bit 0 ≡ found.Nothing
+pub lowest_none : lowest_bit 0 ≡ None
 unfolding lowest_bit
 lowest_none = first_none (has_bit 0) 64 (λ j h. has_none j)
 
@@ -133,7 +129,7 @@ word_empty : (s : Station) (a : Act) (queue : List ℕ) → s.round.list ≡ 0 �
 word_empty s a queue e =
     let n : front_by (lowest_bit s.round.list) ≡ 255 = ap (λ (m : ℕ). front_by (lowest_bit m)) e ∙ ap front_by lowest_none in
     word_none s a queue (ap (cond (not (is_idle s.wait.turn) || not (may_poll a)) 255) n ∙ same_cond (not (is_idle s.wait.turn) || not (may_poll a)) refl)
-    ∙ same_cond (is_idle s.wait.turn && may_poll a) (ap (λ (f : Found). said_of (poll_by f s)) (ap lowest_bit e ∙ lowest_none))
+    ∙ same_cond (is_idle s.wait.turn && may_poll a) (ap (λ (f : Option ℕ). said_of (poll_by f s)) (ap lowest_bit e ∙ lowest_none))
 
 then_none : (a : Act) (x : Said) (queue : List ℕ) → word_then a x.station queue ≡ said x.station [] → poll_then a x queue ≡ x
 then_none a x queue e = ap (said_after x.words) e ∙ said_nil x
@@ -328,12 +324,12 @@ overdue_waits true c r e = cc
 overdue_waits false true r e = cc
 overdue_waits false false r e = cc
 
-free_by : (closed : Bool) (t : Turn) (d : Clock) (now : Float) → cond closed Close (due_turn t d now) ≡ Free → is_idle t ≡ true
+free_by : (closed : Bool) (t : Turn) (d : Option Float) (now : Float) → cond closed Close (due_turn t d now) ≡ Free → is_idle t ≡ true
 free_by true t d now e = cc
 free_by false Idle d now e = refl
 free_by false Sending d now e = cc
-free_by false (Waiting r) Never now e = cc
-free_by false (Waiting r) (At end) now e = overdue_waits (lt now end) (eqb r.tries 0) r e
+free_by false (Waiting r) None now e = cc
+free_by false (Waiting r) (Some end) now e = overdue_waits (lt now end) (eqb r.tries 0) r e
 
 -- where nothing is due, nothing is waited for
 free_idle : (w : Wait) (closed : Bool) (now : Float) → due_of w closed now ≡ Free → is_idle w.turn ≡ true

@@ -1,12 +1,7 @@
 -- `ncs_next` of ncs.rs, stage by stage in the source's order: close, timeout, window, beacon, acknowledgements, received list, reroute, round, poll.
-use Rattle.std.specs.Prelude.{ℕ, ◌+◌, ◌-◌, ◌%◌, ◌^◌, Bool, true, false, cond, not, ◌&&◌, ◌||◌, List, [], ◌∷◌, ◌++◌, ◌==◌, nat_lt, Float}
-use Rattle.std.proofs.Math.Option.{Option, none, some}
+use Rattle.std.specs.Prelude.{ℕ, ◌+◌, ◌-◌, ◌%◌, ◌^◌, Bool, true, false, cond, not, ◌&&◌, ◌||◌, List, [], ◌∷◌, ◌++◌, ◌==◌, nat_lt, Float, Option, Some, None}
 use Rattle.std.specs.Float.Ieee.{lt, le}
 use Rattle.bits.specs.Mask.{has_bit, without_bit, lowest_bit}
-use Rattle.bits.specs.declared.Found.{Found}
-use Rattle.bits.specs.declared.Found.TheVariants as found
-use Rattle.level.specs.declared.Clock.{Clock}
-use Rattle.level.specs.declared.Clock.TheVariants.{Never, At}
 use Rattle.level.specs.Order.{least}
 use Rattle.wire.specs.Kinds.{k_close}
 use Rattle.out.specs.Encode.{missed_word}
@@ -40,11 +35,11 @@ pub record Decision : Type 0 where
 
 -- nothing is sent
 abbrev pub silent : Station → Decision
-silent s = record { station = s; words = []; over = none; drew = none }
+silent s = record { station = s; words = []; over = None; drew = None }
 
 -- a burst and what it leaves
 abbrev pub spoke : Said → Decision
-spoke x = record { station = x.station; words = x.words; over = none; drew = none }
+spoke x = record { station = x.station; words = x.words; over = None; drew = None }
 
 -- words before a decision's own
 abbrev pub after : List ℕ → Decision → Decision
@@ -59,21 +54,21 @@ poll_of slot source s =
     (one_poll (with_round (with_wait s (wait_of (Waiting (record { slot = slot; relayfor = source; tries = 0; turnbursts = 0 })) s.wait.deadline)) (with_list s.round (without_bit s.round.list slot))))
     (poll_burst s.settings (is_member s.used slot) (member_at s slot) slot source false)
 
-abbrev pub poll_by : Found → Station → Decision
-poll_by found.Nothing s = silent s
-poll_by (found.At slot) s = spoke (poll_of slot (source_for s slot) s)
+abbrev pub poll_by : Option ℕ → Station → Decision
+poll_by None s = silent s
+poll_by (Some slot) s = spoke (poll_of slot (source_for s slot) s)
 
 abbrev pub poll_front : Station → Decision
 poll_front s = poll_by (lowest_bit s.round.list) s
 
 -- before it word goes to the front of the list and to the boats relayed by it, a burst in each decision, and the slot stays on the list (U1)
-abbrev pub directed_by : Found → Station → Found
-directed_by found.Nothing s = found.Nothing
-directed_by (found.At slot) s = directed_to s slot
+abbrev pub directed_by : Option ℕ → Station → Option ℕ
+directed_by None s = None
+directed_by (Some slot) s = directed_to s slot
 
-abbrev pub word_by : Found → Station → List ℕ → Decision
-word_by found.Nothing s queue = poll_front s
-word_by (found.At slot) s queue = spoke (direct_burst s queue slot)
+abbrev pub word_by : Option ℕ → Station → List ℕ → Decision
+word_by None s queue = poll_front s
+word_by (Some slot) s queue = spoke (direct_burst s queue slot)
 
 unfoldable pub poll_stage : Station → List ℕ → Decision
 poll_stage s queue = word_by (directed_by (lowest_bit s.round.list) s) s queue
@@ -94,7 +89,7 @@ drawn s now =
     one_round (with_round s (with_list (with_number s.round (next_number s) (plus now s.settings.idleroundgap) false) (list_for s (next_number s))))
 
 abbrev pub drew_list : ℕ → Decision → Decision
-drew_list list d = record { station = d.station; words = d.words; over = d.over; drew = some list }
+drew_list list d = record { station = d.station; words = d.words; over = d.over; drew = Some list }
 
 unfoldable pub draw_stage : Station → Float → List ℕ → Decision
 draw_stage s now queue = drew_list (list_for s (next_number s)) (poll_stage (drawn s now) queue)
@@ -163,7 +158,7 @@ close_stage s now =
 unfoldable pub again_stage : Reply → Station → Decision
 again_stage r s =
     spoke (said
-    (one_poll (with_wait s (wait_of (Waiting (record { slot = r.slot; relayfor = r.relayfor; tries = 1; turnbursts = r.turnbursts })) Never)))
+    (one_poll (with_wait s (wait_of (Waiting (record { slot = r.slot; relayfor = r.relayfor; tries = 1; turnbursts = r.turnbursts })) None)))
     (poll_burst s.settings (is_member s.used r.slot) (member_at s r.slot) r.slot r.relayfor true))
 
 -- `turn_over(slot, relay_for)`
@@ -180,7 +175,7 @@ missed_event s slot = cond (is_member s.used slot) (missed_word slot ∷ []) []
 
 -- no answer again: the waiting ends, and the decision goes on
 abbrev pub over_by : ℕ → Decision → Decision
-over_by slot d = record { station = d.station; words = d.words; over = some slot; drew = d.drew }
+over_by slot d = record { station = d.station; words = d.words; over = Some slot; drew = d.drew }
 
 unfoldable pub missed_stage : Reply → Station → Float → List ℕ → Decision
 missed_stage r s now queue =
@@ -191,11 +186,11 @@ abbrev pub overdue_of : Reply → Due
 overdue_of r = cond (r.tries == 0) (Again r) (Missed r)
 
 -- by the deadline: none, not yet, passed
-abbrev pub due_by : Clock → Reply → Float → Due
-due_by Never r now = Quiet
-due_by (At end) r now = cond (lt now end) Quiet (overdue_of r)
+abbrev pub due_by : Option Float → Reply → Float → Due
+due_by None r now = Quiet
+due_by (Some end) r now = cond (lt now end) Quiet (overdue_of r)
 
-abbrev pub due_turn : Turn → Clock → Float → Due
+abbrev pub due_turn : Turn → Option Float → Float → Due
 due_turn Idle d now = Free
 due_turn Sending d now = Quiet
 due_turn (Waiting r) d now = due_by d r now

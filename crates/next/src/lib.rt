@@ -3,7 +3,6 @@
 
 ghost use Rattle.std.specs.Prelude.{◌≡◌, ◌+◌, ◌%◌, ◌^◌, false, [], if◌then◌else◌, nat_eq};
 ghost use Rattle.bits.specs.Loop.{any};
-ghost use Rattle.bits.specs.Mask.{with_bit};
 ghost use Rattle.out.specs.Encode.{Wrote};
 ghost use Rattle.net.specs.State.{with_number};
 ghost use Rattle.net.specs.Net.{Did, said};
@@ -11,9 +10,7 @@ ghost use Rattle.bursts.specs.Reroute.{source_for};
 ghost use Rattle.next.specs.Next.{overdue_of, due_by, due_of, drawn, ncs_next};
 ghost use Rattle.next.specs.Code.Decision.{no_late, late_reply, late_of, late_words, late_member, late_source, late_wait, late_totals, close_round, forward_to, late_round, act_in, is_said, is_draw, spoken_of, rerouting_of, round_then, list_in, list_due, told_in, eventful_at, eventful_in, list_round, no_list_yet, may_poll, front_of, Ends, none_seen, look_at, to_of, asks_for, poll_wait, poll_totals, poll_list, poll_words};
 
-use bits::Found;
 use bursts::{direct, reroute};
-use level::Clock;
 use net::{Reply, Round, Settings, Station, Totals, Turn, Wait};
 use queue::Queue;
 use roster::{Member, relay};
@@ -68,12 +65,10 @@ pub fn ncs_next(
     let number = s.round.number;
     let end = end_of(s.used, next);
     let mut seen = none_seen();
-    let mut j: usize = 0;
-    while j < end {
+    for j in 0..end {
         let p = s.members[j];
         let f = s.queues[j];
         seen = look(seen, s.used, j, p, f, number, next);
-        j += 1;
     }
     let to = to_of(seen.word, next);
     if to != 255 {
@@ -125,12 +120,12 @@ fn overdue(r: Reply) -> Due
     Due::Missed(r)
 }
 
-fn due_by(d: Clock, r: Reply, time: f64) -> Due
+fn due_by(d: Option<f64>, r: Reply, time: f64) -> Due
     ensures { result ≡ due_by d r time }
 {
     match d {
-        Clock::Never => Due::Quiet,
-        Clock::At(end) => {
+        None => Due::Quiet,
+        Some(end) => {
             if time < end {
                 return Due::Quiet;
             }
@@ -263,7 +258,7 @@ fn late_wait(w: Wait, l: Late) -> Wait
             tries: 1,
             turnbursts: l.turnbursts,
         };
-        return net::waiting(r, Clock::Never);
+        return net::waiting(r, None);
     }
     if l.missed {
         return net::idle();
@@ -355,25 +350,13 @@ fn act_of(quiet: bool, r: Round, used: u64, time: f64) -> Act
 fn is_said(a: Act) -> bool
     ensures { result ≡ is_said a }
 {
-    match a {
-        Act::Wait => false,
-        Act::Beacon => true,
-        Act::Acks => true,
-        Act::Draw => false,
-        Act::Poll => false,
-    }
+    matches!(a, Act::Beacon | Act::Acks)
 }
 
 fn is_draw(a: Act) -> bool
     ensures { result ≡ is_draw a }
 {
-    match a {
-        Act::Wait => false,
-        Act::Beacon => false,
-        Act::Acks => false,
-        Act::Draw => true,
-        Act::Poll => false,
-    }
+    matches!(a, Act::Draw)
 }
 
 // The words of such a burst, and the round behind it.
@@ -382,11 +365,9 @@ fn spoken(s: Station, a: Act, time: f64, o: &mut [u32], at: &mut usize) -> Round
 {
     let r = s.round;
     match a {
-        Act::Wait => r,
         Act::Beacon => bursts::beacon_round(s, time, o, at),
         Act::Acks => bursts::acks_round(s, o, at),
-        Act::Draw => r,
-        Act::Poll => r,
+        Act::Wait | Act::Draw | Act::Poll => r,
     }
 }
 
@@ -398,20 +379,12 @@ fn draw(ms: [Member; 62], used: u64, limit: u32, number: u32) -> u64
 {
     let fourth = number % 4 == 0;
     let mut list: u64 = 0;
-    let mut i: usize = 0;
-    while i < 62 {
+    for i in 0..62 {
         let m = ms[i];
         let listed = bits::has(used, i) & (m.via == wire::ALL) & (fourth | (m.missed < limit));
-        list = with_if(list, listed, i);
-        i += 1;
+        list = bits::with_if(list, listed, i);
     }
     list
-}
-
-fn with_if(mask: u64, yes: bool, i: usize) -> u64
-    ensures { result ≡ (if yes then with_bit mask i else mask) }
-{
-    if yes { bits::with(mask, i) } else { mask }
 }
 
 fn next_round(r: Round, at: f64) -> Round
@@ -481,12 +454,10 @@ fn told_in(ms: [Member; 62], used: u64, due: bool) -> [Member; 62]
     ensures { result ≡ told_in due used ms }
 {
     let mut ks = ms;
-    let mut i: usize = 0;
-    while i < 62 {
+    for i in 0..62 {
         let m = ks[i];
         let k = bursts::tell_at(m, due & bits::has(used, i));
         ks[i] = k;
-        i += 1;
     }
     ks
 }
@@ -507,15 +478,13 @@ fn eventful(ms: [Member; 62], used: u64, g: Settings) -> bool
 {
     let th = g.thresholds;
     let floor = th[0] + g.margin;
-    let mut i: usize = 0;
-    while i < 62 {
+    for i in 0..62 {
         let m = ms[i];
         let v = net::index(m.via);
         let p = ms[v];
         if eventful_at(used, bits::has(used, i), m, p, floor, g.misslimit) {
             return true;
         }
-        i += 1;
     }
     false
 }
@@ -572,19 +541,7 @@ fn round_end(mut s: Station, time: f64, o: &mut [u32], at: &mut usize) -> Statio
 fn may_poll(a: Act) -> bool
     ensures { result ≡ may_poll a }
 {
-    match a {
-        Act::Wait => false,
-        Act::Beacon => false,
-        Act::Acks => false,
-        Act::Draw => true,
-        Act::Poll => true,
-    }
-}
-
-fn low(i: usize) -> u8
-    ensures { result ≡ i % 256 }
-{
-    (i % 256) as u8
+    matches!(a, Act::Draw | Act::Poll)
 }
 
 // The slot to be polled, where nothing is being sent or waited for; 255 for none.
@@ -595,8 +552,8 @@ fn front(w: Wait, list: u64, a: Act) -> u8
         return 255;
     }
     match bits::lowest(list) {
-        Found::At(slot) => low(slot),
-        Found::Nothing => 255,
+        Some(slot) => (slot % 256) as u8,
+        None => 255,
     }
 }
 
@@ -631,8 +588,8 @@ fn look(seen: Seen, used: u64, j: usize, m: Member, q: Queue, number: u32, slot:
     let below = (m.via == slot) & (slot != wire::ALL);
     let word = here & queue::is_due(q, number) & ((j == slot as usize) | below);
     Seen {
-        needs: with_if(seen.needs, here & relay::needs_relay(m), j),
-        word: with_if(seen.word, word, j),
+        needs: bits::with_if(seen.needs, here & relay::needs_relay(m), j),
+        word: bits::with_if(seen.word, word, j),
     }
 }
 
@@ -644,8 +601,8 @@ fn to_of(word: u64, slot: u8) -> u8
         return slot;
     }
     match bits::lowest(word) {
-        Found::At(i) => low(i),
-        Found::Nothing => 255,
+        Some(i) => (i % 256) as u8,
+        None => 255,
     }
 }
 

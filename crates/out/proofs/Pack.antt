@@ -2,17 +2,14 @@
 -- Assumes nothing.
 use mathlib.Core.Path.{◌≡◌, refl, sym, ap, ◌∙◌}
 use mathlib.Core.Bool.{Bool, true, false, cond}
-use mathlib.Core.List.{List, [], ◌∷◌, ◌++◌}
-use Prim.Native.Nat.{ℕ, zero, suc, ◌+◌, ◌-◌, ◌*◌, ◌≤◌, ◌<◌}
-use native.Mathlib.Nat.{add-zero}
-use native.Mathlib.Numerals.{add-one}
+use mathlib.Core.List.{List, [], ◌∷◌, ◌++◌, append-nil}
+use Prim.Native.Nat.{ℕ, zero, suc, ◌+◌, ◌-◌, ◌*◌, ◌≤◌, ◌<◌, min, max}
 use native.Mathlib.Omega.{arith}
 use lib.Dec.{eqb, ltb}
-use lib.ListN.{length, take, drop, get_or, set, replicate, length-drop, drop_of_length-le, get_or-eq_default}
-use lib.Seq.{drop-drop, get_or-drop, take-take, take_all, take-nil, take-suc, take_at, length-take-le}
-use borrow.Author.Tests.{ltb-true, ltb-false, eqb-false}
+use lib.ListN.{length, length-append, take, drop, get_or, length-drop, drop_of_length-le}
+use lib.Seq.{get_or-take, take-append_seam, drop-append_seam, take_all, length-take-le}
+use borrow.Author.Tests.{eqb-true, ltb-true, ltb-false, eqb-false}
 use Rattle.words.specs.Words.{words_for, least}
-use Rattle.words.proofs.Fill.{fill}
 use Rattle.words.proofs.Read.{least_most, least_first}
 use Rattle.out.specs.Encode.{word12, pack, frame_words, ctrl_words, chunks_of, chunk_size, chunk_words, Wrote}
 use Rattle.out.proofs.Laws.{then}
@@ -33,17 +30,34 @@ pack_step (a ∷ []) h = refl
 pack_step (a ∷ b ∷ []) h = refl
 pack_step (a ∷ b ∷ c ∷ l) h = refl
 
--- one word more
-pub pack_turn : (l : List ℕ) (k w : ℕ) → 3 * k < length l → w ≡ word12 (get_or l (3 * k) 0) (get_or l (3 * k + 1) 0) (get_or l (3 * k + 2) 0)
-    → pack (drop (3 * k) l) ≡ (w ∷ []) ++ pack (drop (3 * (k + 1)) l)
-pack_turn l k w h e =
-    let n : 0 < length (drop (3 * k) l) = omega (arith, length-drop (3 * k) l) in
-    let j : 3 * (k + 1) ≡ 3 * k + 3 = omega arith in
-    rw (pack_step (drop (3 * k) l) n, get_or-drop (3 * k) l 0 0, get_or-drop (3 * k) l 1 0, get_or-drop (3 * k) l 2 0, add-zero, drop-drop, j, e)
+-- the next chunk of a list, and what it leaves
+pub chunk_cut : (s : ℕ) (r x t : List ℕ) → r ≡ x ++ t → length x ≡ min s (length r) → (take s r ≡ x) × (drop s r ≡ t)
+chunk_cut s r x t e n =
+    let m : length x + length t ≡ length r = rw e (sym (length-append x t)) in
+    cases (ltb (length r) s) refl m
+  where
+    by : (t : List ℕ) → r ≡ x ++ t → length t ≡ 0 → length r ≤ s → (take s r ≡ x) × (drop s r ≡ t)
+    by [] e z l = (take_all s r l ∙ e ∙ append-nil x, drop_of_length-le r l)
+    by (a ∷ t) e z l = absurd (omega arith)
 
-pub pack_end : (l : List ℕ) (k : ℕ) → length l ≤ 3 * k → pack (drop (3 * k) l) ≡ []
+    cases : (b : Bool) → ltb (length r) s ≡ b → length x + length t ≡ length r → (take s r ≡ x) × (drop s r ≡ t)
+    cases true f m = let h = ltb-true (length r) s f in by t e (omega arith) (omega arith)
+    cases false f m =
+        let h = ltb-false (length r) s f in
+        let k : s ≡ length x = omega arith in
+        rw (e, k) (take-append_seam x t, drop-append_seam x t)
+
+-- one word more
+pub pack_turn : (r x t : List ℕ) (w : ℕ) → r ≡ x ++ t → length x ≡ min 3 (length r) → 0 < length r → w ≡ word12 (get_or x 0 0) (get_or x 1 0) (get_or x 2 0)
+    → pack r ≡ (w ∷ []) ++ pack t
+pack_turn r x t w e n h q =
+    let c = chunk_cut 3 r x t e n in
+    rw (pack_step r h, c.1, q, ← c.0, get_or-take 3 r 0 0 (omega arith), get_or-take 3 r 1 0 (omega arith), get_or-take 3 r 2 0 (omega arith))
+
+pub pack_end : (l : List ℕ) → length l ≡ 0 → pack l ≡ []
 unfolding pack
-pack_end l k h = rw (drop_of_length-le l h)
+pack_end [] h = refl
+pack_end (a ∷ l) h = absurd (omega arith)
 
 -- ### Lists that are cut
 
@@ -59,43 +73,6 @@ pub length_take_most : (m : ℕ) (l : List ℕ) → length (take m l) ≤ m
 length_take_most zero l = omega arith
 length_take_most (suc m) [] = omega arith
 length_take_most (suc m) (a ∷ l) = omega (arith, length_take_most m l)
-
-take_two : (s m : ℕ) (l : List ℕ) → take s (take m l) ≡ take (least s m) l
-take_two s m l = by (ltb s m) refl
-  where
-    by : (t : Bool) → ltb s m ≡ t → take s (take m l) ≡ take (cond t s m) l
-    by true e = let h = ltb-true s m e in take-take s m l (omega arith)
-    by false e = let h = ltb-false s m e in take_all s (take m l) (omega (arith, length_take_most m l))
-
-drop_take : (i m : ℕ) (l : List ℕ) → drop i (take m l) ≡ take (m - i) (drop i l)
-drop_take zero m l =
-    let e : m - zero ≡ m = omega arith in
-    rw e
-drop_take (suc i) zero l =
-    let e : zero - suc i ≡ zero = omega arith in
-    rw e
-drop_take (suc i) (suc m) [] = sym (take-nil (suc m - suc i))
-drop_take (suc i) (suc m) (a ∷ l) =
-    let e : suc m - suc i ≡ m - i = omega arith in
-    rw e (drop_take i m l)
-
-pub cut : (s i m : ℕ) (l : List ℕ) → take s (drop i (take m l)) ≡ take (least s (m - i)) (drop i l)
-cut s i m l = rw drop_take (take_two s (m - i) (drop i l))
-
-pub get_or_past_cut : (n : ℕ) (l : List ℕ) (i : ℕ) → n ≤ i → get_or (take n l) i 0 ≡ 0
-get_or_past_cut n l i h = get_or-eq_default (take n l) 0 (omega (arith, length_take_most n l))
-
--- ### A chunk: the byte kind, the first k of d's bytes, and zeros to 32
-
-pub chunk_more : (kind : ℕ) (d : List ℕ) (k v : ℕ) → k < 31 → k < length d → v ≡ get_or d k 0
-    → set ((kind ∷ take k d) ++ replicate (31 - k) 0) (k + 1) v ≡ (kind ∷ take (k + 1) d) ++ replicate (31 - (k + 1)) 0
-chunk_more kind d k v h n e =
-    let f : set (take k d ++ replicate (31 - k) 0) k v ≡ take (suc k) d ++ replicate (31 - suc k) 0 =
-    fill (take k d) 31 k v h (length-take-le k d (omega arith)) ∙ rw (take-suc d k 0 n, e, add-one k) in
-    rw (add-one k) (ap (λ (x : List ℕ). kind ∷ x) f)
-
-pub chunk_take : (kind : ℕ) (d p : List ℕ) (n : ℕ) → n ≤ length d → p ≡ (kind ∷ take n d) ++ replicate (31 - n) 0 → take (n + 1) p ≡ kind ∷ take n d
-chunk_take kind d p n h e = rw e (take_at (kind ∷ take n d) (replicate (31 - n) 0) (n + 1) (omega (arith, length-take-le n d h)))
 
 -- ### Chunks, one after the other
 
@@ -150,26 +127,23 @@ unfolding chunks_of
 chunk_none kind size [] h = refl
 chunk_none kind size (b ∷ l) h = absurd (omega arith)
 
--- a turn of the writer: of rows m bytes are sent, s at a time, and i have been
-module _ (kind size n : ℕ) (rows : List ℕ) (i m s q : ℕ) (em : m ≡ least n (length rows)) (es : s ≡ chunk_size size) where
-  cut_rows : take n rows ≡ take m rows
-  cut_rows = sym (take_short n (length rows) rows (omega arith)) ∙ rw em
+-- the first n bytes of the rows are the first m, and a turn of the writer sends the next of them
+pub cut_rows : (n m : ℕ) (rows : List ℕ) → m ≡ least n (length rows) → take n rows ≡ take m rows
+cut_rows n m rows e = sym (take_short n (length rows) rows (omega arith)) ∙ rw e
 
-  -- a chunk lies within the rows, and the next place is no overflow
-  pub chunks_room : i < m → q ≡ least s (m - i) → (i + q ≤ length rows) × (q ≤ 31)
-  chunks_room h eq = omega (arith, least_first s (m - i), least_most s (m - i), size_most size, least_most n (length rows))
+pub size_clamp : (size : ℕ) → max 1 (min size 31) ≡ chunk_size size
+size_clamp size = by (eqb size 0) (ltb size 31) refl refl
+  where
+    by : (s t : Bool) → eqb size 0 ≡ s → ltb size 31 ≡ t → max 1 (min size 31) ≡ cond s 1 (cond t size 31)
+    by true t e f = let h = eqb-true size 0 e in omega arith
+    by false true e f = let h = eqb-false size 0 e in let k = ltb-true size 31 f in omega arith
+    by false false e f = let k = ltb-false size 31 f in omega arith
 
-  pub chunks_next : (0 < s) × (s ≤ 31) × (m ≤ length rows)
-  chunks_next = omega (arith, size_pos size, size_most size, least_most n (length rows))
-
-  pub chunks_turn : i < m → q ≡ least s (m - i)
-      → chunk_words kind size (drop i (take n rows)) ≡ ctrl_words (kind ∷ take q (drop i rows)) ++ chunk_words kind size (drop (i + s) (take n rows))
-  chunks_turn h eq =
-      let z : 0 < length (drop i (take m rows)) = omega (arith, length-drop i (take m rows), length-take-le m rows (omega (arith, least_most n (length rows)))) in
-      rw (cut_rows, chunk_step kind size (drop i (take m rows)) z, ← es, cut s i m rows, eq, drop-drop)
-
-  pub chunks_end : m ≤ i → chunk_words kind size (drop i (take n rows)) ≡ []
-  chunks_end h = chunk_none kind size (drop i (take n rows)) (rw cut_rows (omega (arith, length-drop i (take m rows), length_take_most m rows)))
+pub chunks_turn : (kind size s : ℕ) (r x t : List ℕ) → s ≡ chunk_size size → r ≡ x ++ t → length x ≡ min s (length r) → 0 < length r
+    → chunk_words kind size r ≡ ctrl_words (kind ∷ x) ++ chunk_words kind size t
+chunks_turn kind size s r x t z e n h =
+    let c = chunk_cut s r x t e n in
+    rw (chunk_step kind size r h, ← z, c.0, c.1)
 
 -- ### A frame, of what its three writers wrote
 

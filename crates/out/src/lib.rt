@@ -2,11 +2,11 @@
 // Each function answers the place after its words. Past the output's end nothing is written, and the place stays.
 #![tactic(auto)]
 
-ghost use Rattle.std.specs.Prelude.{◌≡◌, [], ◌∷◌, ◌++◌, ◌+◌, ◌-◌, ◌≤◌, ◌<◌, ◌%◌, length, take, drop, get_or, replicate};
+ghost use Rattle.std.specs.Prelude.{◌≡◌, [], ◌∷◌, ◌≤◌, ◌<◌, ◌%◌, length, take, get_or};
 ghost use Rattle.words.specs.Words.{least};
-ghost use Rattle.out.specs.Encode.{Wrote, word12, pack, frame_words, ctrl_words, head_word, wave_word, event_word, missed_word, message_word, chunk_size, chunk_words};
+ghost use Rattle.out.specs.Encode.{Wrote, word12, pack, frame_words, ctrl_words, head_word, wave_word, event_word, missed_word, message_word, chunk_words};
 
-use words::{least, words_for};
+use words::least;
 
 // A word at `at`.
 pub fn put_word(out: &mut [u32], at: usize, w: u32) -> usize
@@ -71,7 +71,7 @@ pub fn put_frame(out: &mut [u32], at: usize, flags: u8, field: u32, p: &[u8], n:
     let m = least(least(n, 255), p.len());
     let a = put_word(out, at, 0xa000_0000 + flags as u32 * 256 + m as u32);
     let b = put_word(out, a, 0xb000_0000 + field % 16777216);
-    put_payload(out, b, p, m)
+    put_payload(out, b, &p[..m])
 }
 
 // A control frame to everyone, of the first n bytes of p.
@@ -82,99 +82,51 @@ pub fn put_ctrl(out: &mut [u32], at: usize, p: &[u8; 32], n: usize) -> usize
 }
 
 // The first n bytes of rows in control frames of `size` bytes each (1 to 31) behind the byte `kind`.
-pub fn put_chunks(
-    out: &mut [u32],
-    at: usize,
-    kind: u8,
-    rows: &[u8; 372],
-    n: usize,
-    size: usize,
-) -> usize
-    ensures { Wrote out.old at (chunk_words kind size (take n rows.now)) out.new result }
-{
-    put_rows(out, at, kind, rows, n, size)
-}
-
-// The same for rows of any length.
-pub fn put_rows(out: &mut [u32], at: usize, kind: u8, rows: &[u8], n: usize, size: usize) -> usize
+// (n may pass the rows' end, so it is no part of them that is lent.)
+pub fn put_chunks(out: &mut [u32], at: usize, kind: u8, rows: &[u8], n: usize, size: usize) -> usize
     ensures { Wrote out.old at (chunk_words kind size (take n rows.now)) out.new result }
 {
     let m = least(n, rows.len());
-    let s = chunk_size(size);
     let mut end = at;
-    let mut i: usize = 0;
-    while i < m {
-        end = put_chunk(out, end, kind, rows, i, least(s, m - i));
-        i += s;
+    for chunk in rows[..m].chunks(size.clamp(1, 31)) {
+        end = put_chunk(out, end, kind, chunk);
     }
     end
 }
 
-fn chunk_size(size: usize) -> usize
-    ensures { result ≡ chunk_size size }
+// The control frame of the byte `kind` and the bytes of a chunk.
+fn put_chunk(out: &mut [u32], at: usize, kind: u8, chunk: &[u8]) -> usize
+    requires { length chunk.now ≤ 31 }
+    ensures { Wrote out.old at (ctrl_words (kind ∷ chunk.now)) out.new result }
 {
-    if size == 0 { 1 } else { least(size, 31) }
-}
-
-// The control frame of the byte `kind` and the n bytes of rows from i on.
-fn put_chunk(out: &mut [u32], at: usize, kind: u8, rows: &[u8], i: usize, n: usize) -> usize
-    requires { (i + n ≤ length rows.now) × (n ≤ 31) }
-    ensures { Wrote out.old at (ctrl_words (kind ∷ take n (drop i rows.now))) out.new result }
-{
-    let p = chunk_of(kind, rows, i, n);
+    let n = chunk.len();
+    let mut p = [0u8; 32];
+    p[0] = kind;
+    p[1..=n].copy_from_slice(chunk);
     put_ctrl(out, at, &p, n + 1)
 }
 
-// Its bytes.
-fn chunk_of(kind: u8, rows: &[u8], i: usize, n: usize) -> [u8; 32]
-    requires { (i + n ≤ length rows.now) × (n ≤ 31) }
-    ensures { result ≡ (kind ∷ take n (drop i rows.now)) ++ replicate (31 - n) 0 }
+// The words 12 of a payload.
+fn put_payload(out: &mut [u32], at: usize, p: &[u8]) -> usize
+    ensures { Wrote out.old at (pack p.now) out.new result }
 {
-    let mut p = [0u8; 32];
-    p[0] = kind;
-    let mut k: usize = 0;
-    while k < n {
-        p[k + 1] = rows[i + k];
-        k += 1;
-    }
-    p
-}
-
-// The words 12 of the first len bytes of p.
-fn put_payload(out: &mut [u32], at: usize, p: &[u8], len: usize) -> usize
-    requires { (len ≤ length p.now) × (len < 256) }
-    ensures { Wrote out.old at (pack (take len p.now)) out.new result }
-{
-    let n = words_for(len);
     let mut end = at;
-    let mut k: usize = 0;
-    while k < n {
-        end = put_word(out, end, payload_word(p, len, 3 * k));
-        k += 1;
+    for three in p.chunks(3) {
+        end = put_word(out, end, payload_word(three));
     }
     end
 }
 
-// The word 12 of the bytes from i on.
-fn payload_word(p: &[u8], len: usize, i: usize) -> u32
-    requires { (i < len) × (len < 256) }
-    ensures { result ≡ word12 (get_or (take len p.now) i 0) (get_or (take len p.now) (i + 1) 0) (get_or (take len p.now) (i + 2) 0) }
+// The word 12 of its first three bytes, zeros for those that it has not.
+fn payload_word(p: &[u8]) -> u32
+    ensures { result ≡ word12 (get_or p.now 0 0) (get_or p.now 1 0) (get_or p.now 2 0) }
 {
-    0xc000_0000
-        + byte_or_zero(p, len, i) * 65536
-        + byte_or_zero(p, len, i + 1) * 256
-        + byte_or_zero(p, len, i + 2)
+    0xc000_0000 + byte_or_zero(p, 0) * 65536 + byte_or_zero(p, 1) * 256 + byte_or_zero(p, 2)
 }
 
-// Byte i of the first len bytes of p, 0 past them.
-fn byte_or_zero(p: &[u8], len: usize, i: usize) -> u32
-    ensures { (result ≡ get_or (take len p.now) i 0) × (result < 256) }
+// Byte i, 0 past the end.
+fn byte_or_zero(p: &[u8], i: usize) -> u32
+    ensures { (result ≡ get_or p.now i 0) × (result < 256) }
 {
-    if len <= i {
-        return 0;
-    }
-    if p.len() <= i {
-        return 0;
-    }
-    p[i] as u32
+    u32::from(p.get(i).copied().unwrap_or(0))
 }

@@ -1,19 +1,23 @@
 -- Turns of the loops over messages. Assumes nothing.
-use mathlib.Core.Bool.{cond}
+use mathlib.Core.Bool.{true, false, cond}
 use mathlib.Core.List.{List, [], ◌∷◌, ◌++◌, map}
 use mathlib.Core.Logic.{⊎_elim}
 use mathlib.Core.Path.{◌≡◌, sym, ap, ◌∙◌}
-use Prim.Native.Nat.{ℕ, zero, suc, ◌+◌, ◌-◌, ◌≤◌, ◌<◌}
+use Prim.Native.Nat.{ℕ, ◌+◌, ◌-◌, ◌≤◌, ◌<◌}
 use native.Mathlib.Omega.{arith}
-use lib.Dec.{ltb, leb}
-use lib.ListN.{length, get_or}
+use lib.Dec.{eqb, ltb, leb}
+use lib.ListN.{length}
 use borrow.Author.Tests.{ltb-false, leb-false}
 use Rattle.bits.proofs.Lists.{cond_true, cond_false, cases}
+use Rattle.refusal.specs.declared.Refusal.{Refusal}
+use Rattle.std.specs.Prelude.{Result, Ok, Err, IsErr}
+use Rattle.refusal.specs.Numbers.{number_of, number_in}
+use Rattle.refusal.proofs.Numbers.{is_number}
 use Rattle.outbox.specs.declared.sender.Sender.{Sender}
 use Rattle.outbox.specs.Outbox.{Piece, OutMsg, Outbox, with_inflight, stale_in}
 use Rattle.outbox.specs.Outbox as O
 use Rattle.outbox.specs.Marks.{pieces, stale_marks}
-use Rattle.outbox.specs.Senders.{cut_of, part, put, msg_at, msgs, post_refusal, memory_refusal, both_refusal}
+use Rattle.outbox.specs.Senders.{cut_of, part, put, msg_at, msgs, post_refusal, memory_refusal, both_refusal, unless}
 use Rattle.outbox.proofs.Places.{msgs_turn, made, unmade, made_length}
 use Rattle.outbox.proofs.Sending.{total_most, cut_most, at_flight}
 use Rattle.outbox.proofs.Acts.{stale_length, stale_pieces}
@@ -55,6 +59,11 @@ post_open s room n e =
 pub both_open : (a b : ℕ) → both_refusal a b ≡ 0 → (16384 ≤ a) × (16384 ≤ b)
 both_open a b e = let p = seven a (memory_refusal b) e in let q = seven b 0 p.1 in (p.0, q.0)
 
+-- a refused call leaves what was
+pub kept : {A : Type 0} (x : Result A Refusal) (old new : Outbox) → IsErr x → old ≡ unless (number_in x) old new
+kept (Ok v) old new h = let z : false ≡ true = h in cc
+kept (Err r) old new h = sym (cond_false (eqb (number_of r) 0) new old (is_number r))
+
 -- ### stale
 map_stale : (m : OutMsg) (ms : List OutMsg) (x : List Piece) → m.inflight ≡ x → map stale_in (m ∷ ms) ≡ with_inflight m (map O.staled x) ∷ map stale_in ms
 map_stale m ms x e = ap (λ (y : List Piece). with_inflight m (map O.staled y) ∷ map stale_in ms) e
@@ -66,9 +75,3 @@ module _ (s : Sender) (bytes marks marks' : List ℕ) (n i : ℕ) (h : i < n) (k
       act_turn stale_marks stale_length s bytes marks marks' n i h k room e (map stale_in) (map stale_in)
       (map_stale (msg_at s bytes marks i) (msgs s bytes marks (n - (i + 1)) (i + 1)) (pieces 0 (part marks i (cut_of s i))) (at_flight s bytes marks i)
       ∙ ap (λ (x : List Piece). with_inflight (msg_at s bytes marks i) x ∷ map stale_in (msgs s bytes marks (n - (i + 1)) (i + 1))) (sym (stale_pieces 0 (part marks i (cut_of s i)))))
-
--- ### byte k of a message as it is sent
-pub framed_third : (a b k : ℕ) (l : List ℕ) → 2 ≤ k → get_or (a ∷ b ∷ l) k 0 ≡ get_or l (k - 2) 0
-framed_third a b zero l h = absurd (omega arith)
-framed_third a b (suc zero) l h = absurd (omega arith)
-framed_third a b (suc (suc k)) l h = let z : suc (suc k) - 2 ≡ k = omega arith in ap (λ (j : ℕ). get_or l j 0) (sym z)

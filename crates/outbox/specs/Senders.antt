@@ -1,11 +1,12 @@
 -- The `Outbox` that a sender's numbers and its two memories hold: message i has the 2,048 bytes from 2,048 i on of each, its bytes in the one and their
 -- marks in the other. Every value of all three holds one.
-use Rattle.std.specs.Prelude.{cond, List, [], ◌∷◌, ◌++◌, ◌≡◌, ℕ, zero, suc, ◌+◌, ◌-◌, ◌*◌, ◌≤◌, ◌<◌, length, get_or, set, take, drop, leb, ltb, eqb}
+use Rattle.std.specs.Prelude.{cond, List, [], ◌∷◌, ◌++◌, ◌≡◌, ℕ, zero, suc, ◌+◌, ◌-◌, ◌*◌, ◌≤◌, ◌<◌, length, get_or, set, take, drop, leb, ltb, eqb, Result, Ok, Err}
 use Rattle.bits.specs.Stop.{stop}
-use Rattle.outbox.specs.declared.sender.Waiting.{Waiting}
-use Rattle.outbox.specs.declared.sender.Waiting.TheVariants.{Bytes, Refused}
+use Rattle.refusal.specs.declared.Refusal.{Refusal}
+use Rattle.refusal.specs.declared.Refusal.TheVariants.{SmallMemory}
 use Rattle.std.proofs.Math.Seq.{paste}
 use Rattle.words.specs.Words.{least}
+use Rattle.outbox.specs.declared.sender.Message.{Message}
 use Rattle.outbox.specs.declared.sender.Sender.{Sender}
 use Rattle.outbox.specs.Outbox.{Piece, OutMsg, Outbox, pending}
 use Rattle.outbox.specs.Marks.{pieces}
@@ -23,11 +24,18 @@ memory = 16384
 abbrev pub count_of : Sender → ℕ
 count_of s = least s.count most
 
+-- message i's numbers
+abbrev pub no_message : Message
+no_message = record { seq = 0; total = 0; cut = 0 }
+
+abbrev pub message_at : Sender → ℕ → Message
+message_at s i = get_or s.messages i no_message
+
 abbrev pub total_of : Sender → ℕ → ℕ
-total_of s i = least (get_or s.totals i 0) message_room
+total_of s i = least (message_at s i).total message_room
 
 abbrev pub cut_of : Sender → ℕ → ℕ
-cut_of s i = least (get_or s.cuts i 0) (total_of s i)
+cut_of s i = least (message_at s i).cut (total_of s i)
 
 -- the first n bytes that message i has of a memory
 abbrev pub part : List ℕ → ℕ → ℕ → List ℕ
@@ -40,7 +48,7 @@ put mem i x = paste mem (message_room * i) x (length x)
 unfoldable pub msg_at : Sender → List ℕ → List ℕ → ℕ → OutMsg
 msg_at s bytes marks i =
     record {
-      seq = get_or s.seqs i 0;
+      seq = (message_at s i).seq;
       bytes = part bytes i (total_of s i);
       cut = cut_of s i;
       inflight = pieces 0 (part marks i (cut_of s i));
@@ -80,8 +88,14 @@ take_refusal out a b max room =
 abbrev pub unless : ℕ → Outbox → Outbox → Outbox
 unless x old new = cond (eqb x 0) new old
 
-abbrev pub pending_of : Sender → List ℕ → List ℕ → Waiting
-pending_of s bytes marks = cond (ltb (length marks) memory) (Refused 7) (Bytes (pending (outbox s bytes marks)))
+-- how many bytes are to be sent or in flight
+abbrev pub pending_of : Sender → List ℕ → List ℕ → Result ℕ Refusal
+pending_of s bytes marks = cond (ltb (length marks) memory) (Err SmallMemory) (Ok (pending (outbox s bytes marks)))
+
+-- how many words a burst's answer says, none where it is refused
+abbrev pub words_in : Result ℕ Refusal → ℕ
+words_in (Ok n) = n
+words_in (Err r) = 0
 
 -- the numbers after posting n bytes
 abbrev pub posted_of : Sender → ℕ → Sender
@@ -89,30 +103,12 @@ posted_of s n =
     record {
       next = stop (s.next + 1);
       count = s.count + 1;
-      seqs = set s.seqs s.count s.next;
-      totals = set s.totals s.count (n + 2);
-      cuts = set s.cuts s.count 0;
+      messages = set s.messages s.count (record { seq = s.next; total = n + 2; cut = 0 });
     }
 
--- what the type of a sender says of its lists
+-- what the type of a sender says of its messages
 pub record Eights (s : Sender) : Type 0 where
-  pub seqs : length s.seqs ≡ 8
-  pub totals : length s.totals ≡ 8
-  pub cuts : length s.cuts ≡ 8
-
--- message j's numbers replaced by those of the one behind it
-abbrev pub shift_of : Sender → ℕ → Sender
-shift_of s j =
-    record {
-      next = s.next;
-      count = s.count;
-      seqs = set s.seqs j (get_or s.seqs (j + 1) 0);
-      totals = set s.totals j (get_or s.totals (j + 1) 0);
-      cuts = set s.cuts j (get_or s.cuts (j + 1) 0);
-    }
-
-abbrev pub with_count : Sender → ℕ → Sender
-with_count s n = record { next = s.next; count = n; seqs = s.seqs; totals = s.totals; cuts = s.cuts }
+  pub eight : length s.messages ≡ 8
 
 -- message i has left, and those behind it moved down
 pub record Dropped (s : Sender) (bytes marks : List ℕ) (i : ℕ) (r : Sender) (bytes' marks' : List ℕ) : Type 0 where
@@ -122,7 +118,12 @@ pub record Dropped (s : Sender) (bytes marks : List ℕ) (i : ℕ) (r : Sender) 
   pub count : r.count ≡ count_of s - 1
 
 abbrev pub with_cut : Sender → ℕ → ℕ → Sender
-with_cut s i n = record { next = s.next; count = s.count; seqs = s.seqs; totals = s.totals; cuts = set s.cuts i n }
+with_cut s i n =
+    record {
+      next = s.next;
+      count = s.count;
+      messages = set s.messages i (record { seq = (message_at s i).seq; total = (message_at s i).total; cut = n });
+    }
 
 -- the pieces ps begun in message i, whose marks then reach to `now`; the other messages' marks are as they were
 pub record Begun (marks : List ℕ) (i cut : ℕ) (ps : List Piece) (marks' : List ℕ) (now : ℕ) : Type 0 where

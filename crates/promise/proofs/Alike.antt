@@ -1,9 +1,9 @@
 -- A long run from a start on, where 1 to 127 of one boat are handed over and 0 is not. Then two alike come in one reception, 0 and 256; or 0 and 128 come, and 0 once
 -- more is too old (Needed). Assumes nothing.
+use Rattle.std.specs.Prelude.{None}
 use mathlib.Core.Path.{◌≡◌, refl, sym, ap, ◌∙◌}
 use mathlib.Core.Bool.{Bool, true, false, ◌&&◌}
 use mathlib.Core.List.{List, [], ◌∷◌, ◌++◌}
-use mathlib.Core.Option.{none}
 use mathlib.Core.Logic.{⊎_elim}
 use Prim.Native.Nat.{ℕ, zero, suc, ◌+◌, ◌^◌, ◌-◌, ◌≤◌, ◌<◌}
 use lib.Dec.{leb, ltb, eqb}
@@ -117,7 +117,7 @@ late_book =
     record {
       ledger =
           record { covered = λ s k i. eqb s 0 && leb 1 k && ltb k 128 && ltb i 2; handed = λ s k. eqb s 0 && leb 1 k && ltb k 128 };
-      entry = λ c. none;
+      entry = λ c. None;
       stay = λ s. 0;
     }
 

@@ -1,9 +1,9 @@
 -- Of calls without sign-offs item 3 says what it said before sign-offs were there: `Before` is that statement, by its own definitions of turns and of messages, and
 -- follows. Assumes nothing.
+use Rattle.std.specs.Prelude.{Option, Some, None}
 use mathlib.Core.Path.{◌≡◌, refl, sym, ◌∙◌, subst}
 use mathlib.Core.Bool.{Bool, true, false, cond, ◌&&◌, ◌||◌}
 use mathlib.Core.List.{List, [], ◌∷◌, ◌++◌}
-use mathlib.Core.Option.{Option, none, some}
 use Prim.Native.Nat.{ℕ, ◌/◌, ◌%◌, ◌≤◌}
 use lib.Dec.{T, eqb}
 use lib.ListN.{length}
@@ -91,12 +91,12 @@ none_append (ack s ∷ es) fs a b = none_append es fs a b
 none_append (struck s ∷ es) fs a b = absurd a
 
 none_over : (o : Option ℕ) → NoStruck (over_if o)
-none_over none = tt
-none_over (some s) = tt
+none_over None = tt
+none_over (Some s) = tt
 
 none_drew : (o : Option ℕ) → NoStruck (drew_if o)
-none_drew none = tt
-none_drew (some m) = tt
+none_drew None = tt
+none_drew (Some m) = tt
 
 none_burst : (h : Head) → NoStruck (burst_by h)
 none_burst h = go (eqb h.code tiny && (eqb h.hi k_poll || eqb h.hi k_relay)) (eqb h.code tiny && (eqb h.hi k_pollack || eqb h.hi k_ack))

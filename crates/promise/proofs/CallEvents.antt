@@ -1,7 +1,7 @@
 -- What ends or is drawn up in a call, as the definitions have it; a sign-off apart. Assumes nothing.
+use Rattle.std.specs.Prelude.{Option, None}
 use mathlib.Core.Path.{◌≡◌, refl}
 use mathlib.Core.List.{◌++◌}
-use mathlib.Core.Option.{Option, none}
 use Prim.Native.Nat.{ℕ}
 use Rattle.words.specs.Words.{parse}
 use Rattle.next.specs.Next.{ncs_next}
@@ -9,43 +9,43 @@ use Rattle.rx.specs.Reception.{ncs_rx}
 use Rattle.promise.specs.Promise.{lent_to, Net, of_burst, Call, admission, reception, decision, sending, closing, reading, freeing, charging, signing, asking, posting, result, over_if, drew_if}
 
 abbrev pub over_of : Call → Net → Option ℕ
-over_of (admission packed relay now room) n = none
-over_of (reception words snr now lent room numbers) n = none
+over_of (admission packed relay now room) n = None
+over_of (reception words snr now lent room numbers) n = None
 over_of (decision now queue room) n = (ncs_next n.station now queue).over
-over_of (posting slot message queue) n = none
-over_of (sending now) n = none
-over_of (closing count) n = none
-over_of (reading cell lent) n = none
-over_of (freeing cell) n = none
-over_of (charging figures) n = none
-over_of (signing slot) n = none
-over_of (asking slot) n = none
+over_of (posting slot message queue) n = None
+over_of (sending now) n = None
+over_of (closing count) n = None
+over_of (reading cell lent) n = None
+over_of (freeing cell) n = None
+over_of (charging figures) n = None
+over_of (signing slot) n = None
+over_of (asking slot) n = None
 
 abbrev pub drew_of : Call → Net → Option ℕ
-drew_of (admission packed relay now room) n = none
-drew_of (reception words snr now lent room numbers) n = none
+drew_of (admission packed relay now room) n = None
+drew_of (reception words snr now lent room numbers) n = None
 drew_of (decision now queue room) n = (ncs_next n.station now queue).drew
-drew_of (posting slot message queue) n = none
-drew_of (sending now) n = none
-drew_of (closing count) n = none
-drew_of (reading cell lent) n = none
-drew_of (freeing cell) n = none
-drew_of (charging figures) n = none
-drew_of (signing slot) n = none
-drew_of (asking slot) n = none
+drew_of (posting slot message queue) n = None
+drew_of (sending now) n = None
+drew_of (closing count) n = None
+drew_of (reading cell lent) n = None
+drew_of (freeing cell) n = None
+drew_of (charging figures) n = None
+drew_of (signing slot) n = None
+drew_of (asking slot) n = None
 
 abbrev pub behind_of : Call → Net → Option ℕ
-behind_of (admission packed relay now room) n = none
-behind_of (reception words snr now lent room numbers) n = of_burst (parse words) none (λ b. (ncs_rx n.station b snr now (lent_to lent n.store)).over)
-behind_of (decision now queue room) n = none
-behind_of (posting slot message queue) n = none
-behind_of (sending now) n = none
-behind_of (closing count) n = none
-behind_of (reading cell lent) n = none
-behind_of (freeing cell) n = none
-behind_of (charging figures) n = none
-behind_of (signing slot) n = none
-behind_of (asking slot) n = none
+behind_of (admission packed relay now room) n = None
+behind_of (reception words snr now lent room numbers) n = of_burst (parse words) None (λ b. (ncs_rx n.station b snr now (lent_to lent n.store)).over)
+behind_of (decision now queue room) n = None
+behind_of (posting slot message queue) n = None
+behind_of (sending now) n = None
+behind_of (closing count) n = None
+behind_of (reading cell lent) n = None
+behind_of (freeing cell) n = None
+behind_of (charging figures) n = None
+behind_of (signing slot) n = None
+behind_of (asking slot) n = None
 
 pub events_are : (c : Call) (n : Net) → ((slot : ℕ) → c ≡ signing slot → ⊥)
     → ((result c n).before ≡ over_if (over_of c n) ++ drew_if (drew_of c n)) × ((result c n).behind ≡ over_if (behind_of c n))

@@ -16,7 +16,8 @@ use Rattle.station.specs.Entries.{admit_of, admit_refusal}
 use Rattle.net.specs.declared.Station.{Station}
 use Rattle.net.specs.declared.Settings.{Settings}
 use Rattle.net.specs.Net.{is_member, new_station}
-use Rattle.dues.specs.Dues.{slots_from, total, started256, charge_of, credit_of, takings_of, figures_ok, dues_of}
+use Rattle.std.specs.Prelude.{Ok}
+use Rattle.dues.specs.Dues.{slots_from, total, started256, charge_of, credit_of, takings_of, figures_ok, bill_of, dues_of}
 use Rattle.promise.specs.Promise.{net, Call, admission, result, step, after, leads}
 
 abbrev pub three : List Call
@@ -36,6 +37,6 @@ chain g store = (refl, refl)
 -- 1,025 bytes each
 pub chain_dues : (g : Settings) (store : List ℕ)
     → dues_of (line g store) (1025 ∷ 1025 ∷ 1025 ∷ replicate 59 0)
-    ≡ record { refusal = 0; charges = 35 ∷ 35 ∷ 35 ∷ replicate 59 0; credits = 3 ∷ 3 ∷ replicate 60 0; takings = 99 }
-unfolding after step result new_station admit_of admit_refusal is_member has_bit with_bit seat_of find_call first lowest_free leads_to digit char trim_start trim_end unpacked shifted of_bits dues_of figures_ok every slots_from total started256 charge_of credit_of takings_of
+    ≡ Ok (record { charges = 35 ∷ 35 ∷ 35 ∷ replicate 59 0; credits = 3 ∷ 3 ∷ replicate 60 0; takings = 99 })
+unfolding after step result new_station admit_of admit_refusal is_member has_bit with_bit seat_of find_call first lowest_free leads_to digit char trim_start trim_end unpacked shifted of_bits dues_of bill_of figures_ok every slots_from total started256 charge_of credit_of takings_of
 chain_dues g store = refl

@@ -1,8 +1,8 @@
 -- With every boat watched item 3 is what it said of all boats together: the definitions below are of that statement, with no boat's being watched in them, polls and
 -- acknowledgements counted apart, and `everyone` is it, from `item_3_short`. Assumes nothing.
+use Rattle.std.specs.Prelude.{Option, Some, None}
 use mathlib.Core.Path.{◌≡◌, refl, sym, ap, ◌∙◌, subst}
 use mathlib.Core.Bool.{Bool, true, false, not, cond, ◌&&◌}
-use mathlib.Core.Option.{Option, none, some}
 use mathlib.Core.List.{List, [], ◌∷◌, ◌++◌}
 use Prim.Native.Nat.{ℕ, suc, ◌+◌, ◌/◌, ◌%◌, ◌≤◌, ◌<◌}
 use native.Mathlib.Omega.{arith}
@@ -90,7 +90,7 @@ book_done M (brings words numbers lent) a b =
     let r = book_frames M (frames_by (parse words)) 0 numbers a.seen a.mask b.ledger in
     record { left = record { ledger = r.left; entry = enter_all a.events r.out b.entry; stay = b.stay }; out = r.out }
 book_done M (reads cell lent) a b = unchanged b
-book_done M (frees cell) a b = unchanged (record { ledger = b.ledger; entry = enter cell none b.entry; stay = b.stay })
+book_done M (frees cell) a b = unchanged (record { ledger = b.ledger; entry = enter cell None b.entry; stay = b.stay })
 book_done M (ends slot) a b = unchanged (book_ends slot b)
 book_done M changes_nothing a b = unchanged b
 
@@ -130,8 +130,8 @@ pub record Paired (count : ℕ) (es : List Event2) (ms : List Message) (b : Book
   pub once : Once ms b.ledger.handed
 
 abbrev pub ReadsAs : Sent → Option Message → Net → ℕ → Type 0
-ReadsAs M none n cell = read_refusal (length n.store) n.station.count n.station.landed cell ≡ 22
-ReadsAs M (some m) n cell =
+ReadsAs M None n cell = read_refusal (length n.store) n.station.count n.station.landed cell ≡ 22
+ReadsAs M (Some m) n cell =
     (read_refusal (length n.store) n.station.count n.station.landed cell ≡ 0)
     × (reading_of n.station n.store cell ≡ M m.slot m.number)
 
@@ -300,8 +300,8 @@ calls_ok M (c ∷ cs) n b ok = (
 -- ---- the same promise
 
 reads_same : (M : Sent) (o : Option Message) (n : Net) (cell : ℕ) → now.ReadsAs (all M) o n cell → ReadsAs M o n cell
-reads_same M none n cell h = h
-reads_same M (some m) n cell h = (h.0, h.1 refl)
+reads_same M None n cell h = h
+reads_same M (Some m) n cell h = (h.0, h.1 refl)
 
 at_same : (M : Sent) (count : ℕ) (k : InBook) (es : List Event2) (out : List Message) (n : Net) (b : Book)
     → now.AtCall (all M) count k es out n b → AtCall M count k es out n b

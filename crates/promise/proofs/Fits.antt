@@ -1,4 +1,5 @@
 -- What a boat's piece leaves of cells, store and windows, whatever the boat sends. Assumes nothing.
+use Rattle.std.specs.Prelude.{is_some}
 use mathlib.Core.Path.{◌≡◌, refl, ap, ◌∙◌, subst}
 use mathlib.Core.Bool.{Bool, true, false, cond, ◌&&◌}
 use mathlib.Core.List.{List}
@@ -9,7 +10,7 @@ use borrow.Author.Tests.{eqb-true}
 use Rattle.bits.proofs.Lists.{never_both}
 use Rattle.stream.specs.declared.window.Window.{Window}
 use Rattle.stream.specs.Window.{land_of, bar_of}
-use Rattle.stream.specs.Table.{Table, Accepted, accept, has_landed}
+use Rattle.stream.specs.Table.{Table, Accepted, accept}
 use Rattle.stream.proofs.Tables.{Tidy}
 use Rattle.stream.proofs.Windows.{Sound}
 use Rattle.stream.proofs.Accepts.{accept_cases, accept_tidy, accept_window}
@@ -24,9 +25,9 @@ pub record FitView (v : View) : Type 0 where
 -- ---- a piece
 
 pub accept_land : (t : Table) (w : Window) (store : List ℕ) (slot field : ℕ) (p : List ℕ)
-    → let x = accept t w store slot field p in x.window ≡ cond (has_landed x.landed) (land_of w x.number) (cond x.bars (bar_of w x.number) w)
+    → let x = accept t w store slot field p in x.window ≡ cond (is_some x.landed) (land_of w x.number) (cond x.bars (bar_of w x.number) w)
 accept_land t w store slot field p =
-    accept_cases t w store slot field p (λ x. x.window ≡ cond (has_landed x.landed) (land_of w x.number) (cond x.bars (bar_of w x.number) w))
+    accept_cases t w store slot field p (λ x. x.window ≡ cond (is_some x.landed) (land_of w x.number) (cond x.bars (bar_of w x.number) w))
     (λ e. refl) (λ k e h. refl) (λ k o a q c z. refl) (λ k o q. refl) (λ k o q. refl)
 
 -- a piece that is heard bars nothing
@@ -53,16 +54,16 @@ module _ (v : View) (slot field : ℕ) (p : List ℕ) (f : FitView v) (short : l
 
   -- a message that lands is marked in the boat's window
   module _ (kept : r.lost ≡ false) where
-    land_sound : Sound (cond (has_landed r.landed) (land_of (v.windows slot) r.number) (v.windows slot))
+    land_sound : Sound (cond (is_some r.landed) (land_of (v.windows slot) r.number) (v.windows slot))
     land_sound =
         let w = v.windows slot in
         subst Sound
         (accept_land v.table w v.store slot field p
-        ∙ ap (λ (b : Bool). cond (has_landed r.landed) (land_of w r.number) (cond b (bar_of w r.number) w)) (accept_heard v.table w v.store slot field p kept))
+        ∙ ap (λ (b : Bool). cond (is_some r.landed) (land_of w r.number) (cond b (bar_of w r.number) w)) (accept_heard v.table w v.store slot field p kept))
         moved_sound
 
-    after_sound : (i : ℕ) → Sound (windows_after v.windows slot (has_landed r.landed) r.number i)
-    after_sound i = at (has_landed r.landed) land_sound (eqb slot i) refl
+    after_sound : (i : ℕ) → Sound (windows_after v.windows slot (is_some r.landed) r.number i)
+    after_sound i = at (is_some r.landed) land_sound (eqb slot i) refl
       where
         at : (b : Bool) → Sound (cond b (land_of (v.windows slot) r.number) (v.windows slot)) → (t : Bool) → eqb slot i ≡ t → Sound (cond (b && t) (land_of (v.windows i) r.number) (v.windows i))
         at true s true e = subst (λ (y : ℕ). Sound (land_of (v.windows y) r.number)) (eqb-true slot i e) s

@@ -1,7 +1,7 @@
 -- Item 3 of document 01, the messages: every call keeps the tie, so what is promised holds of every list of calls. Assumes nothing.
+use Rattle.std.specs.Prelude.{Option, None}
 use mathlib.Core.Path.{◌≡◌, refl, sym, ap, ◌∙◌, subst}
 use mathlib.Core.Bool.{Bool, true, false, cond, ◌&&◌, ◌||◌}
-use mathlib.Core.Option.{Option, none}
 use mathlib.Core.List.{List, [], ◌∷◌, ◌++◌, append-nil}
 use mathlib.Core.Logic.{⊎_elim}
 use Prim.Native.Nat.{ℕ, suc, ◌+◌, ◌*◌, ◌/◌, ◌%◌, ◌≤◌, ◌<◌}
@@ -298,7 +298,7 @@ module _ (M : Sent) (n : Net) (b : Book) (tied : Tied M n b) (cell : ℕ) (is : 
       ap (λ (y : Bool). use_of y (has_bit t₁.landed d) (get_or t₀.owners d 0)) (without_other t₀.busy cell d (λ q. z (sym q)))
       ∙ ap (λ (y : Bool). use_of (has_bit t₀.busy d) y (get_or t₀.owners d 0)) (without_other t₀.landed cell d (λ q. z (sym q)))
 
-  freed_tie : Tie M (view_of (with_table n.station t₁) n.store) b.ledger (enter cell none b.entry)
+  freed_tie : Tie M (view_of (with_table n.station t₁) n.store) b.ledger (enter cell None b.entry)
   freed_tie =
       record {
         tidy = freed_tidy t₀ n.store tied.tie.tidy cell;
@@ -315,14 +315,14 @@ module _ (M : Sent) (n : Net) (b : Book) (tied : Tied M n b) (cell : ℕ) (is : 
             (λ d q.
             ⊎_elim (λ i. comes_open (has_bit t₀.busy cell) (has_bit t₀.landed cell) (get_or t₀.owners cell 0) s k (sym (ap (use_at t₀) i) ∙ q) is) (λ i. nowhere d (use_there d i ∙ q)) (eq_or_not d cell));
         entries = λ d.
-            ⊎_elim (λ i. ap (λ (t : Bool). cond t none (b.entry d)) (eq-eqb cell d (sym i)) ∙ sym (ap (entry_of M) (use_here d i)))
-            (λ i. ap (λ (t : Bool). cond t none (b.entry d)) (ne_eqb cell d (λ j. i (sym j))) ∙ tied.tie.entries d ∙ sym (ap (entry_of M) (use_there d i)))
+            ⊎_elim (λ i. ap (λ (t : Bool). cond t None (b.entry d)) (eq-eqb cell d (sym i)) ∙ sym (ap (entry_of M) (use_here d i)))
+            (λ i. ap (λ (t : Bool). cond t None (b.entry d)) (ne_eqb cell d (λ j. i (sym j))) ∙ tied.tie.entries d ∙ sym (ap (entry_of M) (use_there d i)))
             (eq_or_not d cell);
       }
 
 module _ (M : Sent) (n : Net) (b : Book) (tied : Tied M n b) (cell : ℕ) where
   abbrev freed_book : Book
-  freed_book = record { ledger = b.ledger; entry = enter cell none b.entry; stay = b.stay }
+  freed_book = record { ledger = b.ledger; entry = enter cell None b.entry; stay = b.stay }
 
   abbrev freed_by : Bool → Entered Book
   freed_by t = cond t (unchanged b) (unchanged freed_book)

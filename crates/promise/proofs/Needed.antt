@@ -1,9 +1,9 @@
 -- The premises of item 3 on messages and calls are needed: calls from a start that break one of them alone (`otherwise`), and of which what is promised does not
 -- hold (`broken`, `too_old`). Assumes nothing.
+use Rattle.std.specs.Prelude.{None}
 use mathlib.Core.Path.{◌≡◌, refl, sym, ap, ◌∙◌, subst}
 use mathlib.Core.Bool.{Bool, true, false, not, ◌&&◌}
 use mathlib.Core.List.{List, [], ◌∷◌, ◌++◌}
-use mathlib.Core.Option.{none}
 use mathlib.Core.Logic.{⊎_elim}
 use Prim.Native.Nat.{ℕ, zero, suc, ◌+◌, ◌*◌, ◌/◌, ◌%◌, ◌≤◌}
 use native.Mathlib.Omega.{arith}
@@ -103,7 +103,7 @@ broken g =
       miscut = λ h. let z : ◌≡◌ {A = ℕ} 104 105 = ap (λ (l : List ℕ). get_or l 1 0) ((h.1.1.0.1 (omega arith)).1 refl) in omega arith;
       swapped = λ h. let z : ◌≡◌ {A = ℕ} 120 104 = ap (λ (l : List ℕ). get_or l 0 0) ((h.1.1.1.0.1 (omega arith)).1 refl) in omega arith;
       overlong = λ h.
-          subst (λ (t : Bool). Pairs 1 (record { slot = 0; cell = 0; number = 0 } ∷ []) (named (λ s. true) (record { slot = 0; cell = 0; number = 0 } ∷ []) ((enter_by t 0 0 empty_book.ledger (cover 0 0 0 2 empty_book.ledger.covered)).out ++ [])) (λ c. none))
+          subst (λ (t : Bool). Pairs 1 (record { slot = 0; cell = 0; number = 0 } ∷ []) (named (λ s. true) (record { slot = 0; cell = 0; number = 0 } ∷ []) ((enter_by t 0 0 empty_book.ledger (cover 0 0 0 2 empty_book.ledger.covered)).out ++ [])) (λ c. None))
           not_all h.1.0.pairs;
     }
 
@@ -219,7 +219,7 @@ abbrev pub old_book : Book
 old_book =
     record {
       ledger = record { covered = λ s k i. eqb s 0 && ltb k 129 && ltb i 2; handed = λ s k. eqb s 0 && ltb k 129 };
-      entry = λ c. none;
+      entry = λ c. None;
       stay = λ s. 0;
     }
 

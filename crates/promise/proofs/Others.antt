@@ -1,7 +1,7 @@
 -- One piece of a boat that is not watched: it goes into a cell that is free or its own, so what is tied to the book stays. Nothing is asked of the piece. Assumes nothing.
+use Rattle.std.specs.Prelude.{Option, Some, None, is_some}
 use mathlib.Core.Path.{◌≡◌, refl, sym, ap, ◌∙◌, subst}
 use mathlib.Core.Bool.{Bool, true, false, cond}
-use mathlib.Core.Option.{Option, none, some}
 use mathlib.Core.List.{List, []}
 use mathlib.Core.Logic.{◌⊎◌, inl, inr, ⊎_elim}
 use Prim.Native.Nat.{ℕ, ◌+◌, ◌*◌, ◌%◌, ◌^◌, ◌≤◌, ◌<◌}
@@ -21,7 +21,7 @@ use Rattle.stream.specs.declared.window.Window.{Window}
 use Rattle.stream.specs.declared.table.Room.{Room}
 use Rattle.stream.specs.declared.table.Room.TheVariants.{Own, Free, Full}
 use Rattle.stream.specs.Window.{handed_of, land_of, barred_of}
-use Rattle.stream.specs.Table.{Table, Accepted, accept, cell_at, cell_for, has_room, owner_of, cell_count, place_of, table_room, is_over, has_landed}
+use Rattle.stream.specs.Table.{Table, Accepted, accept, cell_at, cell_for, has_room, owner_of, cell_count, place_of, table_room, is_over}
 use Rattle.stream.proofs.Rooms.{RoomIs}
 use Rattle.stream.proofs.Tables.{Tidy, place_below, place_in, table_room_lem}
 use Rattle.stream.proofs.Accepts.{answer_of, cell_in, put_as, accept_cases, SameCell, accept_other}
@@ -117,17 +117,17 @@ module _ (M : Sent) (v : View) (l : Ledger) (e : ℕ → Option Message) (tie : 
 pub record Stood (t : Table) (bytes : List ℕ) (x : Accepted) : Type 0 where
   pub table : x.table ≡ t
   pub store : x.store ≡ bytes
-  pub quiet : has_landed x.landed ≡ false
+  pub quiet : is_some x.landed ≡ false
 
 -- or its cell is touched, which was free or its own: it is its own then
 pub record Touched (s : ℕ) (t : Table) (x : Accepted) : Type 0 where
   pub count : x.table.count ≡ t.count
   pub below : x.cell < t.count
   pub was : Its s (use_at t x.cell)
-  pub empty : (M : Sent) → entry_of M (use_at t x.cell) ≡ none
+  pub empty : (M : Sent) → entry_of M (use_at t x.cell) ≡ None
   pub is : Its s (use_at x.table x.cell)
-  pub lands : has_landed x.landed ≡ true → use_at x.table x.cell ≡ Whole s x.number
-  pub waits : has_landed x.landed ≡ false → (M : Sent) → entry_of M (use_at x.table x.cell) ≡ none
+  pub lands : is_some x.landed ≡ true → use_at x.table x.cell ≡ Whole s x.number
+  pub waits : is_some x.landed ≡ false → (M : Sent) → entry_of M (use_at x.table x.cell) ≡ None
 
 module _ (t : Table) (w : Window) (store : List ℕ) (s field : ℕ) (p : List ℕ) (tidy : Tidy t store) where
   abbrev RoomHere : ℕ → Room → Type 0
@@ -166,12 +166,12 @@ module _ (t : Table) (w : Window) (store : List ℕ) (s field : ℕ) (p : List �
     owner_here : get_or x.table.owners c 0 ≡ owner_of s k
     owner_here = let n = tidy.owners in let q = below_64 in get_or-set_same t.owners c (owner_of s k) 0 (omega arith)
 
-    use_landed : has_landed x.landed ≡ true → use_at x.table c ≡ Whole s k
+    use_landed : is_some x.landed ≡ true → use_at x.table c ≡ Whole s k
     use_landed q =
         use_whole _ _ _ s k busy_here
         (ap (λ (b : Bool). has_bit (cond b (with_bit t.landed c) (without_bit t.landed c)) c) q ∙ with_same t.landed c below_64) owner_here low_k
 
-    use_waits : has_landed x.landed ≡ false → use_at x.table c ≡ Comes s k
+    use_waits : is_some x.landed ≡ false → use_at x.table c ≡ Comes s k
     use_waits q =
         use_comes _ _ _ s k busy_here
         (ap (λ (b : Bool). has_bit (cond b (with_bit t.landed c) (without_bit t.landed c)) c) q ∙ without_same t.landed c) owner_here low_k
@@ -183,7 +183,7 @@ module _ (t : Table) (w : Window) (store : List ℕ) (s field : ℕ) (p : List �
           below = place_below t store tidy s k;
           was = ⊎_elim (λ q. subst (Its s) (sym q) tt) (λ q. subst (Its s) (sym q) refl) use_was;
           empty = λ M. ⊎_elim (λ q. ap (entry_of M) q) (λ q. ap (entry_of M) q) use_was;
-          is = ⊎_elim (λ q. subst (Its s) (sym (use_landed q)) refl) (λ q. subst (Its s) (sym (use_waits q)) refl) (cases (has_landed x.landed));
+          is = ⊎_elim (λ q. subst (Its s) (sym (use_landed q)) refl) (λ q. subst (Its s) (sym (use_waits q)) refl) (cases (is_some x.landed));
           lands = use_landed;
           waits = λ q M. ap (entry_of M) (use_waits q);
         }
@@ -217,10 +217,10 @@ module _ (M : Sent) (v : View) (l : Ledger) (e : ℕ → Option Message) (tie : 
   event = record { slot = s; cell = r.cell; number = r.number % 256 }
 
   abbrev entered : ℕ → Option Message
-  entered = enter r.cell (some (record { slot = s; number = r.number % 256 })) e
+  entered = enter r.cell (Some (record { slot = s; number = r.number % 256 })) e
 
-  stood_by : Stood v.table v.store r → (b : Bool) → has_landed r.landed ≡ b → Joint M l (view_by b) l (cond b (some event) none) [] e
-  stood_by h true q = absurd (never_both (has_landed r.landed) q h.quiet)
+  stood_by : Stood v.table v.store r → (b : Bool) → is_some r.landed ≡ b → Joint M l (view_by b) l (cond b (Some event) None) [] e
+  stood_by h true q = absurd (never_both (is_some r.landed) q h.quiet)
   stood_by h false q =
       record {
         tie = subst (λ (t : Table). Tie M (record { table = t; store = r.store; windows = v.windows }) l e) (sym h.table)
@@ -228,17 +228,17 @@ module _ (M : Sent) (v : View) (l : Ledger) (e : ℕ → Option Message) (tie : 
         handed = refl;
       }
 
-  touched_by : Touched s v.table r → (b : Bool) → has_landed r.landed ≡ b → FitView (view_by b) → Joint M l (view_by b) l (cond b (some event) none) [] e
+  touched_by : Touched s v.table r → (b : Bool) → is_some r.landed ≡ b → FitView (view_by b) → Joint M l (view_by b) l (cond b (Some event) None) [] e
   touched_by h true q f =
       record {
         off = off;
         tie = aside_tie M v l e tie s off (view_by true) r.cell f h.count
             (λ a z. ap (λ (u : Bool). cond u (land_of (v.windows a) r.number) (v.windows a)) (ne_eqb s a (λ i. z (sym i))))
             same_else h.was h.is entered
-            (ap (λ (u : Bool). cond u (some (record { slot = s; number = r.number % 256 })) (e r.cell)) (eq-eqb r.cell r.cell refl)
-            ∙ ap (λ (u : Bool). some (record { slot = s; number = cond u r.number (r.number % 256) })) (sym off)
+            (ap (λ (u : Bool). cond u (Some (record { slot = s; number = r.number % 256 })) (e r.cell)) (eq-eqb r.cell r.cell refl)
+            ∙ ap (λ (u : Bool). Some (record { slot = s; number = cond u r.number (r.number % 256) })) (sym off)
             ∙ sym (ap (entry_of M) (h.lands q)))
-            (λ d z. ap (λ (u : Bool). cond u (some (record { slot = s; number = r.number % 256 })) (e d)) (ne_eqb r.cell d (λ i. z (sym i))));
+            (λ d z. ap (λ (u : Bool). cond u (Some (record { slot = s; number = r.number % 256 })) (e d)) (ne_eqb r.cell d (λ i. z (sym i))));
         handed = refl;
         number = omega arith;
         below = let a = h.below in let b = h.count in omega arith;
@@ -254,5 +254,5 @@ module _ (M : Sent) (v : View) (l : Ledger) (e : ℕ → Option Message) (tie : 
   -- it is heard
   pub aside_good : r.lost ≡ false → Joint M l (view_after v s r) l (event_for s r) [] e
   aside_good kept =
-      ⊎_elim (λ h. stood_by h (has_landed r.landed) refl) (λ h. touched_by h (has_landed r.landed) refl (piece_fit v s field p fit short kept))
+      ⊎_elim (λ h. stood_by h (is_some r.landed) refl) (λ h. touched_by h (is_some r.landed) refl (piece_fit v s field p fit short kept))
       (touched v.table (v.windows s) v.store s field p tie.tidy kept)

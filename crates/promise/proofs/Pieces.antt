@@ -1,7 +1,7 @@
 -- One piece of a boat keeps the tie: the station lands a message exactly where the book hands one over. Assumes nothing.
+use Rattle.std.specs.Prelude.{Option, Some, None, is_some}
 use mathlib.Core.Path.{◌≡◌, refl, sym, ap, ◌∙◌, subst}
 use mathlib.Core.Bool.{Bool, true, false, not, cond, ◌&&◌}
-use mathlib.Core.Option.{Option, none, some}
 use mathlib.Core.List.{List, [], ◌∷◌}
 use mathlib.Core.Logic.{inl, inr, ⊎_elim}
 use Prim.Native.Nat.{ℕ, ◌+◌, ◌*◌, ◌/◌, ◌%◌, ◌^◌, ◌≤◌, ◌<◌}
@@ -13,13 +13,11 @@ use borrow.Author.Tests.{eq-eqb, ne_eqb}
 use Rattle.bits.specs.Mask.{has_bit}
 use Rattle.bits.proofs.Laws.{with_same, without_same}
 use Rattle.bits.proofs.Lists.{cases, le_or_lt, eq_or_not, never_both}
-use Rattle.wire.specs.declared.number.Number.TheVariants.{Is, Before}
 use Rattle.wire.specs.Numbers.{widened}
 use Rattle.wire.proofs.Near.{widen_near}
 use Rattle.inbox.specs.declared.cell.Cell.{Cell}
 use Rattle.inbox.specs.declared.keep.Kept.{Kept}
 use Rattle.inbox.specs.declared.keep.Kept.TheVariants.{Needless, Yes, Late, Overlong, Long, NoCell, NoPlace}
-use Rattle.inbox.specs.declared.store.Landed.TheVariants.{Bytes, NotYet}
 use Rattle.inbox.specs.Cells.{Held, held}
 use Rattle.inbox.specs.Stores.{cell_of, in_cell}
 use Rattle.inbox.specs.Messages.{announced, landed}
@@ -29,7 +27,7 @@ use Rattle.inbox.proofs.Rule.{KeptIs, yes_is, kept_room}
 use Rattle.stream.specs.declared.window.Window.{Window}
 use Rattle.stream.specs.declared.table.Taken.{Taken}
 use Rattle.stream.specs.Window.{handed_of, land_of, barred_of, bar_of}
-use Rattle.stream.specs.Table.{Table, Accepted, accepted, passed, took, no_cell, cell_at, cell_for, has_room, owner_of, table_room, is_over, changes, is_lost, has_landed, kept_table}
+use Rattle.stream.specs.Table.{Table, Accepted, accepted, passed, took, no_cell, cell_at, cell_for, has_room, owner_of, table_room, is_over, changes, is_lost, kept_table}
 use Rattle.stream.specs.Table as table
 use Rattle.stream.proofs.Tables.{Tidy, kept_tidy, kept_other, place_below, place_in, room_only}
 use Rattle.stream.proofs.Windows.{Sound, sound_next, sound_land, land_at, land_bars, handed_low, next_not_handed}
@@ -40,9 +38,9 @@ use Rattle.promise.proofs.Ties.{View, Comes, Whole, use_of, use_at, held_at, Tie
 
 -- ---- what a piece comes to, on both sides
 
-abbrev pub also_one {ℓ} : {A : Type ℓ} → Option A → List A → List A
-also_one none l = l
-also_one (some e) l = e ∷ l
+abbrev pub also_one : {A : Type 0} → Option A → List A → List A
+also_one None l = l
+also_one (Some e) l = e ∷ l
 
 pub record Still (M : Sent) (l : Ledger) (v : View) (l' : Ledger) (e : ℕ → Option Message) : Type 0 where
   pub tie : Tie M v l' e
@@ -51,37 +49,37 @@ pub record Still (M : Sent) (l : Ledger) (v : View) (l' : Ledger) (e : ℕ → O
 -- another boat's message lands: the book has its cell in use
 pub record Passes (M : Sent) (l : Ledger) (v : View) (l' : Ledger) (x : Event2) (e : ℕ → Option Message) : Type 0 where
   pub off : M.watched x.slot ≡ false
-  pub tie : Tie M v l' (enter x.cell (some (record { slot = x.slot; number = x.number })) e)
+  pub tie : Tie M v l' (enter x.cell (Some (record { slot = x.slot; number = x.number })) e)
   pub handed : l'.handed ≡ l.handed
   pub number : x.number ≡ x.number % 256
   pub below : x.cell < v.table.count
-  pub bare : e x.cell ≡ none
+  pub bare : e x.cell ≡ None
 
 pub record Lands (M : Sent) (l : Ledger) (v : View) (l' : Ledger) (x : Event2) (m : Message) (e : ℕ → Option Message) : Type 0 where
   pub on : M.watched x.slot ≡ true
-  pub tie : Tie M v l' (enter x.cell (some m) e)
+  pub tie : Tie M v l' (enter x.cell (Some m) e)
   pub handed : l'.handed ≡ also_handed m.slot m.number l.handed
   pub slot : x.slot ≡ m.slot
   pub number : x.number ≡ m.number % 256
   pub below : x.cell < v.table.count
-  pub bare : e x.cell ≡ none
+  pub bare : e x.cell ≡ None
   pub new : l.handed m.slot m.number ≡ false
   pub near : (y : ℕ) → l.handed m.slot y ≡ false → m.number ≤ y + 127
   pub fit : x.cell < 64
 
 abbrev pub Joint : Sent → Ledger → View → Ledger → Option Event2 → List Message → (ℕ → Option Message) → Type 0
-Joint M l v l' none [] e = Still M l v l' e
-Joint M l v l' none (m ∷ ms) e = ⊥
-Joint M l v l' (some x) [] e = Passes M l v l' x e
-Joint M l v l' (some x) (m ∷ []) e = Lands M l v l' x m e
-Joint M l v l' (some x) (m ∷ n ∷ ms) e = ⊥
+Joint M l v l' None [] e = Still M l v l' e
+Joint M l v l' None (m ∷ ms) e = ⊥
+Joint M l v l' (Some x) [] e = Passes M l v l' x e
+Joint M l v l' (Some x) (m ∷ []) e = Lands M l v l' x m e
+Joint M l v l' (Some x) (m ∷ n ∷ ms) e = ⊥
 
 -- the windows after a piece: the slot's own has one message more, where one landed
 abbrev pub windows_after : (ℕ → Window) → ℕ → Bool → ℕ → ℕ → Window
 windows_after win s b k i = cond (b && eqb s i) (land_of (win i) k) (win i)
 
 abbrev pub view_after : View → ℕ → Accepted → View
-view_after v s x = record { table = x.table; store = x.store; windows = windows_after v.windows s (has_landed x.landed) x.number }
+view_after v s x = record { table = x.table; store = x.store; windows = windows_after v.windows s (is_some x.landed) x.number }
 
 -- and where its number is barred: the store stays
 abbrev pub windows_barred : (ℕ → Window) → ℕ → ℕ → ℕ → Window
@@ -91,7 +89,7 @@ abbrev pub view_barred : View → ℕ → Accepted → View
 view_barred v s x = record { table = x.table; store = v.store; windows = windows_barred v.windows s x.number }
 
 abbrev pub event_for : ℕ → Accepted → Option Event2
-event_for s x = cond (has_landed x.landed) (some (record { slot = s; cell = x.cell; number = x.number % 256 })) none
+event_for s x = cond (is_some x.landed) (Some (record { slot = s; cell = x.cell; number = x.number % 256 })) None
 
 abbrev pub Good : Sent → Ledger → (ℕ → Option Message) → View → ℕ → Accepted → Entered Ledger → Type 0
 Good M l e v s x n = Joint M l (view_after v s x) n.left (event_for s x) n.out e
@@ -104,7 +102,7 @@ or_same : (t : Bool) → cond t true true ≡ true
 or_same true = refl
 or_same false = refl
 
-pub is_same : (k j : ℕ) → Is k ≡ Is j → k ≡ j
+pub is_same : (k j : ℕ) → Some k ≡ Some j → k ≡ j
 is_same k j q = cc
 
 -- a piece that covers f, handing its message over or not
@@ -125,7 +123,7 @@ module _ (M : Sent) (v : View) (l : Ledger) (e : ℕ → Option Message) (tie : 
   lowest_is = (tie.numbers s w.next on ∙ next_not_handed w, λ j a. tie.numbers s j on ∙ handed_low w j a)
 
   -- the number is made whole
-  pub is_number : widened (field / 65536 % 256) w.next ≡ Is k
+  pub is_number : widened (field / 65536 % 256) w.next ≡ Some k
   is_number =
       let n = ok.near w.next lowest_is in
       let z = sound_next w (tie.sound s) in
@@ -151,8 +149,8 @@ module _ (M : Sent) (v : View) (l : Ledger) (e : ℕ → Option Message) (tie : 
   abbrev Fair : Accepted → Type 0
   Fair x = x.lost ≡ false → Good M l e v s x (book_piece M s k o (length p) l)
 
-  quiet : book_piece M s k o (length p) l ≡ unchanged l → Joint M l v (book_piece M s k o (length p) l).left none (book_piece M s k o (length p) l).out e
-  quiet q = subst (λ (n : Entered Ledger). Joint M l v n.left none n.out e) (sym q) still
+  quiet : book_piece M s k o (length p) l ≡ unchanged l → Joint M l v (book_piece M s k o (length p) l).left None (book_piece M s k o (length p) l).out e
+  quiet q = subst (λ (n : Entered Ledger). Joint M l v n.left None n.out e) (sym q) still
 
   -- whether the piece claims too much
   abbrev over : Bool
@@ -230,7 +228,7 @@ module _ (M : Sent) (v : View) (l : Ledger) (e : ℕ → Option Message) (tie : 
     -- the cell as it is after the piece, landed or not
     module _ (b : Bool) (is : landed h ≡ b) where
       abbrev taken : Taken
-      taken = record { cell = h.cell; kept = Yes; landed = cond b (Bytes (announced h.bytes)) NotYet }
+      taken = record { cell = h.cell; kept = Yes; landed = cond b (Some (announced h.bytes)) None }
 
       abbrev t' : Table
       t' = kept_table v.table c (owner_of s k) taken
@@ -345,7 +343,7 @@ module _ (M : Sent) (v : View) (l : Ledger) (e : ℕ → Option Message) (tie : 
 
     land_tie : (is : landed h ≡ true)
         → Tie M (record { table = t' true is; store = store' true is; windows = win' }) (record { covered = covers; handed = also_handed s k l.handed })
-        (enter c (some (record { slot = s; number = k })) e)
+        (enter c (Some (record { slot = s; number = k })) e)
     land_tie is =
         put_tie M v l e tie s k c x m (record { table = t' true is; store = store' true is; windows = win' }) (Whole s k) h
         (tidy' true is) refl
@@ -353,7 +351,7 @@ module _ (M : Sent) (v : View) (l : Ledger) (e : ℕ → Option Message) (tie : 
         (held_here true is win') (use_there true is) (held_there true is win')
         (record { covered = covers; handed = also_handed s k l.handed })
         (record { cov = cov_other; hand = λ a b q. handed_other s k l.handed a b q })
-        (enter c (some (record { slot = s; number = k })) e)
+        (enter c (Some (record { slot = s; number = k })) e)
         sound' bars' numbers' says
         (λ i. landed_bytes (M.text s k) small (covers s k) h after_inv is)
         (λ q. absurd (never_both (also_handed s k l.handed s k) (handed_self s k l.handed) q))
@@ -384,7 +382,7 @@ module _ (M : Sent) (v : View) (l : Ledger) (e : ℕ → Option Message) (tie : 
       where
         at : (b : Bool) → landed h ≡ b
             → Good M l e v s
-            (accepted v.table w (table_room v.table s k) s k (took (record { cell = h.cell; kept = Yes; landed = cond b (Bytes (announced h.bytes)) NotYet }) (in_cell v.store c h.bytes)))
+            (accepted v.table w (table_room v.table s k) s k (took (record { cell = h.cell; kept = Yes; landed = cond b (Some (announced h.bytes)) None }) (in_cell v.store c h.bytes)))
             (enter_by b s k l covers)
         at true q =
             record {
@@ -413,5 +411,5 @@ module _ (M : Sent) (v : View) (l : Ledger) (e : ℕ → Option Message) (tie : 
       (λ j q. subst (λ (y : ℕ). handed_of w y ≡ false → answer_of v.table w v.store s y o p ≡ Yes → Fair (put_as v.table w v.store s y o p))
       (is_same k j (sym is_number ∙ q.is)) (λ t. put_fair (tie.numbers s k on ∙ t)) q.fresh)
     where
-      not_before : Before ≡ Is k → ⊥
+      not_before : None ≡ Some k → ⊥
       not_before q = let z : ◌≡◌ {A = ℕ} 0 1 = cc in omega arith

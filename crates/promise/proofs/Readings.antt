@@ -1,7 +1,7 @@
 -- The station and the events after a kept piece; what a frame leaves of a reception's running values, and every call of the number of cells. Assumes nothing.
+use Rattle.std.specs.Prelude.{Some, None, is_some}
 use mathlib.Core.Path.{◌≡◌, refl, sym, ap, ◌∙◌, subst}
 use mathlib.Core.Bool.{Bool, true, false, cond, ◌&&◌}
-use mathlib.Core.Option.{none, some}
 use mathlib.Core.List.{List, [], ◌∷◌, ◌++◌}
 use mathlib.Core.Logic.{⊎_elim}
 use Prim.Native.Nat.{ℕ, ◌/◌, ◌%◌, ◌≤◌, ◌<◌}
@@ -17,7 +17,7 @@ use Rattle.out.specs.Encode.{event_word, message_word}
 use Rattle.stream.specs.declared.window.Window.{Window}
 use Rattle.stream.specs.Window.{land_of, bar_of, fresh_of}
 use Rattle.stream.specs.declared.table.Room.{Room}
-use Rattle.stream.specs.Table.{Table, Accepted, accept, has_landed, has_own, place_of, freed_table, barred_table, table_room}
+use Rattle.stream.specs.Table.{Table, Accepted, accept, has_own, place_of, freed_table, barred_table, table_room}
 use Rattle.stream.proofs.Accepts.{accept_cases}
 use Rattle.roster.specs.declared.Member.{Member}
 use Rattle.roster.specs.Members.{no_member, landed_one, barred_one}
@@ -45,8 +45,8 @@ use Rattle.promise.proofs.QuietRx.{Untouched, untouched, control_untouched}
 heard_up : (a : Air) (m : Member) (slot : ℕ) → (heard_member a m slot).up ≡ m.up
 heard_up a m slot = cond_keeps (λ (x : Member). x.up ≡ m.up) (is_aside_leaf a m slot) _ _ (λ _. refl) (λ _. refl)
 
-piece_up : (a : Air) (m : Member) (slot : ℕ) (r : Accepted) → (piece_member a m slot r).up ≡ cond (has_landed r.landed) (land_of m.up r.number) m.up
-piece_up a m slot r = at (has_landed r.landed)
+piece_up : (a : Air) (m : Member) (slot : ℕ) (r : Accepted) → (piece_member a m slot r).up ≡ cond (is_some r.landed) (land_of m.up r.number) m.up
+piece_up a m slot r = at (is_some r.landed)
   where
     at : (b : Bool) → (cond b (landed_one (heard_member a m slot) r.number (size_of r.landed)) (heard_member a m slot)).up ≡ cond b (land_of m.up r.number) m.up
     at true = ap (λ (w : Window). land_of w r.number) (heard_up a m slot)
@@ -142,15 +142,15 @@ module _ (a : Air) (slot : ℕ) (r : Accepted) (x : Reading) where
   base = with_member (with_table x.station r.table) slot (piece_member a (member_at x.station slot) slot r)
 
   base_kept : Keeps base (kept_piece a slot r x).station
-  base_kept = relay_kept (is_relayed a x.station slot r) base _ (traffic_kept (has_landed r.landed) base _ (kept_self base))
+  base_kept = relay_kept (is_relayed a x.station slot r) base _ (traffic_kept (is_some r.landed) base _ (kept_self base))
 
   module _ (here : is_member x.station.used slot ≡ true) (long : length x.station.members ≡ 62) where
     pub piece_view : view_of (kept_piece a slot r x).station r.store ≡ view_after (view_of x.station x.store) slot r
     piece_view =
         kept_view base (kept_piece a slot r x).station r.store base_kept
-        ∙ view_is (table_of base) r.table r.store r.store (window_at base) (windows_after (window_at x.station) slot (has_landed r.landed) r.number)
+        ∙ view_is (table_of base) r.table r.store r.store (window_at base) (windows_after (window_at x.station) slot (is_some r.landed) r.number)
         refl refl
-        (windows_after_lem x.station.used x.station.members slot (piece_member a (member_at x.station slot) slot r) (has_landed r.landed) r.number here long
+        (windows_after_lem x.station.used x.station.members slot (piece_member a (member_at x.station slot) slot r) (is_some r.landed) r.number here long
         (piece_up a (member_at x.station slot) slot r))
 
     pub piece_long : length (kept_piece a slot r x).station.members ≡ 62
@@ -167,9 +167,9 @@ module _ (slot : ℕ) (r : Accepted) (x : Reading) (here : is_member x.station.u
   barred_long = length-set x.station.members (index_of slot) _ ∙ long
 
 -- its events
-pub piece_events_lem : (a : Air) (s : Station) (slot : ℕ) (r : Accepted) → slot < 64 → (has_landed r.landed ≡ true → r.cell < 64)
+pub piece_events_lem : (a : Air) (s : Station) (slot : ℕ) (r : Accepted) → slot < 64 → (is_some r.landed ≡ true → r.cell < 64)
     → events_in (piece_events a s slot r) ≡ also_one (event_for slot r) []
-piece_events_lem a s slot r low fit = at (has_landed r.landed) refl
+piece_events_lem a s slot r low fit = at (is_some r.landed) refl
   where
     word : List ℕ
     word = message_word slot r.cell r.number ∷ []
@@ -180,8 +180,8 @@ piece_events_lem a s slot r low fit = at (has_landed r.landed) refl
     said : r.cell < 64 → events_in word ≡ one ∷ []
     said f = message_word_lem slot r.cell r.number [] low f ∙ ap (λ (l : List Event2). one ∷ l) events_none
 
-    at : (b : Bool) → has_landed r.landed ≡ b
-        → events_in (cond b (cond (is_relayed a s slot r) (event_word 4 slot a.polled ∷ word) word) []) ≡ also_one (cond b (some one) none) []
+    at : (b : Bool) → is_some r.landed ≡ b
+        → events_in (cond b (cond (is_relayed a s slot r) (event_word 4 slot a.polled ∷ word) word) []) ≡ also_one (cond b (Some one) None) []
     at true q =
         cond_keeps (λ (ws : List ℕ). events_in ws ≡ one ∷ []) (is_relayed a s slot r) (event_word 4 slot a.polled ∷ word) word
         (λ _. relayed_word slot a.polled word ∙ said (fit q)) (λ _. said (fit q))

@@ -1,7 +1,7 @@
 -- The frames of a reception, one after the other: its events 2 and the messages handed over pair off. Assumes nothing.
+use Rattle.std.specs.Prelude.{Option, Some, None}
 use mathlib.Core.Path.{◌≡◌, refl, sym, ap, ◌∙◌, subst}
 use mathlib.Core.Bool.{Bool, true, false, not, cond, ◌&&◌}
-use mathlib.Core.Option.{Option, none, some}
 use mathlib.Core.List.{List, [], ◌∷◌, ◌++◌, append_assoc}
 use mathlib.Core.Logic.{⊎_elim}
 use Prim.Native.Nat.{ℕ, zero, suc, ◌+◌, ◌%◌, ◌≤◌, ◌<◌}
@@ -78,26 +78,26 @@ later_of m (x ∷ xs) f o h = (
 
 -- the book's entries after a frame
 abbrev entry_after : Option Event2 → List Message → (ℕ → Option Message) → ℕ → Option Message
-entry_after none ms e = e
-entry_after (some x) [] e = enter x.cell (some (record { slot = x.slot; number = x.number })) e
-entry_after (some x) (m ∷ ms) e = enter x.cell (some m) e
+entry_after None ms e = e
+entry_after (Some x) [] e = enter x.cell (Some (record { slot = x.slot; number = x.number })) e
+entry_after (Some x) (m ∷ ms) e = enter x.cell (Some m) e
 
 joint_tie : (M : Sent) (l : Ledger) (e : ℕ → Option Message) (x : Option Event2) (n : List Message) (v : View) (l' : Ledger)
     → Joint M l v l' x n e → Tie M v l' (entry_after x n e)
-joint_tie M l e none [] v l' j = j.tie
-joint_tie M l e none (m ∷ ms) v l' j = absurd j
-joint_tie M l e (some x) [] v l' j = j.tie
-joint_tie M l e (some x) (m ∷ []) v l' j = j.tie
-joint_tie M l e (some x) (m ∷ n ∷ ms) v l' j = absurd j
+joint_tie M l e None [] v l' j = j.tie
+joint_tie M l e None (m ∷ ms) v l' j = absurd j
+joint_tie M l e (Some x) [] v l' j = j.tie
+joint_tie M l e (Some x) (m ∷ []) v l' j = j.tie
+joint_tie M l e (Some x) (m ∷ n ∷ ms) v l' j = absurd j
 
 combine : (M : Sent) (l : Ledger) (e : ℕ → Option Message) (x : Option Event2) (n : List Message) (v₁ : View) (l₁ : Ledger)
     → Joint M l v₁ l₁ x n e → (es : List Event2) (ms : List Message) (v₂ : View) (l₂ : Ledger)
     → Received M v₁.table.count es ms v₂ l₂ l₁.handed (entry_after x n e)
     → Received M v₁.table.count (also_one x es) (n ++ ms) v₂ l₂ l.handed e
-combine M l e none [] v₁ l₁ j es ms v₂ l₂ r =
+combine M l e None [] v₁ l₁ j es ms v₂ l₂ r =
     subst (λ (f : ℕ → ℕ → Bool). Received M v₁.table.count es ms v₂ l₂ f e) j.handed r
-combine M l e none (m ∷ n) v₁ l₁ j es ms v₂ l₂ r = absurd j
-combine M l e (some v) [] v₁ l₁ j es ms v₂ l₂ x =
+combine M l e None (m ∷ n) v₁ l₁ j es ms v₂ l₂ r = absurd j
+combine M l e (Some v) [] v₁ l₁ j es ms v₂ l₂ x =
     record {
       tie = subst (λ (ns : List Message). Tie M v₂ l₂ (enter_all (v ∷ es) ns e)) (named_other M.watched v es ms j.off) x.tie;
       pairs = subst (λ (ns : List Message). Pairs v₁.table.count (v ∷ es) ns e) (named_other M.watched v es ms j.off)
@@ -106,8 +106,8 @@ combine M l e (some v) [] v₁ l₁ j es ms v₂ l₂ x =
       once = subst (Once ms) j.handed x.once;
       after = x.after ∙ ap (all_handed ms) j.handed;
     }
-combine M l e (some v) (m ∷ n ∷ ns) v₁ l₁ j es ms v₂ l₂ r = absurd j
-combine M l e (some v) (m ∷ []) v₁ l₁ j es ms v₂ l₂ x =
+combine M l e (Some v) (m ∷ n ∷ ns) v₁ l₁ j es ms v₂ l₂ r = absurd j
+combine M l e (Some v) (m ∷ []) v₁ l₁ j es ms v₂ l₂ x =
     let o : Once ms (also_handed m.slot m.number l.handed) = subst (Once ms) j.handed x.once in
     record {
       tie = subst (λ (ns : List Message). Tie M v₂ l₂ (enter_all (v ∷ es) ns e)) (named_own M.watched v m es ms j.on) x.tie;
@@ -173,7 +173,7 @@ module _ (M : Sent) (small : (s k : ℕ) → M.watched s ≡ true → length (M.
   m = has_bit y.unkept x.frame
 
   still_read : (m : ℕ) → Seen x y (view_in x) [] m → Read M l e x y (unchanged l)
-  still_read m s = record { event = none; joint = record { tie = subst (λ (v : View). Tie M v l e) (sym s.view) tie; handed = refl }; events = s.events; long = s.long }
+  still_read m s = record { event = None; joint = record { tie = subst (λ (v : View). Tie M v l e) (sym s.view) tie; handed = refl }; events = s.events; long = s.long }
 
   marked : with_bit x.unkept x.frame ≡ y.unkept → m ≡ true
   marked q = ap (λ (m : ℕ). has_bit m x.frame) (sym q) ∙ with_same x.unkept x.frame few
@@ -185,7 +185,7 @@ module _ (M : Sent) (small : (s k : ℕ) → M.watched s ≡ true → length (M.
   book_read h fine ok (barred flags field p b q s) =
       subst (Read M l e x y) (sym (book_marked M flags field p k x.station.used m l (marked (sym s.mask))))
       (record {
-        event = none;
+        event = None;
         joint = record { tie = subst (λ (v : View). Tie M v l e) (sym s.view) (barred_good M (view_in x) l e tie (flags % 64) k field p (small (flags % 64) k) (λ on. ok (ap (λ (t : Bool). t && is_boats flags x.station.used) on ∙ b)) q); handed = refl };
         events = s.events;
         long = s.long;
@@ -287,8 +287,8 @@ pub record Reads (M : Sent) (l : Ledger) (e : ℕ → Option Message) (x y : Rea
   pub long : length y.station.members ≡ 62
 
 join_one : (x : Option Event2) (es : List Event2) → also_one x [] ++ es ≡ also_one x es
-join_one none es = refl
-join_one (some v) es = refl
+join_one None es = refl
+join_one (Some v) es = refl
 
 words_join : (first : List Event2) (x : Option Event2) (es mid last : List Event2) → last ≡ mid ++ es → mid ≡ first ++ also_one x [] → last ≡ first ++ also_one x es
 words_join first x es mid last p q =

@@ -1,9 +1,9 @@
 -- Small wrong traces, pairings, readings and rosters, each refuted by a part of item 3's statement, over its own definitions; and two that it must let pass, with a
 -- sign-off. The runs with which a premise is broken are in Needed. Assumes nothing.
+use Rattle.std.specs.Prelude.{Option, Some, None}
 use mathlib.Core.Path.{◌≡◌, refl, ap, ◌∙◌, subst}
 use mathlib.Core.Bool.{Bool, true, false, not, ◌&&◌}
 use mathlib.Core.List.{List, [], ◌∷◌, ◌++◌}
-use mathlib.Core.Option.{Option, none, some}
 use Prim.Native.Nat.{ℕ, ◌+◌, ◌%◌, ◌≤◌, ◌<◌}
 use native.Mathlib.Omega.{arith}
 use lib.Dec.{eqb}
@@ -115,9 +115,9 @@ abbrev message : (slot number : ℕ) → Message
 message slot number = record { slot = slot; number = number }
 
 abbrev vacant : ℕ → Option Message
-vacant c = none
+vacant c = None
 
-taken_none : (m : Message) → some m ≡ none → ⊥
+taken_none : (m : Message) → Some m ≡ None → ⊥
 taken_none m e = let z : ◌≡◌ {A = ℕ} 1 0 = cc in omega arith
 
 -- handed over with no event; two events for one message; an event for none
@@ -141,7 +141,7 @@ other_number h = let z : ◌≡◌ {A = ℕ} 1 0 = h.1 in omega arith
 pub cell_past_count : Pairs 2 (event 5 2 0 ∷ []) (message 5 0 ∷ []) vacant → ⊥
 cell_past_count h = let z : 2 < 2 = h.2 in omega arith
 
-pub cell_in_use : Pairs 2 (event 5 0 0 ∷ []) (message 5 0 ∷ []) (λ c. some (message 7 3)) → ⊥
+pub cell_in_use : Pairs 2 (event 5 0 0 ∷ []) (message 5 0 ∷ []) (λ c. Some (message 7 3)) → ⊥
 cell_in_use h = taken_none (message 7 3) h.3
 
 pub one_cell_twice : Pairs 2 (event 5 0 0 ∷ event 5 0 1 ∷ []) (message 5 0 ∷ message 5 1 ∷ []) vacant → ⊥
@@ -204,14 +204,14 @@ with_hi g = after (joins ∷ hi ∷ []) (one_cell g)
 
 pub record Readings (g : Settings) : Type 0 where
   -- it should be 22, and is read
-  pub stale : ReadsAs (record { watched = λ s. true; text = λ s k. 104 ∷ 105 ∷ [] }) none (with_hi g) 0 → ⊥
+  pub stale : ReadsAs (record { watched = λ s. true; text = λ s k. 104 ∷ 105 ∷ [] }) None (with_hi g) 0 → ⊥
   -- it should not be 22, and is
-  pub gone : ReadsAs (record { watched = λ s. true; text = λ s k. 104 ∷ 105 ∷ [] }) (some (message 0 0)) (one_cell g) 0 → ⊥
+  pub gone : ReadsAs (record { watched = λ s. true; text = λ s k. 104 ∷ 105 ∷ [] }) (Some (message 0 0)) (one_cell g) 0 → ⊥
   -- the same of a boat that is not watched
-  pub gone_too : ReadsAs (record { watched = five; text = λ s k. [] }) (some (message 0 0)) (one_cell g) 0 → ⊥
+  pub gone_too : ReadsAs (record { watched = five; text = λ s k. [] }) (Some (message 0 0)) (one_cell g) 0 → ⊥
   -- other bytes; a byte too few
-  pub other : ReadsAs (record { watched = λ s. true; text = λ s k. 104 ∷ 111 ∷ [] }) (some (message 0 0)) (with_hi g) 0 → ⊥
-  pub short : ReadsAs (record { watched = λ s. true; text = λ s k. 104 ∷ 105 ∷ 33 ∷ [] }) (some (message 0 0)) (with_hi g) 0 → ⊥
+  pub other : ReadsAs (record { watched = λ s. true; text = λ s k. 104 ∷ 111 ∷ [] }) (Some (message 0 0)) (with_hi g) 0 → ⊥
+  pub short : ReadsAs (record { watched = λ s. true; text = λ s k. 104 ∷ 105 ∷ 33 ∷ [] }) (Some (message 0 0)) (with_hi g) 0 → ⊥
 
 pub readings : (g : Settings) → Readings g
 unfolding step after result admit_of admit_refusal new_station seat_of find_call first lowest_free has_bit with_bit without_bit leads_to unpacked digit char trim_start trim_end receive_of receive_refusal parse head_ok frames_of item_at frame_of payload unpack payload_ok word_ok pack frames_words ncs_rx read_frames frame_step read_frame piece_frame reply_end is_member accept widened widened_at own_cell put_of cells.accept shows_of settle grow seek next slide_of stop read_refusal cell_refusal reading_of

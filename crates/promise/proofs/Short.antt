@@ -1,4 +1,5 @@
 -- How many words an admission and a next decision return at most, whatever the station is, and that none of them is an event 2. Assumes nothing.
+use Rattle.std.specs.Prelude.{Option}
 use mathlib.Core.Path.{◌≡◌, refl, ◌∙◌}
 use Prim.Native.Nat.{ℕ, zero, suc, ◌+◌, ◌-◌, ◌*◌, ◌/◌, ◌%◌, ◌≤◌}
 use native.Mathlib.Omega.{arith}
@@ -31,7 +32,6 @@ use Rattle.queue.specs.Queues.{first_of, bytes_from}
 use Rattle.queue.proofs.Laws.{length_bytes}
 use Rattle.bursts.specs.Direct.{room_at, payload_at, down_frames, down_burst, direct_burst}
 use Rattle.bursts.proofs.Directing.{least_le, least_fst}
-use mathlib.Core.Option.{Option}
 use Rattle.promise.proofs.WalkWords.{Events, admit_events_lem}
 use Rattle.promise.proofs.Spoken.{Sends, Spoken, next_spoken}
 use Rattle.promise.proofs.QuietWalk.{uncelled}

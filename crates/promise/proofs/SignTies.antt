@@ -1,8 +1,8 @@
 -- A sign-off beside the book: what the book holds for the slot is empty, and so is the station's part of it. Assumes nothing.
+use Rattle.std.specs.Prelude.{Option, Some, None}
 use mathlib.Core.Path.{◌≡◌, refl, sym, ap, ◌∙◌, subst}
 use mathlib.Core.Logic.{⊎_elim}
 use mathlib.Core.Bool.{Bool, true, false, cond, ◌&&◌}
-use mathlib.Core.Option.{Option, none, some}
 use mathlib.Core.List.{List}
 use Prim.Native.Nat.{ℕ, suc, ◌+◌, ◌/◌, ◌%◌, ◌<◌}
 use native.Mathlib.Omega.{arith}
@@ -186,19 +186,19 @@ module _ (N N' : Sent) (slot : ℕ) (watch : (s : ℕ) → (s ≡ slot → ⊥) 
   entry_by false y o = refl
   entry_by true false o = at (eqb (o / 4294967296) slot)
     where
-      at : (e : Bool) → none ≡ entry_of N' (cond e Vacant (Comes (o / 4294967296) (o % 4294967296)))
+      at : (e : Bool) → None ≡ entry_of N' (cond e Vacant (Comes (o / 4294967296) (o % 4294967296)))
       at true = refl
       at false = refl
-  entry_by true true o = ap (λ (e : Bool). cond e none (landed_in (N.watched (o / 4294967296)))) turned ∙ at (eqb (o / 4294967296) slot) refl
+  entry_by true true o = ap (λ (e : Bool). cond e None (landed_in (N.watched (o / 4294967296)))) turned ∙ at (eqb (o / 4294967296) slot) refl
     where
       turned : eqb slot (o / 4294967296) ≡ eqb (o / 4294967296) slot
       turned = ⊎_elim (λ e. eq-eqb slot (o / 4294967296) e ∙ sym (eq-eqb (o / 4294967296) slot (sym e))) (λ z. ne_eqb slot (o / 4294967296) z ∙ sym (ne_eqb (o / 4294967296) slot (λ e. z (sym e)))) (eq_or_not slot (o / 4294967296))
 
       landed_in : Bool → Option Message
-      landed_in t = some (record { slot = o / 4294967296; number = cond t (o % 4294967296) (o % 4294967296 % 256) })
+      landed_in t = Some (record { slot = o / 4294967296; number = cond t (o % 4294967296) (o % 4294967296 % 256) })
 
       at : (e : Bool) → eqb (o / 4294967296) slot ≡ e
-          → cond e none (landed_in (N.watched (o / 4294967296))) ≡ entry_of N' (cond e Vacant (Whole (o / 4294967296) (o % 4294967296)))
+          → cond e None (landed_in (N.watched (o / 4294967296))) ≡ entry_of N' (cond e Vacant (Whole (o / 4294967296) (o % 4294967296)))
       at true q = refl
       at false q = ap landed_in (sym (watch (o / 4294967296) (λ w. never_both (eqb (o / 4294967296) slot) (eq-eqb (o / 4294967296) slot w) q)))
 

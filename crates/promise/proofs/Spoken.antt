@@ -1,24 +1,20 @@
 -- What a decision and a reception say: events, then one of the bursts or none, made by a station that a chain reaches. What holds of the events and
 -- of each burst holds of all words. Assumes nothing.
+use Rattle.std.specs.Prelude.{Option, Some, None}
 use mathlib.Core.Path.{◌≡◌, refl, sym, ap, ◌∙◌, subst}
 use mathlib.Core.Logic.{inl}
 use Prim.Native.Nat.{ℕ, ◌+◌, ◌-◌, ◌/◌, ◌%◌, ◌≤◌, ◌<◌}
 use native.Mathlib.Omega.{arith}
 use mathlib.Core.Bool.{Bool, true, false, cond, not, ◌&&◌, ◌||◌}
 use mathlib.Core.List.{List, [], ◌++◌}
-use mathlib.Core.Option.{Option, none, some}
 use lib.Dec.{eqb, ltb}
 use lib.Ieee.{Float, lt, le}
 use borrow.Author.Tests.{eqb-true, ltb-true}
 use Rattle.bits.specs.Mask.{has_bit, lowest_bit}
-use Rattle.bits.specs.declared.Found.{Found}
-use Rattle.bits.specs.declared.Found.TheVariants as found
 use Rattle.bits.proofs.Lists.{cond_keeps, and_true}
 use Rattle.bits.proofs.Loops.{fold_keeps}
 use Rattle.level.specs.declared.Level.{Level}
 use Rattle.level.specs.declared.Level.TheVariants.{Unheard, Decibels}
-use Rattle.level.specs.declared.Clock.{Clock}
-use Rattle.level.specs.declared.Clock.TheVariants.{Never, At}
 use Rattle.wire.specs.Kinds.{tiny, k_idle, k_close}
 use Rattle.words.specs.Words as words
 use Rattle.words.specs.declared.Head.{Head}
@@ -64,7 +60,7 @@ closing_of s now =
 
 abbrev pub again_of : Reply → Station → Said
 again_of r s =
-    said (one_poll (with_wait s (wait_of (Waiting (record { slot = r.slot; relayfor = r.relayfor; tries = 1; turnbursts = r.turnbursts })) Never)))
+    said (one_poll (with_wait s (wait_of (Waiting (record { slot = r.slot; relayfor = r.relayfor; tries = 1; turnbursts = r.turnbursts })) None)))
     (poll_burst s.settings (is_member s.used r.slot) (member_at s r.slot) r.slot r.relayfor true)
 
 abbrev pub said_at : Ended → Said
@@ -73,19 +69,19 @@ said_at e = said e.station e.burst
 -- The station s sends one burst, or none: what it leaves and its words, and the slot the waiting for whose reply ends behind it. Bursts with frames stand
 -- here where F allows them.
 pub data Sends (F : Type 0) (now : Float) (lent : List ℕ) (s : Station) : Said → Option ℕ → Type 0 where
-  nothing : Sends F now lent s (said s []) none
-  closing : Sends F now lent s (closing_of s now) none
-  again : (r : Reply) → s.wait.turn ≡ Waiting r → r.tries ≡ 0 → Sends F now lent s (again_of r s) none
-  beacon : F → s.wait.turn ≡ Idle → Sends F now lent s (beacon_of s now) none
-  acks : F → s.wait.turn ≡ Idle → Sends F now lent s (acks_burst s) none
-  list : F → s.wait.turn ≡ Idle → Sends F now lent s (said (one_list (bursts.sends (list_told s))) (list_words s)) none
-  word : F → s.wait.turn ≡ Idle → (slot : ℕ) → is_member s.used slot ≡ true → Sends F now lent s (direct_burst s lent slot) none
-  poll : s.wait.turn ≡ Idle → (slot : ℕ) → lowest_bit s.round.list ≡ found.At slot → Sends F now lent s (poll_of slot (source_for s slot) s) none
+  nothing : Sends F now lent s (said s []) None
+  closing : Sends F now lent s (closing_of s now) None
+  again : (r : Reply) → s.wait.turn ≡ Waiting r → r.tries ≡ 0 → Sends F now lent s (again_of r s) None
+  beacon : F → s.wait.turn ≡ Idle → Sends F now lent s (beacon_of s now) None
+  acks : F → s.wait.turn ≡ Idle → Sends F now lent s (acks_burst s) None
+  list : F → s.wait.turn ≡ Idle → Sends F now lent s (said (one_list (bursts.sends (list_told s))) (list_words s)) None
+  word : F → s.wait.turn ≡ Idle → (slot : ℕ) → is_member s.used slot ≡ true → Sends F now lent s (direct_burst s lent slot) None
+  poll : s.wait.turn ≡ Idle → (slot : ℕ) → lowest_bit s.round.list ≡ Some slot → Sends F now lent s (poll_of slot (source_for s slot) s) None
   -- and at the end of a reception: polled again with the acknowledgement, or acknowledged; K_IDLE is not answered
-  pollack : (r : Reply) (n heard : ℕ) → s.wait.turn ≡ Waiting r → r.turnbursts < 3 → Sends F now lent s (said_at (answer_by true r n heard s)) none
-  ack : (r : Reply) (n heard : ℕ) → s.wait.turn ≡ Waiting r → Sends F now lent s (said_at (answer_by false r n heard s)) (some r.slot)
+  pollack : (r : Reply) (n heard : ℕ) → s.wait.turn ≡ Waiting r → r.turnbursts < 3 → Sends F now lent s (said_at (answer_by true r n heard s)) None
+  ack : (r : Reply) (n heard : ℕ) → s.wait.turn ≡ Waiting r → Sends F now lent s (said_at (answer_by false r n heard s)) (Some r.slot)
   idle : (r : Reply) → s.wait.turn ≡ Waiting r
-      → Sends F now lent s (said (turn_over_in (one_reply (with_wait s idle_wait)) r.slot r.relayfor) []) (some r.slot)
+      → Sends F now lent s (said (turn_over_in (one_reply (with_wait s idle_wait)) r.slot r.relayfor) []) (Some r.slot)
 
 -- a chain leads from s to t, whose turn is y; the list and the settings stay, and where no cell may change, which boats there are and their directed queues
 pub record Reaches (A : Allowed) (s t : Station) (y : Turn) : Type 0 where
@@ -98,17 +94,17 @@ pub record Reaches (A : Allowed) (s t : Station) (y : Turn) : Type 0 where
 -- What is said from the station s on, and the station left, x: n events at most, then a burst. And what the words do not show: the slot the waiting for
 -- whose reply ended before them, the list that was drawn up, the slot the waiting for whose reply ends behind them.
 pub data Spoken (A : Allowed) (F : Type 0) (now : Float) (lent : List ℕ) : ℕ → Station → Said → Option ℕ → Option ℕ → Option ℕ → Type 0 where
-  burst : {n : ℕ} {s : Station} {x : Said} {o : Option ℕ} → Sends F now lent s x o → Spoken A F now lent n s x none none o
+  burst : {n : ℕ} {s : Station} {x : Said} {o : Option ℕ} → Sends F now lent s x o → Spoken A F now lent n s x None None o
   events : {n k j : ℕ} {s t : Station} {x : Said} {ws : List ℕ} {m o : Option ℕ} → k + n ≤ j → Reaches A s t s.wait.turn → Events A.cells k ws
-      → Spoken A F now lent n t x none m o → Spoken A F now lent j s (said x.station (ws ++ x.words)) none m o
-  draws : {n : ℕ} {s : Station} {x : Said} {o : Option ℕ} → s.wait.turn ≡ Idle → s.round.list ≡ 0 → Spoken A F now lent n (drawn s now) x none none o
-      → Spoken A F now lent n s x none (some (list_for s (next_number s))) o
-  late : {n : ℕ} {s t : Station} {x : Said} {m o : Option ℕ} (r : Reply) → s.wait.turn ≡ Waiting r → Reaches A s t Idle → Spoken A F now lent n t x none m o
-      → Spoken A F now lent n s x (some r.slot) m o
+      → Spoken A F now lent n t x None m o → Spoken A F now lent j s (said x.station (ws ++ x.words)) None m o
+  draws : {n : ℕ} {s : Station} {x : Said} {o : Option ℕ} → s.wait.turn ≡ Idle → s.round.list ≡ 0 → Spoken A F now lent n (drawn s now) x None None o
+      → Spoken A F now lent n s x None (Some (list_for s (next_number s))) o
+  late : {n : ℕ} {s t : Station} {x : Said} {m o : Option ℕ} (r : Reply) → s.wait.turn ≡ Waiting r → Reaches A s t Idle → Spoken A F now lent n t x None m o
+      → Spoken A F now lent n s x (Some r.slot) m o
 
 -- on to a station, with no event
 led : {A : Allowed} {F : Type 0} {now : Float} {lent : List ℕ} {n : ℕ} {s t : Station} {x : Said} {m o : Option ℕ} → Reaches A s t s.wait.turn
-    → Spoken A F now lent n t x none m o → Spoken A F now lent n s x none m o
+    → Spoken A F now lent n t x None m o → Spoken A F now lent n s x None m o
 led {n} h k = events {n = n} {k = 0} {j = n} (omega arith) h Events.none k
 
 -- ---- it is a chain of changes
@@ -221,12 +217,12 @@ overdue_runs true c r e = tt
 overdue_runs false true r e = (refl, eqb-true r.tries 0 e)
 overdue_runs false false r e = refl
 
-turn_runs : (closed : Bool) (y : Turn) (d : Clock) (now : Float) → Runs (cond closed Close (due_turn y d now)) y
+turn_runs : (closed : Bool) (y : Turn) (d : Option Float) (now : Float) → Runs (cond closed Close (due_turn y d now)) y
 turn_runs true y d now = tt
 turn_runs false Idle d now = refl
 turn_runs false Sending d now = tt
-turn_runs false (Waiting r) Never now = tt
-turn_runs false (Waiting r) (At end) now = overdue_runs (lt now end) (eqb r.tries 0) r refl
+turn_runs false (Waiting r) None now = tt
+turn_runs false (Waiting r) (Some end) now = overdue_runs (lt now end) (eqb r.tries 0) r refl
 
 -- a list is drawn up where none is left of the last
 draws_by : (b c d e : Bool) → cond b act.Beacon (cond c act.Acks (cond (not d) act.Poll (cond e act.Wait act.Draw))) ≡ act.Draw → d ≡ true
@@ -245,31 +241,31 @@ module _ (A : Allowed) (allowed : A.turns) (now : Float) (lent : List ℕ) where
   abbrev F : Type 0
   F = Unit {0}
 
-  module _ (s : Station) (P : Decision → Type 0) (still : s.wait.turn ≡ Idle) (f : (x : Said) → Sends F now lent s x none → P (spoke x)) where
-    poll_by_lem : (g : Found) → lowest_bit s.round.list ≡ g → P (poll_by g s)
-    poll_by_lem found.Nothing e = f _ nothing
-    poll_by_lem (found.At slot) e = f _ (poll still slot e)
+  module _ (s : Station) (P : Decision → Type 0) (still : s.wait.turn ≡ Idle) (f : (x : Said) → Sends F now lent s x None → P (spoke x)) where
+    poll_by_lem : (g : Option ℕ) → lowest_bit s.round.list ≡ g → P (poll_by g s)
+    poll_by_lem None e = f _ nothing
+    poll_by_lem (Some slot) e = f _ (poll still slot e)
 
-    word_by_lem : (g : Found) → ((i : ℕ) → g ≡ found.At i → is_member s.used i ≡ true) → P (word_by g s lent)
-    word_by_lem found.Nothing h = poll_by_lem (lowest_bit s.round.list) refl
-    word_by_lem (found.At i) h = f _ (word tt still i (h i refl))
+    word_by_lem : (g : Option ℕ) → ((i : ℕ) → g ≡ Some i → is_member s.used i ≡ true) → P (word_by g s lent)
+    word_by_lem None h = poll_by_lem (lowest_bit s.round.list) refl
+    word_by_lem (Some i) h = f _ (word tt still i (h i refl))
 
-    front_by_lem : (g : Found) → P (word_by (directed_by g s) s lent)
-    front_by_lem found.Nothing = poll_by_lem (lowest_bit s.round.list) refl
-    front_by_lem (found.At slot) = word_by_lem (directed_to s slot) (λ i e. directed_member s slot i e)
+    front_by_lem : (g : Option ℕ) → P (word_by (directed_by g s) s lent)
+    front_by_lem None = poll_by_lem (lowest_bit s.round.list) refl
+    front_by_lem (Some slot) = word_by_lem (directed_to s slot) (λ i e. directed_member s slot i e)
 
     poll_stage_lem : P (poll_stage s lent)
     unfolding poll_stage
     poll_stage_lem = front_by_lem (lowest_bit s.round.list)
 
   abbrev Leads : ℕ → Station → (Decision → Type 0) → Type 0
-  Leads n s P = (x : Said) (m : Option ℕ) → Spoken A F now lent n s x none m none → P (record { station = x.station; words = x.words; over = none; drew = m })
+  Leads n s P = (x : Said) (m : Option ℕ) → Spoken A F now lent n s x None m None → P (record { station = x.station; words = x.words; over = None; drew = m })
 
   draw_stage_lem : (n : ℕ) (s : Station) (P : Decision → Type 0) → s.wait.turn ≡ Idle → s.round.list ≡ 0 → Leads n s P → P (draw_stage s now lent)
   unfolding draw_stage
   draw_stage_lem n s P e z f =
       let l = list_for s (next_number s) in
-      poll_stage_lem (drawn s now) (λ d. P (drew_list l d)) e (λ x b. f x (some l) (draws e z (burst b)))
+      poll_stage_lem (drawn s now) (λ d. P (drew_list l d)) e (λ x b. f x (Some l) (draws e z (burst b)))
 
   reroute_stage_lem : (s : Station) (P : Decision → Type 0) → s.wait.turn ≡ Idle → s.round.list ≡ 0 → Leads 124 s P → P (reroute_stage s now lent)
   unfolding reroute_stage
@@ -278,8 +274,8 @@ module _ (A : Allowed) (allowed : A.turns) (now : Float) (lent : List ℕ) where
       let h = reach_rerouted A s in
       let Q : Decision → Type 0 = λ d. P (after (reroute_of s).words d) in
       let g : Leads 0 u Q = λ x m k. f _ m (events (omega arith) h (reroute_events A.cells s) k) in
-      cond_keeps P (not s.round.traffic && ltb 0 s.round.number && lt now s.round.nextround) _ _ (λ _. f _ none (burst nothing))
-      (λ _. cond_keeps Q (eqb u.round.treenews 0) _ _ (λ _. draw_stage_lem 0 u Q (h.turn ∙ e) (h.list ∙ z) g) (λ _. g _ none (burst (acks tt (h.turn ∙ e)))))
+      cond_keeps P (not s.round.traffic && ltb 0 s.round.number && lt now s.round.nextround) _ _ (λ _. f _ None (burst nothing))
+      (λ _. cond_keeps Q (eqb u.round.treenews 0) _ _ (λ _. draw_stage_lem 0 u Q (h.turn ∙ e) (h.list ∙ z) g) (λ _. g _ None (burst (acks tt (h.turn ∙ e)))))
 
   list_stage_lem : (s : Station) (P : Decision → Type 0) → s.wait.turn ≡ Idle → s.round.list ≡ 0 → Leads 124 s P → P (list_stage s now lent)
   unfolding rx_list_burst
@@ -292,7 +288,7 @@ module _ (A : Allowed) (allowed : A.turns) (now : Float) (lent : List ℕ) where
       x = said (one_list (bursts.sends t)) (list_words s)
 
       by : (b : Bool) → P (cond b (spoke (cond b x (said t []))) (reroute_stage (cond b x (said t [])).station now lent))
-      by true = f _ none (burst (list tt e))
+      by true = f _ None (burst (list tt e))
       by false =
           let h = reach_told A s in
           reroute_stage_lem t P (h.turn ∙ e) (h.list ∙ z) (λ y m k. f y m (led h k))
@@ -306,23 +302,23 @@ module _ (A : Allowed) (allowed : A.turns) (now : Float) (lent : List ℕ) where
       (λ _. list_stage_lem u P e z (λ x m k. f x m (led h k)))
 
   act_by_lem : (a : Act) (s : Station) (P : Decision → Type 0) → act_of s.round s.used now ≡ a → s.wait.turn ≡ Idle → Leads 124 s P → P (act_by a s now lent)
-  act_by_lem act.Wait s P q e f = f _ none (burst nothing)
-  act_by_lem act.Beacon s P q e f = f _ none (burst (beacon tt e))
-  act_by_lem act.Acks s P q e f = f _ none (burst (acks tt e))
+  act_by_lem act.Wait s P q e f = f _ None (burst nothing)
+  act_by_lem act.Beacon s P q e f = f _ None (burst (beacon tt e))
+  act_by_lem act.Acks s P q e f = f _ None (burst (acks tt e))
   act_by_lem act.Draw s P q e f = round_end_lem s P e (draws_none s.round s.used now q) f
-  act_by_lem act.Poll s P q e f = poll_stage_lem s P e (λ x b. f x none (burst b))
+  act_by_lem act.Poll s P q e f = poll_stage_lem s P e (λ x b. f x None (burst b))
 
   window_stage_lem : (s : Station) (P : Decision → Type 0) → s.wait.turn ≡ Idle → Leads 124 s P → P (window_stage s now lent)
   unfolding window_stage
   window_stage_lem s P e f =
       let t = brought_forward s now in
       let h = reach_brought_forward A s now in
-      cond_keeps P (lt now s.round.windowend) _ _ (λ _. f _ none (burst nothing))
+      cond_keeps P (lt now s.round.windowend) _ _ (λ _. f _ None (burst nothing))
       (λ _. act_by_lem (act_of t.round t.used now) t P refl (h.turn ∙ e) (λ x m k. f x m (led h k)))
 
   module _ (s : Station) where
     abbrev Says : Decision → Type 0
-    Says d = Spoken A F now lent 125 s (said d.station d.words) d.over d.drew none
+    Says d = Spoken A F now lent 125 s (said d.station d.words) d.over d.drew None
 
     by_due_lem : (d : Due) → Runs d s.wait.turn → Says (by_due d s now lent)
     unfolding close_stage again_stage missed_stage
@@ -346,14 +342,14 @@ module _ (A : Allowed) (allowed : A.turns) (now : Float) (lent : List ℕ) where
 module _ (A : Allowed) (allowed : A.turns) (now : Float) (lent : List ℕ) where
   module _ (n : ℕ) (a : Air) (ok : A.level a.level) where
     abbrev Ends : Station → Ended → Type 0
-    Ends s e = Spoken A ⊥ now lent n s (said_at e) none none e.over
+    Ends s e = Spoken A ⊥ now lent n s (said_at e) None None e.over
 
     idle_by_lem : (y : Turn) (slot : ℕ) (s : Station) → s.wait.turn ≡ y → Ends s (idle_by y slot s)
     idle_by_lem Idle slot s e = burst nothing
     idle_by_lem Sending slot s e = burst nothing
     idle_by_lem (Waiting r) slot s e =
         cond_keeps (Ends s) (eqb r.slot slot) _ _
-        (λ q. subst (λ (i : ℕ). Spoken A ⊥ now lent n s (said (turn_over_in (one_reply (with_wait s idle_wait)) i r.relayfor) []) none none (some i))
+        (λ q. subst (λ (i : ℕ). Spoken A ⊥ now lent n s (said (turn_over_in (one_reply (with_wait s idle_wait)) i r.relayfor) []) None None (Some i))
         (eqb-true r.slot slot q)
         (burst (idle r e))) (λ _. burst nothing)
 
@@ -389,7 +385,7 @@ module _ (A : Allowed) (allowed : A.turns) (now : Float) (lent : List ℕ) where
     reply_spoken h x = reply_by_lem x.station.wait.turn h x refl
 
   abbrev Heard : Station → words.Burst → Received → Type 0
-  Heard s b r = Spoken A ⊥ now lent (most_in b.frames) s (said r.station r.words) none none r.over
+  Heard s b r = Spoken A ⊥ now lent (most_in b.frames) s (said r.station r.words) None None r.over
 
   pub rx_spoken : A.cells → (s : Station) (b : words.Burst) (level : Float) (store : List ℕ) → A.level level → Heard s b (ncs_rx s b level now store)
   unfolding ncs_rx
@@ -412,7 +408,7 @@ module _ (A : Allowed) (allowed : A.turns) (now : Float) (lent : List ℕ) where
         boats = λ no. absurd (no cells);
       } in
       cond_keeps (Heard s b) (eqb b.head.code tiny) _ _
-      (λ _. cond_keeps (λ (e : Ended). Spoken A ⊥ now lent (most_in b.frames) s (said_at e) none none e.over) (eqb b.head.hi k_idle) _ _
+      (λ _. cond_keeps (λ (e : Ended). Spoken A ⊥ now lent (most_in b.frames) s (said_at e) None None e.over) (eqb b.head.hi k_idle) _ _
       (λ _. led h (idle_spoken (most_in b.frames) g ok b.head.extra u))
       (λ _. led h (burst nothing)))
       (λ _. led h (events {n = 0} {j = most_in b.frames} (omega arith) v (frames_events A.cells g cells b.frames 0 x Events.none)

@@ -1,5 +1,6 @@
 -- The definitions run over a sign-off: a boat hands over number 0, signs off, and the next holder of its slot hands over its own number 0. And a piece of a former
 -- stay is not to arrive: `former` breaks that premise alone, and the promise is refuted. By computation; assumes nothing.
+use Rattle.std.specs.Prelude.{Some}
 use mathlib.Core.Path.{◌≡◌, refl, sym, ap, subst}
 use mathlib.Core.Bool.{cond, true, false}
 use mathlib.Core.List.{List, [], ◌∷◌, ◌++◌}
@@ -12,7 +13,6 @@ use Rattle.bits.specs.Mask.{has_bit, with_bit, without_bit, lowest_free}
 use Rattle.bits.specs.Stop.{stop}
 use Rattle.bits.proofs.Lists.{cond_keeps, never_both}
 use Rattle.level.specs.declared.Level.TheVariants.{Unheard}
-use Rattle.level.specs.declared.Clock.TheVariants.{At}
 use Rattle.wire.specs.Call.{digit, char, trim_start, trim_end, unpacked, pack_call}
 use Rattle.wire.specs.Numbers.{widened, widened_at}
 use Rattle.words.specs.Words.{heard, word_ok, payload_ok, unpack, payload, frame_of, item_at, frames_of, head_ok, parse}
@@ -152,7 +152,7 @@ three_silent = (refl, refl)
 
 -- its own turn ends with no deadline, and one that relays for it goes on with no source
 abbrev asked : ℕ → ℕ → Wait
-asked slot source = wait_of (Waiting (record { slot = slot; relayfor = source; tries = 1; turnbursts = 2 })) (At zero_time)
+asked slot source = wait_of (Waiting (record { slot = slot; relayfor = source; tries = 1; turnbursts = 2 })) (Some zero_time)
 
 pub turn_ends : strike_wait 5 (asked 5 9) ≡ idle_wait
 turn_ends = refl

@@ -1,7 +1,7 @@
 -- The invariant that ties the station's cells, store and windows to the book, and what a cell that is written anew leaves of it. Assumes nothing.
+use Rattle.std.specs.Prelude.{Option, Some, None}
 use mathlib.Core.Path.{◌≡◌, refl, sym, ap, ◌∙◌, subst}
 use mathlib.Core.Bool.{Bool, true, false, cond}
-use mathlib.Core.Option.{Option, none, some}
 use mathlib.Core.List.{List, []}
 use mathlib.Core.Logic.{⊎_elim}
 use Prim.Native.Nat.{ℕ, ◌+◌, ◌/◌, ◌%◌, ◌^◌, ◌≤◌, ◌<◌}
@@ -66,9 +66,9 @@ FineAt M l (Whole s k) h = M.watched s ≡ true → body_of h.bytes ≡ M.text s
 
 -- but that it is in use: it was entered with the eight bits of the number that its event has
 abbrev pub entry_of : Sent → Use → Option Message
-entry_of M Vacant = none
-entry_of M (Comes s k) = none
-entry_of M (Whole s k) = some (record { slot = s; number = cond (M.watched s) k (k % 256) })
+entry_of M Vacant = None
+entry_of M (Comes s k) = None
+entry_of M (Whole s k) = Some (record { slot = s; number = cond (M.watched s) k (k % 256) })
 
 pub record Tie (M : Sent) (v : View) (l : Ledger) (e : ℕ → Option Message) : Type 0 where
   pub tidy : Tidy v.table v.store
@@ -143,7 +143,7 @@ pub record Aim (M : Sent) (v : View) (l : Ledger) (s k c : ℕ) (x : Cell) : Typ
   pub inv : Inv (part_of (M.text s k)) (Cov (l.covered s k)) (held x (cell_of v.store c))
   pub others : (d : ℕ) → (d ≡ c → ⊥) → use_at v.table d ≡ Comes s k → ⊥
   pub here : (a b : ℕ) → use_at v.table c ≡ Comes a b → (s ≡ a) × (k ≡ b)
-  pub unlanded : entry_of M (use_at v.table c) ≡ none
+  pub unlanded : entry_of M (use_at v.table c) ≡ None
 
 module _ (M : Sent) (v : View) (l : Ledger) (e : ℕ → Option Message) (tie : Tie M v l e)
     (s k : ℕ) (on : M.watched s ≡ true) (low : k < 2 ^ 32) where

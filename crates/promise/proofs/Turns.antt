@@ -1,9 +1,9 @@
 -- Item 3 of document 01, lists and turns: every call is accepted by the monitor, so the promise holds of every list of calls. Assumes nothing.
+use Rattle.std.specs.Prelude.{None}
 use mathlib.Core.Path.{◌≡◌, refl, sym, ap, ◌∙◌, subst}
 use Prim.Native.Nat.{ℕ, ◌/◌, ◌+◌}
 use mathlib.Core.Bool.{Bool, true, false, cond}
 use mathlib.Core.List.{List, [], ◌∷◌, ◌++◌, append_assoc, append-nil}
-use mathlib.Core.Option.{none}
 use lib.Dec.{eqb}
 use lib.Ieee.{Float}
 use lib.ListN.{length}
@@ -106,14 +106,14 @@ module _ (r : Run) (n : Net) (e : Rel r n.station.wait.turn) (l : Low n.station.
       (subst (λ (m : ℕ). Fine (slots_in m) r t []) c.list (fine_none r t (subst (λ y. Rel r y.turn) (sym c.wait) e) (subst Low (sym c.list) l))) same
 
   receive_by_lem : (b : Parsed Burst) (n : ℕ) (snr now : Float) (store : List ℕ)
-      → Fine left r (unless n s store (receive_by b s snr now store)).station (said (unless n s store (receive_by b s snr now store)) [] (over_if (of_burst b none (λ b. (ncs_rx s b snr now store).over))))
+      → Fine left r (unless n s store (receive_by b s snr now store)).station (said (unless n s store (receive_by b s snr now store)) [] (over_if (of_burst b None (λ b. (ncs_rx s b snr now store).over))))
   receive_by_lem malformed n snr now store = fine_unless left r n s store (refused 3 s store) [] [] same same
   receive_by_lem (parsed b) n snr now store =
       fine_unless left r n s store (receive_by (parsed b) s snr now store) [] (over_if (ncs_rx s b snr now store).over)
       (spoken_fine (rx_spoken all tt now [] tt s b snr store tt) r e l) same
 
   fine_receive : (words : List ℕ) (snr now : Float) (store : List ℕ) (room : ℕ)
-      → Fine left r (receive_of s words snr now store room).station (said (receive_of s words snr now store room) [] (over_if (of_burst (parse words) none (λ b. (ncs_rx s b snr now store).over))))
+      → Fine left r (receive_of s words snr now store room).station (said (receive_of s words snr now store room) [] (over_if (of_burst (parse words) None (λ b. (ncs_rx s b snr now store).over))))
   unfolding receive_of
   fine_receive words snr now store room = receive_by_lem (parse words) (receive_refusal room (length store) s.count now snr (parse words)) snr now store
 

@@ -1,4 +1,5 @@
 -- The slots of a list that is kept as a mask: each once, the front one taken off. Assumes nothing.
+use Rattle.std.specs.Prelude.{Some}
 use mathlib.Core.Path.{◌≡◌, refl, sym, ap, ◌∙◌, subst}
 use mathlib.Core.Logic.{inl, inr, ⊎_elim}
 use Prim.Native.Nat.{ℕ, zero, suc, ◌+◌, ◌≤◌, ◌<◌}
@@ -7,7 +8,6 @@ use mathlib.Core.Bool.{Bool, true, false, cond}
 use mathlib.Core.List.{List, [], ◌∷◌}
 use Rattle.bits.specs.Loop.{first}
 use Rattle.bits.specs.Mask.{has_bit, without_bit, lowest_bit, slots_of}
-use Rattle.bits.specs.declared.Found.TheVariants as found
 use Rattle.bits.proofs.Lists.{never_both, eq_or_not, lt_or_le}
 use Rattle.bits.proofs.Laws.{has_none, without_same, without_other}
 use Rattle.bits.proofs.Loops.{first_at, first_found, first_before}
@@ -56,7 +56,7 @@ unfolding slots_of
 slots_none m zero i f = refl
 slots_none m (suc n) i f = rw (f i (omega arith) (omega arith)) (slots_none m n (suc i) (λ j h l. f j (omega arith) (omega arith)))
 
-slots_front : (m n i s : ℕ) → first (has_bit m) n i ≡ found.At s → slots_of m n i ≡ s ∷ slots_of (without_bit m s) n i
+slots_front : (m n i s : ℕ) → first (has_bit m) n i ≡ Some s → slots_of m n i ≡ s ∷ slots_of (without_bit m s) n i
 unfolding slots_of first
 slots_front m zero i s e = let z : ◌≡◌ {A = ℕ} 0 1 = cc in absurd (omega arith)
 slots_front m (suc n) i s e = go (has_bit m i) refl e (slots_front m n (suc i) s)
@@ -67,7 +67,7 @@ slots_front m (suc n) i s e = go (has_bit m i) refl e (slots_front m n (suc i) s
     u : List ℕ
     u = slots_of (without_bit m s) n (suc i)
 
-    go : (b : Bool) → has_bit m i ≡ b → cond b (found.At i) (first (has_bit m) n (suc i)) ≡ found.At s → (first (has_bit m) n (suc i) ≡ found.At s → l ≡ s ∷ u)
+    go : (b : Bool) → has_bit m i ≡ b → cond b (Some i) (first (has_bit m) n (suc i)) ≡ Some s → (first (has_bit m) n (suc i) ≡ Some s → l ≡ s ∷ u)
         → cond b (i ∷ l) l ≡ s ∷ cond (has_bit (without_bit m s) i) (i ∷ u) u
     go true q e ih =
         let d : i ≡ s = cc in
@@ -80,11 +80,11 @@ slots_front m (suc n) i s e = go (has_bit m i) refl e (slots_front m n (suc i) s
 
 -- the front of the list
 module _ (m : ℕ) (low : Low m) where
-  pub front_low : (s : ℕ) → lowest_bit m ≡ found.At s → s < 62
+  pub front_low : (s : ℕ) → lowest_bit m ≡ Some s → s < 62
   unfolding lowest_bit
   front_low s e = ⊎_elim (λ l. l) (λ g. absurd (never_both (has_bit m s) (first_found (has_bit m) 64 0 s e).1 (low s g))) (lt_or_le s 62)
 
-  pub front_off : (s : ℕ) → lowest_bit m ≡ found.At s → slots_in m ≡ s ∷ slots_in (without_bit m s)
+  pub front_off : (s : ℕ) → lowest_bit m ≡ Some s → slots_in m ≡ s ∷ slots_in (without_bit m s)
   unfolding lowest_bit
   front_off s e =
       slots_front m 62 0 s

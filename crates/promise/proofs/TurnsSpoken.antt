@@ -1,15 +1,13 @@
 -- Decisions and receptions beside the monitor: what they say is accepted, and what they leave goes with the monitor's turn. Assumes nothing.
+use Rattle.std.specs.Prelude.{Option, Some, None}
 use mathlib.Core.Path.{◌≡◌, refl, sym, subst}
 use Prim.Native.Nat.{ℕ, suc, ◌+◌, ◌≤◌, ◌<◌}
 use native.Mathlib.Omega.{arith}
 use mathlib.Core.Bool.{true, false}
 use mathlib.Core.List.{List, [], ◌∷◌, ◌++◌}
-use mathlib.Core.Option.{Option, some}
 use lib.Ieee.{Float}
 use Rattle.bits.specs.Mask.{lowest_bit}
-use Rattle.bits.specs.declared.Found.TheVariants as found
 use Rattle.bits.proofs.Lists.{cond_keeps}
-use Rattle.level.specs.declared.Clock.TheVariants.{Never}
 use Rattle.wire.specs.Kinds.{c_acks, c_tree, c_rxlist}
 use Rattle.out.specs.Encode.{ctrl_words, chunk_words}
 use Rattle.net.specs.declared.Station.{Station}
@@ -97,7 +95,7 @@ word_other s lent slot =
     (reach_lt s.settings s.used (member_in s slot) (member_at s (member_in s slot).via))
 
 -- a turn begins
-fine_poll : (s : Station) (slot : ℕ) (r : Run) → lowest_bit s.round.list ≡ found.At slot → Rel r Idle → Low s.round.list
+fine_poll : (s : Station) (slot : ℕ) (r : Run) → lowest_bit s.round.list ≡ Some slot → Rel r Idle → Low s.round.list
     → Fine (slots_in s.round.list) r (poll_of slot (source_for s slot) s).station (bursts_in (poll_of slot (source_for s slot) s).words ++ [])
 fine_poll s slot (turn x p a) e t l = absurd t
 fine_poll s slot rest e t l =
@@ -147,7 +145,7 @@ fine_ack : (q : Reply) (n heard : ℕ) (s : Station) (r : Run) → Rel r (Waitin
     → Fine (slots_in s.round.list) r (answer_by false q n heard s).station (bursts_in (answer_by false q n heard s).burst ++ (over q.slot ∷ []))
 fine_ack q n heard s rest e l = absurd e
 fine_ack q n heard s (turn x p a) e l =
-    let o = over_alike (with_wait s (wait_of Sending Never)) q.slot q.relayfor in
+    let o = over_alike (with_wait s (wait_of Sending None)) q.slot q.relayfor in
     record {
       run = rest;
       rel = subst (λ y. Rel rest y.turn) (sym o.0) tt;
@@ -176,13 +174,13 @@ unfolding list_for
 low_list s number i h = mask_past _ i h
 
 -- a list is drawn up where none is left of the last
-fine_drawn : {t : Station} {es : List TurnEvent} (l m : ℕ) → l ≡ 0 → Fine (slots_in m) rest t es → Fine (slots_in l) rest t (drew_if (some m) ++ es)
+fine_drawn : {t : Station} {es : List TurnEvent} (l m : ℕ) → l ≡ 0 → Fine (slots_in m) rest t es → Fine (slots_in l) rest t (drew_if (Some m) ++ es)
 fine_drawn {t} {es} l m z f =
     record {
       run = f.run;
       rel = f.rel;
       low = f.low;
-      keeps = λ k h. subst (λ (v : List ℕ). Acc v rest ((drew_if (some m) ++ es) ++ k)) (sym (list_none l z)) (list_once m, f.keeps k h);
+      keeps = λ k h. subst (λ (v : List ℕ). Acc v rest ((drew_if (Some m) ++ es) ++ k)) (sym (list_none l z)) (list_once m, f.keeps k h);
     }
 
 -- ### All that is said

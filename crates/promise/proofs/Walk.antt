@@ -1,6 +1,7 @@
 -- What the definitions change of a station, taken apart into single changes, each with what is known where it is made; and chains of them. Every call is such a
 -- chain (WalkNext, WalkRx, WalkCalls): what each single change keeps, any calls keep. WalkRoster has the shorter forms for the roster and for every member. Assumes
 -- nothing.
+use Rattle.std.specs.Prelude.{Some, is_some}
 use mathlib.Core.Path.{◌≡◌, refl, ◌∙◌, subst}
 use mathlib.Core.Logic.{◌⊎◌, ⊎_elim}
 use mathlib.Core.Bool.{true, false, not, ◌||◌}
@@ -10,16 +11,14 @@ use lib.Dec.{eqb}
 use lib.Ieee.{Float}
 use lib.ListN.{get_or, set}
 use Rattle.bits.specs.Mask.{has_bit, with_bit, without_bit, lowest_bit}
-use Rattle.bits.specs.declared.Found.TheVariants as found
 use Rattle.bits.proofs.Lists.{cond_keeps, cases, eq_or_not, never_both}
 use Rattle.bits.proofs.Laws.{has_none, with_other, without_same, without_other}
 use Rattle.bits.proofs.Loops.{first_found}
 use Rattle.level.specs.declared.Level.{Level}
 use Rattle.level.specs.declared.Level.TheVariants.{Decibels}
-use Rattle.level.specs.declared.Clock.TheVariants.{At}
 use Rattle.wire.specs.Fields.{snr_from_q}
 use Rattle.stream.specs.Window.{bitmap_of}
-use Rattle.stream.specs.Table.{Accepted, accept, freed_table, has_landed}
+use Rattle.stream.specs.Table.{Accepted, accept, freed_table}
 use Rattle.recent.specs.declared.Recent.{Recent}
 use Rattle.roster.specs.declared.Member.{Member}
 use Rattle.roster.specs.Members.{new_member, with_links, with_missed, with_burst, with_mark, known_caps, known_version, with_heard, with_down, with_direct, received_at, promoted_at, rerouted_to, landed_one, barred_one, told_now}
@@ -59,7 +58,7 @@ pub data Field (A : Allowed) (m : Member) : Member → Type 0 where
   down : (q : ℕ) → Field A m (with_down m (snr_from_q q))
   received : (x : Float) (l : Level) (now : Float) → A.level x → Field A m (received_at m x l now)
   direct : (x : Float) → A.level x → Field A m (with_direct m x)
-  reached : (q : ℕ) (now : Float) → Field A m (with_links m (snr_from_q q) m.snrdown m.direct (At now))
+  reached : (q : ℕ) (now : Float) → Field A m (with_links m (snr_from_q q) m.snrdown m.direct (Some now))
 
 -- any number of them
 pub data Fields (A : Allowed) (m : Member) : Member → Type 0 where
@@ -132,7 +131,7 @@ pub data Turned (s : Station) : Turn → ℕ → Type 0 where
   still : Turned s s.wait.turn s.round.list
   ends : Turned s Idle s.round.list
   sends : Turned s Sending s.round.list
-  polls : (slot : ℕ) → lowest_bit s.round.list ≡ found.At slot
+  polls : (slot : ℕ) → lowest_bit s.round.list ≡ Some slot
       → Turned s (Waiting (record { slot = slot; relayfor = source_for s slot; tries = 0; turnbursts = 0 })) (without_bit s.round.list slot)
   goes : (r : Reply) (tries bursts : ℕ) → s.wait.turn ≡ Waiting r
       → Turned s (Waiting (record { slot = r.slot; relayfor = r.relayfor; tries = tries; turnbursts = bursts })) s.round.list
@@ -142,7 +141,7 @@ pub data Turned (s : Station) : Turn → ℕ → Type 0 where
 pub without_false : (m i j : ℕ) → has_bit m i ≡ false → has_bit (without_bit m j) i ≡ false
 without_false m i j f = ⊎_elim (λ e. subst (λ (y : ℕ). has_bit (without_bit m j) y ≡ false) e (without_same m j)) (λ z. without_other m j i z ∙ f) (eq_or_not j i)
 
-pub lowest_in : (m slot : ℕ) → lowest_bit m ≡ found.At slot → has_bit m slot ≡ true
+pub lowest_in : (m slot : ℕ) → lowest_bit m ≡ Some slot → has_bit m slot ≡ true
 unfolding lowest_bit
 lowest_in m slot e = (first_found (has_bit m) 64 0 slot e).1
 
@@ -209,10 +208,10 @@ pub data Change (A : Allowed) (s : Station) : Station → Type 0 where
       → Change A s (with_queues s (set s.queues i (posted_to (get_or s.queues i empty_queue) (n + 2))))
   -- a boat's piece is kept; a message lands with it; a cell is freed
   piece : A.cells → (store : List ℕ) (slot field : ℕ) (p : List ℕ) (m : Member) → is_member s.used slot ≡ true → Fields A (member_at s slot) m
-      → (offered s store slot field p).lost ≡ false → has_landed (offered s store slot field p).landed ≡ false
+      → (offered s store slot field p).lost ≡ false → is_some (offered s store slot field p).landed ≡ false
       → Change A s (with_member (with_table s (offered s store slot field p).table) slot m)
   landed : A.cells → (store : List ℕ) (slot field : ℕ) (p : List ℕ) (m : Member) → is_member s.used slot ≡ true → Fields A (member_at s slot) m
-      → (offered s store slot field p).lost ≡ false → has_landed (offered s store slot field p).landed ≡ true
+      → (offered s store slot field p).lost ≡ false → is_some (offered s store slot field p).landed ≡ true
       → Change A s (with_member (with_table s (offered s store slot field p).table) slot (landed_one m (offered s store slot field p).number (size_of (offered s store slot field p).landed)))
   freed : A.cells → (cell : ℕ) → Change A s (with_table s (freed_table (table_of s) cell))
   -- a boat's piece claims too much: its number is barred, and its message's cell is free

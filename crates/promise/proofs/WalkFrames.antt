@@ -1,5 +1,6 @@
 -- What reading a frame comes to, of cells, store, windows and events 2: it leaves them alone, or a boat's piece is offered to its cell, and is kept, or not, or its number
 -- is barred. A property of these is proved by these four clauses, and holds then of every frame and of every reception. Assumes nothing.
+use Rattle.std.specs.Prelude.{is_some}
 use mathlib.Core.Path.{◌≡◌, refl, ap, ◌∙◌, subst}
 use mathlib.Core.Bool.{Bool, true, false, cond, ◌&&◌}
 use mathlib.Core.List.{List, [], ◌∷◌, ◌++◌}
@@ -14,7 +15,7 @@ use Rattle.wire.specs.Kinds.{tiny, k_idle, t_up, t_ctrl}
 use Rattle.words.specs.Words.{Heard, lost, heard, Burst, parsed}
 use Rattle.stream.specs.declared.window.Window.{Window}
 use Rattle.stream.specs.Window.{fresh_of}
-use Rattle.stream.specs.Table.{Table, Accepted, accept, has_landed}
+use Rattle.stream.specs.Table.{Table, Accepted, accept}
 use Rattle.stream.proofs.Tables.{Tidy, place_in}
 use Rattle.stream.proofs.Accepts.{accept_cases}
 use Rattle.net.specs.declared.Station.{Station}
@@ -67,9 +68,9 @@ pub data FrameRead (x y : Reading) : Heard → Type 0 where
 
 -- a landed message's cell is one of 64
 landed_fit : (t : Table) (w : Window) (store : List ℕ) (slot field : ℕ) (p : List ℕ) → Tidy t store
-    → has_landed (accept t w store slot field p).landed ≡ true → (accept t w store slot field p).cell < 64
+    → is_some (accept t w store slot field p).landed ≡ true → (accept t w store slot field p).cell < 64
 landed_fit t w store slot field p tidy =
-    accept_cases t w store slot field p (λ x. has_landed x.landed ≡ true → x.cell < 64)
+    accept_cases t w store slot field p (λ x. is_some x.landed ≡ true → x.cell < 64)
     (λ e h. omega arith) (λ k e g h. omega arith) (λ k o a q c z h. (place_in t store tidy slot k).0) (λ k o q h. (place_in t store tidy slot k).0) (λ k o q h. (place_in t store tidy slot k).0)
 
 module _ (a : Air) (x : Reading) (tidy : Tidy (table_of x.station) x.store) (long : length x.station.members ≡ 62) where
@@ -81,7 +82,7 @@ module _ (a : Air) (x : Reading) (tidy : Tidy (table_of x.station) x.store) (lon
     window_here : window_at x.station (flags % 64) ≡ (member_at x.station (flags % 64)).up
     window_here = cond_true (is_member x.station.used (flags % 64)) (member_at x.station (flags % 64)).up fresh_of here
 
-    kept_seen : (r : Accepted) → (has_landed r.landed ≡ true → r.cell < 64)
+    kept_seen : (r : Accepted) → (is_some r.landed ≡ true → r.cell < 64)
         → Seen x (kept_piece a (flags % 64) r x) (view_after (view_in x) (flags % 64) r) (also_one (event_for (flags % 64) r) []) x.unkept
     kept_seen r fit =
         record {

@@ -1,4 +1,5 @@
 -- Chains of single changes at a slot, and those of rerouting and of a received list. Assumes nothing.
+use Rattle.std.specs.Prelude.{Option, Some, None}
 use mathlib.Core.Path.{◌≡◌, refl, sym, ap, ◌∙◌, subst}
 use mathlib.Core.Logic.{inl, inr, ⊎_elim}
 use Prim.Native.Nat.{ℕ, zero, suc, ◌<◌}
@@ -11,13 +12,10 @@ use lib.Seq.{set-get_or}
 use lib.Ieee.{Float, le}
 use borrow.Author.Tests.{eqb-false}
 use Rattle.bits.specs.Mask.{has_bit, with_bit, without_bit, lowest_bit}
-use Rattle.bits.specs.declared.Found.{Found}
-use Rattle.bits.specs.declared.Found.TheVariants as found
 use Rattle.bits.proofs.Lists.{cond_keeps, and_true, never_both, eq_or_not}
 use Rattle.bits.proofs.Laws.{has_none, has_both, with_other}
 use Rattle.bits.proofs.Loops.{fold_keeps_below}
 use Rattle.level.specs.declared.Level.{Level}
-use Rattle.level.specs.declared.Clock.TheVariants.{At}
 use Rattle.level.specs.declared.Level.TheVariants.{Unheard, Decibels}
 use Rattle.recent.specs.declared.Recent.{Recent}
 use Rattle.recent.specs.Readings.{empty}
@@ -64,9 +62,9 @@ unfolding beyond
 beyond_in zero m i h = h
 beyond_in (suc k) m i h = by (lowest_bit m) (beyond_in k (without_found (lowest_bit m) m) i h)
   where
-    by : (f : Found) → has_bit (without_found f m) i ≡ true → has_bit m i ≡ true
-    by (found.At j) e = (without_in m j i e).0
-    by found.Nothing e = e
+    by : (f : Option ℕ) → has_bit (without_found f m) i ≡ true → has_bit m i ≡ true
+    by (Some j) e = (without_in m j i e).0
+    by None e = e
 
 pub fewer : (s : Station) → Within s s.round.toack (beyond 9 (acked s))
 fewer s i h =

@@ -1,5 +1,6 @@
 -- Admission, the frames of a reception and what its end hears are chains of single changes: those of a control frame and of the end leave the messages alone.
 -- Assumes nothing.
+use Rattle.std.specs.Prelude.{is_some}
 use mathlib.Core.Path.{◌≡◌, refl, sym, ap, ◌∙◌}
 use mathlib.Core.Logic.{inl, inr, ⊎_elim}
 use Prim.Native.Nat.{ℕ, zero, suc, ◌+◌, ◌/◌, ◌%◌, ◌<◌}
@@ -16,7 +17,6 @@ use Rattle.bits.proofs.Laws.{with_same, with_other}
 use Rattle.wire.specs.Fields.{snr_from_q}
 use Rattle.words.specs.declared.Head.{Head}
 use Rattle.words.specs.Words.{Heard, lost, heard}
-use Rattle.stream.specs.Table.{has_landed}
 use Rattle.recent.specs.Readings.{empty}
 use Rattle.roster.specs.declared.Member.{Member}
 use Rattle.roster.specs.Members.{with_caps, with_version, received_at, is_willing}
@@ -256,8 +256,8 @@ module _ (A : Allowed) where
           (λ here. cond_keeps Reads r.lost _ (kept_piece a slot r x)
           (λ _. cond_keeps (λ (y : Reading). Reads (unkept_at y)) r.bars (barred_piece slot r x) x (λ b. more k (barred cells x.store slot field p here b)) (λ _. k))
           (λ l.
-          relay_walk (is_relayed a s slot r) _ (traffic_walk (has_landed r.landed) _
-          (cond_keeps (λ (y : Member). Chain A s₀ (with_member (with_table s r.table) slot y)) (has_landed r.landed) _ m
+          relay_walk (is_relayed a s slot r) _ (traffic_walk (is_some r.landed) _
+          (cond_keeps (λ (y : Member). Chain A s₀ (with_member (with_table s r.table) slot y)) (is_some r.landed) _ m
           (λ d. more k (landed cells x.store slot field p m here (heard_fields (member_at s slot) slot) l d))
           (λ d. more k (piece cells x.store slot field p m here (heard_fields (member_at s slot) slot) l d))))))
           (λ _. k)

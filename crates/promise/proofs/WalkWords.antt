@@ -1,4 +1,5 @@
 -- The words that rerouting, admission and the frames of a reception return are events alone, and how many they are at most. Assumes nothing.
+use Rattle.std.specs.Prelude.{is_some}
 use mathlib.Core.Path.{◌≡◌, refl, sym, subst}
 use Prim.Native.Nat.{ℕ, zero, suc, ◌+◌, ◌-◌, ◌*◌, ◌/◌, ◌%◌, ◌≤◌, ◌<◌}
 use native.Mathlib.Omega.{arith}
@@ -15,7 +16,6 @@ use Rattle.level.specs.declared.Level.{Level}
 use Rattle.level.specs.declared.Level.TheVariants.{Unheard, Decibels}
 use Rattle.words.specs.Words.{Heard, lost, heard}
 use Rattle.out.specs.Encode.{event_word, message_word, missed_word}
-use Rattle.stream.specs.Table.{has_landed}
 use Rattle.roster.specs.Relays.{promotable_at}
 use Rattle.net.specs.declared.Station.{Station}
 use Rattle.net.specs.Net.{is_member, Said, said}
@@ -179,7 +179,7 @@ module _ (M : Type 0) where
           (cond_keeps (Reads k) (is_member s.used slot) _ x
           (λ _. cond_keeps (Reads k) r.lost _ (kept_piece a slot r x)
           (λ _. cond_keeps (λ (y : Reading). Reads k (unkept_at y)) r.bars _ x (λ _. same) (λ _. same))
-          (λ _. events_less (omega arith) (events_both h (piece_one (has_landed r.landed) (is_relayed a s slot r) slot a.polled r.cell r.number))))
+          (λ _. events_less (omega arith) (events_both h (piece_one (is_some r.landed) (is_relayed a s slot r) slot a.polled r.cell r.number))))
           (λ _. same))
           (control_cases (Reads k) a x same slot (get_or p 0 0) (length p) p
           (events_less (omega arith) (events_both h (checkin_events (length p) p s)))

@@ -2,8 +2,7 @@
 -- In order: turn events, the calls, relay links, lists and turns, the book, the premises, what is promised of messages, and the promise. With U3 of document 02
 -- a boat may sign off: 'what is promised about messages and turns is per stay'.
 -- A later request adds its call to `Call`, and a line for it to `result` and `in_book`, which stand next to it.
-use Rattle.std.specs.Prelude.{ℕ, zero, suc, ◌+◌, ◌/◌, ◌%◌, ◌≤◌, ◌<◌, ◌≡◌, Bool, true, false, not, cond, ◌&&◌, ◌||◌, List, [], ◌∷◌, ◌++◌, T, leb, ltb, eqb, length, get_or, Float}
-use Rattle.std.proofs.Math.Option.{Option, none, some}
+use Rattle.std.specs.Prelude.{ℕ, zero, suc, ◌+◌, ◌/◌, ◌%◌, ◌≤◌, ◌<◌, ◌≡◌, Bool, true, false, not, cond, ◌&&◌, ◌||◌, List, [], ◌∷◌, ◌++◌, T, leb, ltb, eqb, length, get_or, Float, Option, Some, None}
 use Rattle.bits.specs.Mask.{has_bit, slots_of}
 use Rattle.wire.specs.Kinds.{tiny, k_poll, k_pollack, k_ack, k_relay, t_up}
 use Rattle.words.specs.Words.{Heard, lost, heard, Burst, Parsed, malformed, parsed, parse, head_of}
@@ -32,13 +31,13 @@ pub data TurnEvent : Type 0 where
 
 -- the waiting that a decision or a reception says has ended, if one has
 abbrev pub over_if : Option ℕ → List TurnEvent
-over_if none = []
-over_if (some s) = over s ∷ []
+over_if None = []
+over_if (Some s) = over s ∷ []
 
 -- the list that a decision says is drawn up, a mask of slots, if one is
 abbrev pub drew_if : Option ℕ → List TurnEvent
-drew_if none = []
-drew_if (some list) = drew (slots_of list 62 0) ∷ []
+drew_if None = []
+drew_if (Some list) = drew (slots_of list 62 0) ∷ []
 
 -- ---- the calls, and the definitions of the entry points run over a list of them
 
@@ -110,7 +109,7 @@ result (admission packed relay now room) n = plain n (admit_of n.station packed 
 result (reception words snr now lent room numbers) n =
     let o = receive_of n.station words snr now (lent_to lent n.store) room in
     let r : Burst → Received = λ b. ncs_rx n.station b snr now (lent_to lent n.store) in
-    record { outcome = o; store = o.store; seen = of_burst (parse words) [] (λ b. (r b).seen); before = []; behind = over_if (of_burst (parse words) none (λ b. (r b).over)) }
+    record { outcome = o; store = o.store; seen = of_burst (parse words) [] (λ b. (r b).seen); before = []; behind = over_if (of_burst (parse words) None (λ b. (r b).over)) }
 result (decision now queue room) n =
     let d = ncs_next n.station now queue in
     record { outcome = next_of n.station now queue room; store = n.store; seen = []; before = over_if d.over ++ drew_if d.drew; behind = [] }
@@ -307,7 +306,7 @@ sent_now M b = record { watched = λ s. M.watched s (b.stay s); text = λ s k. M
 
 -- 'All is empty at the start.'
 abbrev pub empty_book : Book
-empty_book = record { ledger = record { covered = λ s k i. false; handed = λ s k. false }; entry = λ c. none; stay = λ s. 0 }
+empty_book = record { ledger = record { covered = λ s k i. false; handed = λ s k. false }; entry = λ c. None; stay = λ s. 0 }
 
 -- what a piece or a call comes to: the ledger or the book that is left, and the messages handed over with it, in order
 pub record Entered (A : Type 0) : Type 0 where
@@ -401,7 +400,7 @@ abbrev pub enter_all : List Event2 → List Message → (ℕ → Option Message)
 enter_all [] [] f = f
 enter_all [] (m ∷ ms) f = f
 enter_all (e ∷ es) [] f = f
-enter_all (e ∷ es) (m ∷ ms) f = enter_all es ms (enter e.cell (some m) f)
+enter_all (e ∷ es) (m ∷ ms) f = enter_all es ms (enter e.cell (Some m) f)
 
 -- the messages that events 2 name, in order: an event of a watched boat the next one that is handed over, and any other what it says itself, so that the book has
 -- its cell in use
@@ -425,8 +424,8 @@ answers_of c n =
 
 -- 'signing off empties what item 3's book holds for the slot and for the cells freed' (U3): the entries of the slot's messages, and what is noted of them
 abbrev pub strike_entry : ℕ → Option Message → Option Message
-strike_entry slot none = none
-strike_entry slot (some m) = cond (eqb slot m.slot) none (some m)
+strike_entry slot None = None
+strike_entry slot (Some m) = cond (eqb slot m.slot) None (Some m)
 
 unfoldable pub book_ends : ℕ → Book → Book
 book_ends slot b =
@@ -442,7 +441,7 @@ book_done M (brings words numbers lent) a b =
     let r = book_frames M (frames_by (parse words)) 0 numbers a.seen a.mask b.ledger in
     record { left = record { ledger = r.left; entry = enter_all a.events (named M.watched a.events r.out) b.entry; stay = b.stay }; out = r.out }
 book_done M (reads cell lent) a b = unchanged b
-book_done M (frees cell) a b = unchanged (record { ledger = b.ledger; entry = enter cell none b.entry; stay = b.stay })
+book_done M (frees cell) a b = unchanged (record { ledger = b.ledger; entry = enter cell None b.entry; stay = b.stay })
 book_done M (ends slot) a b = unchanged (book_ends slot b)
 book_done M changes_nothing a b = unchanged b
 
@@ -503,7 +502,7 @@ Pairs count [] [] f = Unit {0}
 Pairs count [] (m ∷ ms) f = ⊥
 Pairs count (e ∷ es) [] f = ⊥
 Pairs count (e ∷ es) (m ∷ ms) f =
-    (e.slot ≡ m.slot) × (e.number ≡ m.number % 256) × (e.cell < count) × (f e.cell ≡ none) × Pairs count es ms (enter e.cell (some m) f)
+    (e.slot ≡ m.slot) × (e.number ≡ m.number % 256) × (e.cell < count) × (f e.cell ≡ None) × Pairs count es ms (enter e.cell (Some m) f)
 
 -- 'of two alike the lower number with the earlier event': of one slot and equal mod 256, it comes first
 abbrev pub Later : Message → List Message → Type 0
@@ -530,8 +529,8 @@ pub record Paired (watched : ℕ → Bool) (count : ℕ) (es : List Event2) (ms 
 
 -- 'A reading of the store handed on .. gives exactly the n bytes of the message entered there, or 22 if none is.' Of a boat that is not watched it gives some bytes
 abbrev pub ReadsAs : Sent → Option Message → Net → ℕ → Type 0
-ReadsAs M none n cell = read_refusal (length n.store) n.station.count n.station.landed cell ≡ 22
-ReadsAs M (some m) n cell =
+ReadsAs M None n cell = read_refusal (length n.store) n.station.count n.station.landed cell ≡ 22
+ReadsAs M (Some m) n cell =
     (read_refusal (length n.store) n.station.count n.station.landed cell ≡ 0)
     × (M.watched m.slot ≡ true → reading_of n.station n.store cell ≡ M.text m.slot m.number)
 

@@ -4,7 +4,7 @@
 
 ghost use Rattle.std.specs.Prelude.{◌≡◌, ◌++◌, ◌+◌, ◌-◌, ◌≤◌, ◌<◌, length, get_or, replicate};
 ghost use Rattle.inbox.specs.Messages.{framed};
-ghost use Rattle.queue.specs.Queues.{empty_queue, least_of, most_of, first_of, is_due, sent_in, reported_to, posted_to, space_refusal, place_of, byte_at, bytes_from, put_bytes};
+ghost use Rattle.queue.specs.Queues.{empty_queue, first_of, is_due, sent_in, reported_to, posted_to, space_refusal, place_of, byte_at, bytes_from, put_bytes};
 
 // posted: the bytes posted in all, kept: the first of them that the queue keeps, reported: the highest number that the boat reported. round: the
 // round in which it was last sent to, where `sent`.
@@ -33,13 +33,11 @@ pub fn empty() -> Queue
 // ---- sending
 
 // The byte that sending begins at: the first one not reported, or the first one kept where that is greater.
+#[tactic(auto, using(std::proofs::lemmas::Bool::Decides::nat_tests))]
 pub fn first(q: Queue) -> u32
     ensures { result ≡ first_of q }
 {
-    if q.reported < q.kept {
-        return q.kept;
-    }
-    q.reported
+    q.reported.max(q.kept)
 }
 
 // There is something to send, and nothing was sent in this round.
@@ -60,25 +58,14 @@ pub fn sent_in(q: Queue, round: u32) -> Queue
 
 // ---- the report
 
-fn least(a: u32, b: u32) -> u32
-    ensures { result ≡ least_of a b }
-{
-    if a < b { a } else { b }
-}
-
-fn most(a: u32, b: u32) -> u32
-    ensures { result ≡ most_of a b }
-{
-    if a < b { b } else { a }
-}
-
 // The boat reports that it holds the first n bytes: their space is given back, of n above the total that of all.
+#[tactic(auto, using(std::proofs::lemmas::Bool::Decides::nat_tests))]
 pub fn reported_to(q: Queue, n: u32) -> Queue
     ensures { result ≡ reported_to q n }
 {
     let mut k = q;
-    k.reported = most(q.reported, n);
-    k.kept = most(q.kept, least(n, q.posted));
+    k.reported = q.reported.max(n);
+    k.kept = q.kept.max(n.min(q.posted));
     k
 }
 
@@ -123,11 +110,7 @@ fn place(slot: u8, o: usize) -> usize
 fn byte_at(queue: &[u8], slot: u8, o: usize) -> u8
     ensures { result ≡ byte_at queue.now slot o }
 {
-    let i = place(slot, o);
-    if i < queue.len() {
-        return queue[i];
-    }
-    0
+    queue.get(place(slot, o)).copied().unwrap_or(0)
 }
 
 // n of them, from byte o on.
@@ -136,10 +119,8 @@ pub fn bytes_from(queue: &[u8], slot: u8, o: usize, n: usize) -> [u8; 255]
     ensures { result ≡ bytes_from queue.now slot o n ++ replicate (255 - n) 0 }
 {
     let mut p = [0u8; 255];
-    let mut k: usize = 0;
-    while k < n {
+    for k in 0..n {
         p[k] = byte_at(queue, slot, o + k);
-        k += 1;
     }
     p
 }
@@ -149,13 +130,11 @@ fn framed_byte(message: &[u8], k: usize) -> u8
     requires { k < 2 + length message.now }
     ensures { result ≡ get_or (framed message.now) k 0 }
 {
-    if k == 0 {
-        return (message.len() % 256) as u8;
+    match k {
+        0 => (message.len() % 256) as u8,
+        1 => (message.len() / 256 % 256) as u8,
+        _ => message[k - 2],
     }
-    if k == 1 {
-        return (message.len() / 256 % 256) as u8;
-    }
-    message[k - 2]
 }
 
 // A message stands in the queue from byte o of the slot's stream on.
@@ -163,11 +142,8 @@ pub fn put(queue: &mut [u8], slot: u8, o: u32, message: &[u8])
     requires { (slot < 62) × (126976 ≤ length queue.old) × (length message.now ≤ 2046) }
     ensures { queue.new ≡ put_bytes queue.old slot o (framed message.now) }
 {
-    let n = message.len() + 2;
-    let mut k: usize = 0;
-    while k < n {
+    for k in 0..message.len() + 2 {
         let i = place(slot, o as usize + k);
         queue[i] = framed_byte(message, k);
-        k += 1;
     }
 }

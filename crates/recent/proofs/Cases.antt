@@ -1,6 +1,5 @@
 -- Small runs, by computation: one reading, 32 and 33 of them, the lowest falling out, -0 and +0, none. Assumes nothing.
 use mathlib.Core.Path.{◌≡◌, refl}
-use mathlib.Core.List.{List, [], ◌∷◌}
 use Prim.Native.Nat.{ℕ, zero, suc}
 use lib.Ieee.{Float, binary32, of_bits, lt, eq}
 use Rattle.level.specs.declared.Level.TheVariants.{Unheard, Decibels}

@@ -1,8 +1,8 @@
 // The last 32 reception levels of a boat, and the lowest of them (request U13).
 #![tactic(auto)]
 
-ghost use Rattle.std.specs.Prelude.{◌≡◌, cond, ◌+◌, ltb};
-ghost use Rattle.recent.specs.Readings.{kept, empty, noted, lower, worst};
+ghost use Rattle.std.specs.Prelude.{◌≡◌};
+ghost use Rattle.recent.specs.Readings.{empty, noted, lower, worst};
 
 use level::Level;
 
@@ -34,22 +34,9 @@ pub fn noted(r: Recent, snr: f32) -> Recent
     let mut k = r;
     let i = (r.at % 32) as usize;
     k.levels[i] = snr;
-    k.count = one_more(r.count);
+    k.count = r.count.min(31) + 1;
     k.at = (r.at % 32 + 1) % 32;
     k
-}
-
-fn one_more(count: u8) -> u8
-    ensures { result ≡ cond (ltb count 32) (count + 1) 32 }
-{
-    if count < 32 { count + 1 } else { 32 }
-}
-
-// At most 32.
-fn kept(count: u8) -> usize
-    ensures { result ≡ kept count }
-{
-    if count < 32 { count as usize } else { 32 }
 }
 
 // The lower of two levels, -0 below +0.
@@ -72,15 +59,12 @@ pub fn worst(r: Recent) -> Level
     ensures { result ≡ worst r }
 {
     let levels = r.levels;
-    let n = kept(r.count);
+    let n = r.count.min(32);
     let mut low = Level::Unheard;
     let mut p = (r.at % 32) as usize;
-    let mut i: usize = 0;
-    while i < n {
+    for _ in 0..n {
         p = (p + 31) % 32;
-        let x = levels[p];
-        low = lower(low, x);
-        i += 1;
+        low = lower(low, levels[p]);
     }
     low
 }

@@ -2,23 +2,22 @@
 -- Assumes nothing.
 use Prim.Native.Nat.{ℕ, ◌-◌, ◌^◌, ◌<◌, ◌≤◌}
 use mathlib.Core.Path.{◌≡◌, refl, sym, ap, ◌∙◌, subst}
-use mathlib.Core.Bool.{Bool, true, false, cond, ◌&&◌, ◌||◌}
+use mathlib.Core.Bool.{Bool, true, false, cond, ◌&&◌}
 use mathlib.Core.List.{List}
 use mathlib.Core.Logic.{◌⊎◌, ◌≢◌, ⊎_elim, inl, inr}
 use native.Mathlib.Omega.{arith}
-use lib.Dec.{eqb, ltb, leb}
+use lib.Dec.{eqb, ltb}
 use lib.ListN.{get_or}
+use Rattle.std.specs.Prelude.{Option, Some, None}
 use lib.Ieee.{Float}
 use borrow.Author.Tests.{eqb-true, lt-ltb, le-ltb}
 use Rattle.bits.specs.Loop.{first}
 use Rattle.bits.specs.Mask.{has_bit, without_bit, both_of, minus_of}
-use Rattle.bits.specs.declared.Found.{Found}
-use Rattle.bits.specs.declared.Found.TheVariants.{At, Nothing}
 use Rattle.bits.proofs.Lists.{cond_keeps, and_true, never_both, eq_or_not}
 use Rattle.bits.proofs.Laws.{has_none, has_both, without_same, without_other}
 use Rattle.bits.proofs.Loops.{fold_keeps_below, first_none, first_found}
 use Rattle.roster.specs.declared.relay.Pick.{Pick}
-use Rattle.roster.specs.Relays.{heard_at, loud_enough, pick_of, nobody, low_step, high_step, best_low, best_high, is_source, slot_or63, relayer_for, relay_src_for}
+use Rattle.roster.specs.Relays.{heard_at, loud_enough, pick_of, picked_slot, wins, best_step, best_of, best_low, best_high, is_source, slot_or63, relayer_for, relay_src_for}
 
 -- a slot of the mask, or 63
 abbrev pub SlotOf : ℕ → ℕ → Type 0
@@ -48,40 +47,35 @@ minus_in a b i h = (and_true _ _ (sym (has_both a (2 ^ 64 - 1 - b) i) ∙ h)).0
 
 -- ---- the best of several
 
-pick_keeps : (able i q : ℕ) (loud better : Bool) (p : Pick) → i < 62 → SlotOf able p.slot → SlotOf able (cond (has_bit able i && loud && better) (pick_of i q) p).slot
+pick_keeps : (able i q : ℕ) (loud better : Bool) (p : Option Pick) → i < 62 → SlotOf able (picked_slot p) → SlotOf able (picked_slot (cond (has_bit able i && loud && better) (Some (pick_of i q)) p))
 pick_keeps able i q loud better p h g =
     cond_keeps
-    (λ (x : Pick). SlotOf able x.slot)
+    (λ (x : Option Pick). SlotOf able (picked_slot x))
     (has_bit able i && loud && better)
-    (pick_of i q)
+    (Some (pick_of i q))
     p
     (λ e. inl (h, (and_true (has_bit able i) loud (and_true (has_bit able i && loud) better e).0).0))
     (λ e. g)
 
 module _ (hears : List ℕ) (able a : ℕ) (floor : Float) where
-  pub best_low_of : SlotOf able (best_low hears able a floor)
-  unfolding best_low
-  best_low_of =
+  best_slot : (last : Bool) → SlotOf able (best_of last hears able a floor)
+  best_slot last =
       fold_keeps_below
-      (λ (x : Pick). SlotOf able x.slot)
-      (low_step hears able a floor)
+      (λ (x : Option Pick). SlotOf able (picked_slot x))
+      (best_step last hears able a floor)
       62
       0
-      (λ i p l h g. pick_keeps able i (heard_at hears i a) (loud_enough (heard_at hears i a) floor) (eqb p.slot 63 || ltb p.level (heard_at hears i a)) p h g)
-      nobody
+      (λ i p l h g. pick_keeps able i (heard_at hears i a) (loud_enough (heard_at hears i a) floor) (wins last p (heard_at hears i a)) p h g)
+      None
       (inr refl)
+
+  pub best_low_of : SlotOf able (best_low hears able a floor)
+  unfolding best_low
+  best_low_of = best_slot false
 
   pub best_high_of : SlotOf able (best_high hears able a floor)
   unfolding best_high
-  best_high_of =
-      fold_keeps_below
-      (λ (x : Pick). SlotOf able x.slot)
-      (high_step hears able a floor)
-      62
-      0
-      (λ i p l h g. pick_keeps able i (heard_at hears i a) (loud_enough (heard_at hears i a) floor) (eqb p.slot 63 || leb p.level (heard_at hears i a)) p h g)
-      nobody
-      (inr refl)
+  best_high_of = best_slot true
 
   pub best_low_slot : (best_low hears able a floor < 62) ⊎ (best_low hears able a floor ≡ 63)
   best_low_slot = slot_or_63 able best_low_of
@@ -117,11 +111,11 @@ module _ (hears : List ℕ) (able tried a : ℕ) (floor : Float) where
   relayer_able r e l = without_in able a r (slot_in (without_bit able a) (subst (SlotOf (without_bit able a)) e relayer_of) l)
 
 module _ (hears : List ℕ) (needs able : ℕ) (tried : List ℕ) (slot : ℕ) (floor : Float) where
-  source_by : (f : Found) → first (is_source hears (without_bit needs slot) able tried slot floor) 62 0 ≡ f → SlotOf (without_bit needs slot) (slot_or63 f)
-  source_by (At s) e =
+  source_by : (f : Option ℕ) → first (is_source hears (without_bit needs slot) able tried slot floor) 62 0 ≡ f → SlotOf (without_bit needs slot) (slot_or63 f)
+  source_by (Some s) e =
       let h = first_found (is_source hears (without_bit needs slot) able tried slot floor) 62 0 s e in
       inl (h.0, (and_true (has_bit (without_bit needs slot) s) (eqb (relayer_for hears able (get_or tried s 0) s floor) slot) h.1).0)
-  source_by Nothing e = inr refl
+  source_by None e = inr refl
 
   pub source_of : SlotOf (without_bit needs slot) (relay_src_for hears needs able tried slot floor)
   unfolding relay_src_for
@@ -134,11 +128,11 @@ module _ (hears : List ℕ) (needs able : ℕ) (tried : List ℕ) (slot : ℕ) (
   pub source_needs : (r : ℕ) → relay_src_for hears needs able tried slot floor ≡ r → r < 62 → (has_bit needs r ≡ true) × (r ≢ slot)
   source_needs r e l = without_in needs slot r (slot_in (without_bit needs slot) (subst (SlotOf (without_bit needs slot)) e source_of) l)
 
-  relayed_by_lem : (r : ℕ) (f : Found) → first (is_source hears (without_bit needs slot) able tried slot floor) 62 0 ≡ f → slot_or63 f ≡ r → r < 62 → relayer_for hears able (get_or tried r 0) r floor ≡ slot
-  relayed_by_lem r (At s) e q l =
+  relayed_by_lem : (r : ℕ) (f : Option ℕ) → first (is_source hears (without_bit needs slot) able tried slot floor) 62 0 ≡ f → slot_or63 f ≡ r → r < 62 → relayer_for hears able (get_or tried r 0) r floor ≡ slot
+  relayed_by_lem r (Some s) e q l =
       let h = first_found (is_source hears (without_bit needs slot) able tried slot floor) 62 0 s e in
       subst (λ k. relayer_for hears able (get_or tried k 0) k floor ≡ slot) q (eqb-true _ _ (and_true (has_bit (without_bit needs slot) s) (eqb (relayer_for hears able (get_or tried s 0) s floor) slot) h.1).1)
-  relayed_by_lem r Nothing e q l = absurd (omega arith)
+  relayed_by_lem r None e q l = absurd (omega arith)
 
   relayed_at : (b : Bool) (r : ℕ) → cond b (slot_or63 (first (is_source hears (without_bit needs slot) able tried slot floor) 62 0)) 63 ≡ r → r < 62 → relayer_for hears able (get_or tried r 0) r floor ≡ slot
   relayed_at true r e l = relayed_by_lem r _ refl e l

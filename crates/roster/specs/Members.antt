@@ -1,11 +1,9 @@
 -- `Member` of ncs.rs: what the control station knows of a boat, and what each occasion changes of it.
-use Rattle.std.specs.Prelude.{ℕ, ◌+◌, ◌-◌, Bool, true, false, not, cond, ◌&&◌, ◌||◌, List, [], eqb, ltb, leb, Float}
+use Rattle.std.specs.Prelude.{ℕ, ◌+◌, ◌-◌, Bool, true, false, not, cond, ◌&&◌, ◌||◌, List, [], eqb, ltb, leb, Float, Option, Some, None, is_some}
 use Rattle.bits.specs.Stop.{stop}
 use Rattle.level.specs.declared.Level.{Level}
 use Rattle.level.specs.declared.Level.TheVariants.{Unheard, Decibels}
-use Rattle.level.specs.declared.Clock.{Clock}
-use Rattle.level.specs.declared.Clock.TheVariants.{Never, At}
-use Rattle.level.specs.Levels.{smoothed, or_else, is_at}
+use Rattle.level.specs.Levels.{smoothed, or_else}
 use Rattle.wire.specs.Fields.{caps_of, relays}
 use Rattle.stream.specs.declared.window.Window.{Window}
 use Rattle.stream.specs.Window.{fresh_of, bitmap_of, holes_of, land_of, bar_of}
@@ -14,11 +12,11 @@ use Rattle.roster.specs.declared.Member.{Member}
 -- What an element past an array's end is taken for: 0, false, [] and the first variant, in each field
 abbrev pub no_member : Member
 no_member =
-    record { call = []; via = 0; hascaps = false; caps = 0; hasversion = false; version = 0; burst = 0; toldbits = 0; markbits = 0; missed = 0; toldnext = 0; marknext = 0; bytesin = 0; snrup = Unheard; snrdown = Unheard; direct = Unheard; lastheard = Never; up = fresh_of; tried = 0 }
+    record { call = []; via = 0; hascaps = false; caps = 0; hasversion = false; version = 0; burst = 0; toldbits = 0; markbits = 0; missed = 0; toldnext = 0; marknext = 0; bytesin = 0; snrup = Unheard; snrdown = Unheard; direct = Unheard; lastheard = None; up = fresh_of; tried = 0 }
 
 -- ---- one group of fields written
 
-abbrev pub with_links : Member → Level → Level → Level → Clock → Member
+abbrev pub with_links : Member → Level → Level → Level → Option Float → Member
 with_links m snrup snrdown direct lastheard =
     record { call = m.call; via = m.via; hascaps = m.hascaps; caps = m.caps; hasversion = m.hasversion; version = m.version; burst = m.burst; toldbits = m.toldbits; markbits = m.markbits; missed = m.missed; toldnext = m.toldnext; marknext = m.marknext; bytesin = m.bytesin; snrup = snrup; snrdown = snrdown; direct = direct; lastheard = lastheard; up = m.up; tried = m.tried }
 
@@ -57,15 +55,15 @@ known_version m version =
 -- ---- occasions
 
 -- `Member::new`; a boat with no relay was heard now, one with a relay never
-abbrev pub heard_by : ℕ → Float → Clock
-heard_by via now = cond (eqb via 63) (At now) Never
+abbrev pub heard_by : ℕ → Float → Option Float
+heard_by via now = cond (eqb via 63) (Some now) None
 
 abbrev pub new_member : List ℕ → ℕ → Float → Member
 new_member call via now =
     record { call = call; via = via; hascaps = false; caps = 0; hasversion = false; version = 0; burst = 0; toldbits = 0; markbits = 0; missed = 0; toldnext = 0; marknext = 0; bytesin = 0; snrup = Unheard; snrdown = Unheard; direct = Unheard; lastheard = heard_by via now; up = fresh_of; tried = 0 }
 
 abbrev pub with_heard : Member → Float → Member
-with_heard m now = with_links m m.snrup m.snrdown m.direct (At now)
+with_heard m now = with_links m m.snrup m.snrdown m.direct (Some now)
 
 abbrev pub with_down : Member → Level → Member
 with_down m snrdown = with_links m m.snrup snrdown m.direct m.lastheard
@@ -75,11 +73,11 @@ with_direct m snr = with_links m m.snrup m.snrdown (Decibels snr) m.lastheard
 
 -- its own burst came in at snr: the level up is smoothed, the boat hears us at snrdown
 abbrev pub received_at : Member → Float → Level → Float → Member
-received_at m snr snrdown now = with_links m (Decibels (smoothed m.snrup snr)) snrdown m.direct (At now)
+received_at m snr snrdown now = with_links m (Decibels (smoothed m.snrup snr)) snrdown m.direct (Some now)
 
 -- a relay reached it, at snrup
 abbrev pub reached_at : Member → Level → Float → Member
-reached_at m snrup now = with_missed (with_links m snrup m.snrdown m.direct (At now)) 0
+reached_at m snrup now = with_missed (with_links m snrup m.snrdown m.direct (Some now)) 0
 
 -- capability and version, where a check-in has them
 abbrev pub with_caps : Member → Bool → ℕ → Member
@@ -126,7 +124,7 @@ down_or_up m = or_else m.snrdown m.snrup
 
 -- `active()`: a member that misses few polls and was heard
 abbrev pub active : Member → ℕ → Bool
-active m limit = ltb m.missed limit && is_at m.lastheard
+active m limit = ltb m.missed limit && is_some m.lastheard
 
 -- `direct()`: an active member that is polled itself
 abbrev pub is_direct : Member → ℕ → Bool

@@ -1,15 +1,13 @@
 -- `reroute`, `needs_relay`, `relayer_for`, `relay_src_for` and `turn_over` of ncs.rs: the choices of relays.
 -- Slots that are able to relay, tried, or in need of a relayer are masks. `hears` has 62 level fields for each slot: what slot r hears of slot a stands at
 -- r * 62 + a, 0 to 62, or 63 for nothing. A level field rises with its decibels (laws `field_le` and `field_lt` of wire), so the better of two is the one with the greater field.
-use Rattle.std.specs.Prelude.{ℕ, ◌+◌, ◌*◌, Bool, not, cond, ◌&&◌, ◌||◌, List, eqb, ltb, leb, get_or, Float}
+use Rattle.std.specs.Prelude.{ℕ, ◌+◌, ◌*◌, Bool, true, false, not, cond, ◌&&◌, ◌||◌, List, eqb, ltb, leb, get_or, Float, Option, Some, None, is_some}
 use Rattle.std.specs.Float.Ieee.{le}
 use Rattle.bits.specs.Loop.{first, fold, any}
 use Rattle.bits.specs.Mask.{has_bit, with_bit, without_bit, minus_of}
-use Rattle.bits.specs.declared.Found.{Found}
-use Rattle.bits.specs.declared.Found.TheVariants as found
 use Rattle.level.specs.declared.Level.{Level}
 use Rattle.level.specs.declared.Level.TheVariants.{Unheard, Decibels}
-use Rattle.level.specs.Levels.{is_at, is_heard}
+use Rattle.level.specs.Levels.{is_heard}
 use Rattle.wire.specs.Fields.{field_db}
 use Rattle.stream.specs.Window.{bitmap_of, holes_of}
 use Rattle.roster.specs.declared.Member.{Member}
@@ -18,7 +16,7 @@ use Rattle.roster.specs.Members.{is_willing, with_mark}
 
 -- `m.via.is_none() && m.missed == 0 && m.last_heard.is_some() && m.willing()`
 abbrev pub could_relay : Member → Bool
-could_relay m = eqb m.via 63 && eqb m.missed 0 && is_at m.lastheard && is_willing m
+could_relay m = eqb m.via 63 && eqb m.missed 0 && is_some m.lastheard && is_willing m
 
 -- `needs_relay`: it missed its poll, or messages arrived past a hole
 abbrev pub needs_relay : Member → Bool
@@ -37,32 +35,35 @@ loud_enough q floor = ltb q 63 && le floor (field_db q)
 abbrev pub pick_of : ℕ → ℕ → Pick
 pick_of slot level = record { slot = slot; level = level }
 
-abbrev pub nobody : Pick
-nobody = pick_of 63 0
+-- its slot; 63 for nobody
+abbrev pub picked_slot : Option Pick → ℕ
+picked_slot None = 63
+picked_slot (Some p) = p.slot
 
--- of equal levels the one looked at first stays (a stable sort, best first), or the one looked at last (`max_by`)
-abbrev pub better_low : Pick → Bool → ℕ → ℕ → Pick
-better_low p ok slot q = cond (ok && (eqb p.slot 63 || ltb p.level q)) (pick_of slot q) p
+-- of equal levels the one looked at first stays (a stable sort, best first), or with `last` the one looked at last (`max_by`)
+abbrev pub wins : Bool → Option Pick → ℕ → Bool
+wins last None q = true
+wins last (Some p) q = cond last (leb p.level q) (ltb p.level q)
 
-abbrev pub better_high : Pick → Bool → ℕ → ℕ → Pick
-better_high p ok slot q = cond (ok && (eqb p.slot 63 || leb p.level q)) (pick_of slot q) p
+abbrev pub better : Bool → Option Pick → Bool → ℕ → ℕ → Option Pick
+better last p ok slot q = cond (ok && wins last p q) (Some (pick_of slot q)) p
 
 -- slot i of `able` hears a at floor or better
 abbrev pub candidate : List ℕ → ℕ → ℕ → Float → ℕ → Bool
 candidate hears able a floor i = has_bit able i && loud_enough (heard_at hears i a) floor
 
-abbrev pub low_step : List ℕ → ℕ → ℕ → Float → ℕ → Pick → Pick
-low_step hears able a floor i p = better_low p (candidate hears able a floor i) i (heard_at hears i a)
-
-abbrev pub high_step : List ℕ → ℕ → ℕ → Float → ℕ → Pick → Pick
-high_step hears able a floor i p = better_high p (candidate hears able a floor i) i (heard_at hears i a)
+abbrev pub best_step : Bool → List ℕ → ℕ → ℕ → Float → ℕ → Option Pick → Option Pick
+best_step last hears able a floor i p = better last p (candidate hears able a floor i) i (heard_at hears i a)
 
 -- the slot of `able` that hears a best; 63 for nobody
+abbrev pub best_of : Bool → List ℕ → ℕ → ℕ → Float → ℕ
+best_of last hears able a floor = picked_slot (fold (best_step last hears able a floor) 62 0 None)
+
 unfoldable pub best_low : List ℕ → ℕ → ℕ → Float → ℕ
-best_low hears able a floor = (fold (low_step hears able a floor) 62 0 nobody).slot
+best_low hears able a floor = best_of false hears able a floor
 
 unfoldable pub best_high : List ℕ → ℕ → ℕ → Float → ℕ
-best_high hears able a floor = (fold (high_step hears able a floor) 62 0 nobody).slot
+best_high hears able a floor = best_of true hears able a floor
 
 -- `relayer_for(a)`: the best untried one, else the best of all, a itself apart
 abbrev pub or_best : ℕ → ℕ → ℕ
@@ -73,9 +74,9 @@ relayer_for hears able tried a floor =
     or_best (best_low hears (minus_of (without_bit able a) tried) a floor) (best_low hears (without_bit able a) a floor)
 
 -- `relay_src_for(slot)`: the first station in need whose relayer is `slot`; 63 for none, and where `slot` is no slot. `tried` has each station's tried relayers
-abbrev pub slot_or63 : Found → ℕ
-slot_or63 (found.At a) = a
-slot_or63 found.Nothing = 63
+abbrev pub slot_or63 : Option ℕ → ℕ
+slot_or63 (Some a) = a
+slot_or63 None = 63
 
 abbrev pub is_source : List ℕ → ℕ → ℕ → List ℕ → ℕ → Float → ℕ → Bool
 is_source hears left able tried slot floor a =

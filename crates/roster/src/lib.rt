@@ -5,7 +5,7 @@
 ghost use Rattle.std.specs.Prelude.{◌≡◌};
 ghost use Rattle.roster.specs.Members.{with_links, with_heard, with_down, with_direct, heard_by, new_member, received_at, reached_at, with_caps, with_version, promoted_at, rerouted_to, missed_one, landed_one, barred_one, told_now, is_news, is_willing, down_or_up, is_direct, tally};
 
-use level::{Clock, Level};
+use level::Level;
 use stream::window;
 use stream::window::Window;
 
@@ -31,79 +31,41 @@ pub struct Member {
     pub snrup: Level,
     pub snrdown: Level,
     pub direct: Level,
-    pub lastheard: Clock,
+    pub lastheard: Option<f64>,
     pub up: Window,
     pub tried: u64,
-}
-
-// A field that is an enum takes no store: the struct is made anew, here once for all four of them.
-pub fn with_links(
-    m: Member,
-    snrup: Level,
-    snrdown: Level,
-    direct: Level,
-    lastheard: Clock,
-) -> Member
-    ensures { result ≡ with_links m snrup snrdown direct lastheard }
-{
-    let call = m.call;
-    let up = m.up;
-    Member {
-        call: call,
-        via: m.via,
-        hascaps: m.hascaps,
-        caps: m.caps,
-        hasversion: m.hasversion,
-        version: m.version,
-        burst: m.burst,
-        toldbits: m.toldbits,
-        markbits: m.markbits,
-        missed: m.missed,
-        toldnext: m.toldnext,
-        marknext: m.marknext,
-        bytesin: m.bytesin,
-        snrup: snrup,
-        snrdown: snrdown,
-        direct: direct,
-        lastheard: lastheard,
-        up: up,
-        tried: m.tried,
-    }
 }
 
 pub fn with_heard(m: Member, now: f64) -> Member
     ensures { result ≡ with_heard m now }
 {
-    let snrup = m.snrup;
-    let snrdown = m.snrdown;
-    let direct = m.direct;
-    with_links(m, snrup, snrdown, direct, Clock::At(now))
+    let mut k = m;
+    k.lastheard = Some(now);
+    k
 }
 
 pub fn with_down(m: Member, snrdown: Level) -> Member
     ensures { result ≡ with_down m snrdown }
 {
-    let snrup = m.snrup;
-    let direct = m.direct;
-    let lastheard = m.lastheard;
-    with_links(m, snrup, snrdown, direct, lastheard)
+    let mut k = m;
+    k.snrdown = snrdown;
+    k
 }
 
 pub fn with_direct(m: Member, snr: f32) -> Member
     ensures { result ≡ with_direct m snr }
 {
-    let snrup = m.snrup;
-    let snrdown = m.snrdown;
-    let lastheard = m.lastheard;
-    with_links(m, snrup, snrdown, Level::Decibels(snr), lastheard)
+    let mut k = m;
+    k.direct = Level::Decibels(snr);
+    k
 }
 
 // A boat with no relay was heard now, one with a relay never.
-fn heard_by(via: u8, now: f64) -> Clock
+fn heard_by(via: u8, now: f64) -> Option<f64>
     ensures { result ≡ heard_by via now }
 {
     let direct = via == wire::ALL;
-    if direct { Clock::At(now) } else { Clock::Never }
+    if direct { Some(now) } else { None }
 }
 
 pub fn new_member(call: [u8; 7], via: u8, now: f64) -> Member
@@ -138,24 +100,20 @@ pub fn new_member(call: [u8; 7], via: u8, now: f64) -> Member
 pub fn received(m: Member, snr: f32, snrdown: Level, now: f64) -> Member
     ensures { result ≡ received_at m snr snrdown now }
 {
-    let old = m.snrup;
-    let direct = m.direct;
-    with_links(
-        m,
-        Level::Decibels(level::smooth(old, snr)),
-        snrdown,
-        direct,
-        Clock::At(now),
-    )
+    let mut k = m;
+    k.snrup = Level::Decibels(level::smooth(m.snrup, snr));
+    k.snrdown = snrdown;
+    k.lastheard = Some(now);
+    k
 }
 
 // A relay reached it, at snrup.
 pub fn reached(m: Member, snrup: Level, now: f64) -> Member
     ensures { result ≡ reached_at m snrup now }
 {
-    let snrdown = m.snrdown;
-    let direct = m.direct;
-    let mut k = with_links(m, snrup, snrdown, direct, Clock::At(now));
+    let mut k = m;
+    k.snrup = snrup;
+    k.lastheard = Some(now);
     k.missed = 0;
     k
 }
@@ -189,11 +147,11 @@ pub fn with_version(m: Member, known: bool, version: u8) -> Member
 pub fn promoted(m: Member, snr: f32) -> Member
     ensures { result ≡ promoted_at m snr }
 {
-    let snrdown = m.snrdown;
-    let lastheard = m.lastheard;
-    let mut k = with_links(m, Level::Decibels(snr), snrdown, Level::Unheard, lastheard);
+    let mut k = m;
     k.via = wire::ALL;
     k.missed = 0;
+    k.snrup = Level::Decibels(snr);
+    k.direct = Level::Unheard;
     k
 }
 
@@ -267,17 +225,14 @@ pub fn is_willing(m: Member) -> bool
 pub fn down_or_up(m: Member) -> Level
     ensures { result ≡ down_or_up m }
 {
-    let snrdown = m.snrdown;
-    let snrup = m.snrup;
-    level::or_else(snrdown, snrup)
+    level::or_else(m.snrdown, m.snrup)
 }
 
 // A member polled directly that answers.
 pub fn is_direct(m: Member, limit: u32) -> bool
     ensures { result ≡ is_direct m limit }
 {
-    let lastheard = m.lastheard;
-    (m.missed < limit) & level::is_at(lastheard) & (m.via == wire::ALL)
+    (m.missed < limit) & m.lastheard.is_some() & (m.via == wire::ALL)
 }
 
 // How many boats are silent, when one boat changes.

@@ -1,13 +1,13 @@
 // The choices of relays (reroute, relayer_for, relay_src_for, turn_over of ncs.rs), over masks of slots and the table of who hears whom:
 // hears[r * 62 + a] is the level field at which slot r hears slot a, 0 to 62, or 63 for none.
 ghost use Rattle.std.specs.Prelude.{◌≡◌, ◌<◌};
-ghost use Rattle.roster.specs.Relays.{low_step, high_step, is_source, hears_it, could_relay, needs_relay, loud_enough, better_low, better_high, best_low, best_high, heard_at, relayer_for, relay_src_for, any_hears, tried_with, turn_over, promotable_at, is_leaf};
+ghost use Rattle.roster.specs.Relays.{is_source, hears_it, could_relay, needs_relay, loud_enough, wins, better, best_step, best_of, best_low, best_high, heard_at, relayer_for, relay_src_for, any_hears, tried_with, turn_over, promotable_at, is_leaf};
 
 use super::Member;
 use level::Level;
 use stream::window;
 
-// The best candidate so far, with the level field at which it hears; slot 63 for nobody.
+// The best candidate so far, with the level field at which it hears.
 #[derive(Clone, Copy)]
 pub struct Pick {
     pub slot: u8,
@@ -19,7 +19,7 @@ pub fn could_relay(m: Member) -> bool
     ensures { result ≡ could_relay m }
 {
     let lastheard = m.lastheard;
-    (m.via == wire::ALL) & (m.missed == 0) & level::is_at(lastheard) & super::is_willing(m)
+    (m.via == wire::ALL) & (m.missed == 0) & lastheard.is_some() & super::is_willing(m)
 }
 
 // Some of its traffic may lie with others: it missed its poll, or messages arrived past a hole.
@@ -38,83 +38,70 @@ fn loud_enough(q: u8, floor: f32) -> bool
     (q < wire::UNHEARD) & (db >= floor)
 }
 
-// Of equal levels the one looked at first stays: the lowest slot.
-fn better_low(p: Pick, ok: bool, slot: u8, q: u8) -> Pick
-    ensures { result ≡ better_low p ok slot q }
+// Of equal levels the one looked at first stays, the lowest slot; with LAST the one looked at last, the highest.
+fn wins<const LAST: bool>(p: Option<Pick>, q: u8) -> bool
+    ensures { result ≡ wins LAST p q }
 {
-    if ok & ((p.slot == wire::ALL) | (p.level < q)) {
-        return Pick {
-            slot: slot,
-            level: q,
-        };
+    match p {
+        None => true,
+        Some(b) => if LAST { b.level <= q } else { b.level < q },
     }
-    p
 }
 
-// Of equal levels the one looked at last stays: the highest slot.
-fn better_high(p: Pick, ok: bool, slot: u8, q: u8) -> Pick
-    ensures { result ≡ better_high p ok slot q }
+fn better<const LAST: bool>(p: Option<Pick>, ok: bool, slot: u8, q: u8) -> Option<Pick>
+    ensures { result ≡ better LAST p ok slot q }
 {
-    if ok & ((p.slot == wire::ALL) | (p.level <= q)) {
-        return Pick {
+    if ok & wins::<LAST>(p, q) {
+        return Some(Pick {
             slot: slot,
             level: q,
-        };
+        });
     }
     p
 }
 
 // Slot i is looked at: a candidate where it is in `able` and hears a at floor or more.
-fn low_step(hears: &[u8; 3844], able: u64, a: u8, floor: f32, i: u8, p: Pick) -> Pick
-    ensures { result ≡ low_step hears.now able a floor i p }
+fn step<const LAST: bool>(
+    hears: &[u8; 3844],
+    able: u64,
+    a: u8,
+    floor: f32,
+    i: u8,
+    p: Option<Pick>,
+) -> Option<Pick>
+    ensures { result ≡ best_step LAST hears.now able a floor i p }
 {
     if !bits::has(able, i as usize) {
         return p;
     }
     let q = heard_at(hears, i, a);
-    better_low(p, loud_enough(q, floor), i, q)
+    better::<LAST>(p, loud_enough(q, floor), i, q)
 }
 
-fn high_step(hears: &[u8; 3844], able: u64, a: u8, floor: f32, i: u8, p: Pick) -> Pick
-    ensures { result ≡ high_step hears.now able a floor i p }
+// Of the slots in `able` the one that hears a best, at floor or more; the lowest of equals, with LAST the highest.
+fn best<const LAST: bool>(hears: &[u8; 3844], able: u64, a: u8, floor: f32) -> u8
+    ensures { result ≡ best_of LAST hears.now able a floor }
 {
-    if !bits::has(able, i as usize) {
-        return p;
+    let mut p = None;
+    for i in 0..62 {
+        p = step::<LAST>(hears, able, a, floor, i, p);
     }
-    let q = heard_at(hears, i, a);
-    better_high(p, loud_enough(q, floor), i, q)
+    match p {
+        Some(b) => b.slot,
+        None => wire::ALL,
+    }
 }
 
-// Of the slots in `able` the one that hears a best, at floor or more; the lowest of equals.
 pub fn best_low(hears: &[u8; 3844], able: u64, a: u8, floor: f32) -> u8
     ensures { result ≡ best_low hears.now able a floor }
 {
-    let mut p = Pick {
-        slot: wire::ALL,
-        level: 0,
-    };
-    let mut i: u8 = 0;
-    while i < 62 {
-        p = low_step(hears, able, a, floor, i, p);
-        i += 1;
-    }
-    p.slot
+    best::<false>(hears, able, a, floor)
 }
 
-// The same, the highest of equals.
 pub fn best_high(hears: &[u8; 3844], able: u64, a: u8, floor: f32) -> u8
     ensures { result ≡ best_high hears.now able a floor }
 {
-    let mut p = Pick {
-        slot: wire::ALL,
-        level: 0,
-    };
-    let mut i: u8 = 0;
-    while i < 62 {
-        p = high_step(hears, able, a, floor, i, p);
-        i += 1;
-    }
-    p.slot
+    best::<true>(hears, able, a, floor)
 }
 
 // The level field at which slot r hears slot a; 63 where either is no slot.
@@ -181,12 +168,10 @@ pub fn relay_src_for(
     if left == 0 {
         return wire::ALL;
     }
-    let mut a: u8 = 0;
-    while a < 62 {
+    for a in 0..62 {
         if is_source(hears, left, able, tried, slot, floor, a) {
             return a;
         }
-        a += 1;
     }
     wire::ALL
 }
@@ -203,12 +188,10 @@ fn hears_it(hears: &[u8; 3844], left: u64, a: u8, i: u8) -> bool
 fn any_hears(hears: &[u8; 3844], left: u64, a: u8) -> bool
     ensures { result ≡ any_hears hears.now left a }
 {
-    let mut i: u8 = 0;
-    while i < 62 {
+    for i in 0..62 {
         if hears_it(hears, left, a, i) {
             return true;
         }
-        i += 1;
     }
     false
 }

@@ -1,12 +1,12 @@
--- A float by a fraction that it equals (`HasValue x s a c`: x is finite, has the sign s and is a / c in size): sums, and comparison with a value. Assumes nothing.
-use Rattle.std.proofs.Common.{◌≡◌, ℕ, ◌+◌, ◌-◌, ◌*◌, ◌<◌, ◌≤◌, Bool, true, false, cond, not, ◌&&◌, T, ltb, leb, ℤ, sym, refl, ap, ◌∙◌, true≢false, lt_trans, lt_irrefl, mul_comm, add-mul, add_comm, mul-pos, mul_right_comm, arith, ltb→lt, nltb→le}
+-- A float by a fraction that it equals (`HasValue x s a c`: x is finite, has the sign s and is a / c in size): sums. Assumes nothing.
+use Rattle.std.proofs.Common.{◌≡◌, ℕ, ◌+◌, ◌-◌, ◌*◌, ◌<◌, ◌≤◌, Bool, true, false, cond, not, ◌&&◌, T, ltb, sym, refl, ap, ◌∙◌, lt_trans, lt_irrefl, mul_comm, add-mul, add_comm, mul-pos, arith, ltb→lt, nltb→le}
 use native.Mathlib.Nat.{mul-mul-mul_comm, mul-sub}
 use mathlib.Core.Bool.{beq}
-use lib.Ieee.{Float, nan, inf, fin, Format, up, down, round, sum, add, le}
+use lib.Ieee.{Float, nan, inf, fin, Format, up, down, round, sum, add}
 use lib.Ieee.Fits.{down_pos}
 use lib.Ieee.Exact.{HasValue}
 use lib.Ieee.Scale.{round_same}
-use Rattle.level.proofs.Le.{le_plus, leb_scale, ltb_scale}
+use Rattle.level.proofs.Le.{ltb_scale}
 
 -- ---- `sum` sees only the values of its two fractions
 module _ (f : Format) (s : Bool) (X : ℕ) (t : Bool) (Y C X' Y' C' : ℕ) (c : 0 < C) (c' : 0 < C') (p : X * C' ≡ X' * C) (q : Y * C' ≡ Y' * C) where
@@ -48,11 +48,6 @@ add_values f (fin u m e) (fin v n g) s a c t b d C D p q =
     (over (m * up e) (down e) (down g) a c d p.1)
     (ap (λ (z : ℕ). n * up g * down e * z) (mul_comm c d) ∙ over (n * up g) (down g) (down e) b d c q.1 ∙ ap (λ (z : ℕ). b * c * z) (mul_comm (down g) (down e)))
 
--- two values that are not negative
-pub add_at : (f : Format) (x y : Float) (a c b d : ℕ) → 0 < c → 0 < d → HasValue x false a c → HasValue y false b d → add f x y ≡ round f false (a * d + b * c) (c * d)
-unfolding sum
-add_at f x y a c b d C D p q = add_values f x y false a c false b d C D p q
-
 -- ---- a sum does not turn on the order
 apart : {A : Type 0} (x y : ℕ) → x < y → y < x → A
 apart x y h k = absurd (lt_irrefl x (lt_trans h k))
@@ -92,15 +87,3 @@ add_sym f (fin s m e) nan = refl
 add_sym f (fin s m e) (inf t) = refl
 add_sym f (fin s m e) (fin t n d) =
     sum_comm f s (m * up e * down d) t (n * up d * down e) (down e * down d) ∙ ap (λ (z : ℕ). sum f t (n * up d * down e) s (m * up e * down d) z) (mul_comm (down e) (down d))
-
--- a value a / c against one that is not negative
-pub le_value : (z : Float) (a c m : ℕ) (e : ℤ) → 0 < c → HasValue z false a c → le z (fin false m e) ≡ leb (a * down e) (m * up e * c)
-le_value nan a c m e C p = absurd p
-le_value (inf s) a c m e C p = absurd p
-le_value (fin true k j) a c m e C p = absurd (true≢false p.0)
-le_value (fin false k j) a c m e C p =
-    le_plus k j m e
-    ∙ sym (leb_scale (k * up j * down e) (m * up e * down j) c C)
-    ∙ ap (λ (z : ℕ). leb z (m * up e * down j * c)) (mul_right_comm (k * up j) (down e) c ∙ ap (λ (z : ℕ). z * down e) p.1 ∙ mul_right_comm a (down j) (down e))
-    ∙ ap (λ (z : ℕ). leb (a * down e * down j) z) (mul_right_comm (m * up e) (down j) c)
-    ∙ leb_scale (a * down e) (m * up e * c) (down j) (down_pos j)

@@ -26,7 +26,7 @@ use Rattle.net.specs.Net.{is_member, Did}
 use Rattle.frames.specs.declared.Air.{Air}
 use Rattle.frames.specs.declared.Rx.{Rx}
 use Rattle.frames.specs.declared.Frame.{Frame}
-use Rattle.frames.specs.Code.Kinds.{Kind, Nothing, Piece, Checkin, Report, Overheard, Kids}
+use Rattle.frames.specs.Code.Kinds.{Kind, Nothing, Piece, Report}
 use Rattle.frames.specs.declared.pieces.Piece as piece
 use Rattle.frames.specs.Reading.{Reading, also_said}
 use Rattle.frames.specs.Code.Reading.{next_rx, report_rx}

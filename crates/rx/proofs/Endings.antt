@@ -1,14 +1,14 @@
 -- The end of a reception, taken part by part, is what the definitions say. Assumes nothing.
 use mathlib.Core.Path.{◌≡◌, refl, sym, ap, ◌∙◌}
-use mathlib.Core.Bool.{Bool, true, false, cond, ◌&&◌, ◌||◌}
+use mathlib.Core.Bool.{Bool, true, false, cond, ◌||◌}
 use mathlib.Core.List.{List, [], ◌∷◌}
-use mathlib.Core.Option.{some}
+use Rattle.std.specs.Prelude.{Some, None}
 use Prim.Native.Nat.{ℕ, zero, suc, ◌+◌, ◌/◌, ◌%◌, ◌<◌}
 use native.Mathlib.Omega.{arith}
 use lib.Dec.{eqb, ltb}
 use lib.ListN.{set, get_or}
 use lib.Seq.{set-get_or}
-use borrow.Author.Tests.{ltb-true, ne_eqb}
+use borrow.Author.Tests.{ltb-true}
 use Rattle.bits.proofs.Lists.{and_true}
 use Rattle.wire.specs.Kinds.{tiny, k_idle}
 use Rattle.words.specs.declared.Head.{Head}
@@ -30,22 +30,9 @@ use Rattle.net.specs.declared.Totals.{Totals}
 use Rattle.frames.specs.declared.Air.{Air}
 use Rattle.frames.specs.declared.Rx.{Rx}
 use Rattle.frames.specs.Reading.{Reading}
-use Rattle.rx.specs.declared.ending.Awaited.{Awaited}
 use Rattle.rx.specs.declared.ending.Ending.{Ending}
 use Rattle.rx.specs.Ending.{is_reply, goes_on, reply_member, idle_heard, idle_by, idle_end, answer_by, reply_heard, reply_by, reply_end, turn_over_in, nothing_more, end_reading, end_said}
-use Rattle.rx.specs.Code.Ending.{awaits, no_reply, no_ending, idle_ending, reply_ending, awaited_of, ending_by, end_station, end_burst, end_words, end_level, end_member, end_recent, end_source, end_wait, end_totals}
-
--- ### What the burst is
-
--- a reply to a poll, and none
-module _ (w : Awaited) (sender : ℕ) (more : Bool) (h : Head) (n : h.code ≡ 62 → ⊥) where
-  pub ending_reply : w.waits && is_reply h sender w.reply ≡ true → ending_by w sender more h ≡ reply_ending w.reply (goes_on h more w.reply)
-  unfolding ending_by
-  ending_reply t = rw (t, ne_eqb _ _ n)
-
-  pub ending_none : w.waits && is_reply h sender w.reply ≡ false → ending_by w sender more h ≡ no_ending
-  unfolding ending_by
-  ending_none t = rw (t, ne_eqb _ _ n)
+use Rattle.rx.specs.Code.Ending.{no_ending, idle_ending, reply_ending, awaited_of, full_ending, ending_by, end_station, end_burst, end_words, end_level, end_member, end_recent, end_source, end_wait, end_totals}
 
 -- ### The station
 
@@ -59,14 +46,14 @@ none_station s h a =
 -- K_IDLE
 module _ (s : Station) (h : Head) (a : Air) where
   idle_none : (t : Bool) → is_member s.used (h.extra % 64) ≡ t
-      → end_station s (idle_ending (awaits false no_reply) h) h a ≡ idle_heard a h.extra s
+      → end_station s (idle_ending None h) h a ≡ idle_heard a h.extra s
   unfolding end_station
   idle_none true e = rw (e, set-get_or)
   idle_none false e = rw (e, tally_same, set-get_or, set-get_or, set-get_or)
 
   idle_waits : (r : Reply) (t o u : Bool) → is_member s.used (h.extra % 64) ≡ t → eqb r.slot (h.extra % 64) ≡ o
       → is_member s.used r.relayfor ≡ u
-      → end_station s (idle_ending (awaits true r) h) h a ≡ (idle_by (Waiting r) (h.extra % 64) (idle_heard a h.extra s)).station
+      → end_station s (idle_ending (Some r) h) h a ≡ (idle_by (Waiting r) (h.extra % 64) (idle_heard a h.extra s)).station
   unfolding end_station
   idle_waits r true true true p q v = rw (p, q, v)
   idle_waits r true true false p q v = rw (p, q, v, set-get_or)
@@ -134,7 +121,7 @@ module _ (a : Air) (h : Head) (s : Station) (x : Rx) where
   tiny_station false v = none_station s h a
 
   full_station : (v : Turn)
-      → end_station s (cond ((awaited_of v).waits && is_reply h x.sender (awaited_of v).reply) (reply_ending (awaited_of v).reply (goes_on h x.more (awaited_of v).reply)) no_ending) h a
+      → end_station s (full_ending (awaited_of v) x.sender x.more h) h a
       ≡ (reply_by v a h (end_reading s x)).station
   full_station Idle = none_station s h a
   full_station Sending = none_station s h a
@@ -151,7 +138,7 @@ module _ (a : Air) (h : Head) (s : Station) (x : Rx) where
   end_station_lem = at (eqb h.code tiny)
     where
       at : (t : Bool)
-          → end_station s (cond t (cond (eqb h.hi k_idle) (idle_ending (awaited_of s.wait.turn) h) no_ending) (cond ((awaited_of s.wait.turn).waits && is_reply h x.sender (awaited_of s.wait.turn).reply) (reply_ending (awaited_of s.wait.turn).reply (goes_on h x.more (awaited_of s.wait.turn).reply)) no_ending)) h a
+          → end_station s (cond t (cond (eqb h.hi k_idle) (idle_ending (awaited_of s.wait.turn) h) no_ending) (full_ending (awaited_of s.wait.turn) x.sender x.more h)) h a
           ≡ (cond t (cond (eqb h.hi k_idle) (idle_by s.wait.turn (h.extra % 64) (idle_heard a h.extra s)) (nothing_more s)) (reply_by s.wait.turn a h (end_reading s x))).station
       at true = tiny_station (eqb h.hi k_idle) s.wait.turn
       at false = full_station s.wait.turn
@@ -166,12 +153,12 @@ module _ (a : Air) (h : Head) (s : Station) (x : Rx) where
   tiny_burst_lem true (Waiting r) = at (eqb r.slot (h.extra % 64))
     where
       at : (o : Bool)
-          → [] ≡ (cond o (record { station = turn_over_in (one_reply (with_wait (idle_heard a h.extra s) idle_wait)) (h.extra % 64) r.relayfor; burst = []; over = some (h.extra % 64) }) (nothing_more (idle_heard a h.extra s))).burst
+          → [] ≡ (cond o (record { station = turn_over_in (one_reply (with_wait (idle_heard a h.extra s) idle_wait)) (h.extra % 64) r.relayfor; burst = []; over = Some (h.extra % 64) }) (nothing_more (idle_heard a h.extra s))).burst
       at true = refl
       at false = refl
 
   full_burst_lem : (v : Turn)
-      → end_burst s (cond ((awaited_of v).waits && is_reply h x.sender (awaited_of v).reply) (reply_ending (awaited_of v).reply (goes_on h x.more (awaited_of v).reply)) no_ending) h a x.heard
+      → end_burst s (full_ending (awaited_of v) x.sender x.more h) h a x.heard
       ≡ (reply_by v a h (end_reading s x)).burst
   unfolding end_burst
   full_burst_lem Idle = refl
@@ -189,7 +176,7 @@ module _ (a : Air) (h : Head) (s : Station) (x : Rx) where
   end_burst_lem = at (eqb h.code tiny)
     where
       at : (t : Bool)
-          → end_burst s (cond t (cond (eqb h.hi k_idle) (idle_ending (awaited_of s.wait.turn) h) no_ending) (cond ((awaited_of s.wait.turn).waits && is_reply h x.sender (awaited_of s.wait.turn).reply) (reply_ending (awaited_of s.wait.turn).reply (goes_on h x.more (awaited_of s.wait.turn).reply)) no_ending)) h a x.heard
+          → end_burst s (cond t (cond (eqb h.hi k_idle) (idle_ending (awaited_of s.wait.turn) h) no_ending) (full_ending (awaited_of s.wait.turn) x.sender x.more h)) h a x.heard
           ≡ (cond t (cond (eqb h.hi k_idle) (idle_by s.wait.turn (h.extra % 64) (idle_heard a h.extra s)) (nothing_more s)) (reply_by s.wait.turn a h (end_reading s x))).burst
       at true = tiny_burst_lem (eqb h.hi k_idle) s.wait.turn
       at false = full_burst_lem s.wait.turn

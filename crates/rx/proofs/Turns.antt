@@ -1,5 +1,6 @@
 -- The loop over the frames: what is read of the frames that are left, from the running values, is what is read of all of them from the start.
 -- Assumes nothing.
+use Rattle.std.specs.Prelude.{Some}
 use mathlib.Core.Path.{◌≡◌, refl, sym, ap, ◌∙◌, subst}
 use mathlib.Core.Bool.{false, not, cond}
 use mathlib.Core.List.{List, [], ◌∷◌, ◌++◌}
@@ -11,7 +12,6 @@ use borrow.Author.Tests.{ne_eqb}
 use Rattle.bits.proofs.Lists.{lt_or_le}
 use mathlib.Core.Logic.{⊎_elim}
 use Rattle.words.specs.Words.{Heard, Burst, parsed, item_at, peek_at, heard_of, size_of, parse, shape_of}
-use Rattle.words.specs.declared.Shape.TheVariants.{Frames}
 use Rattle.words.specs.declared.Item.{Item}
 use Rattle.words.specs.declared.Item.TheVariants as item
 use Rattle.words.proofs.Walk.{Left, left_shape, left_on, left_some, left_none, left_peek, not_bad}
@@ -85,7 +85,7 @@ module _ (a : Air) (ws : List ℕ) (n : ℕ) (s : Station) (store o : List ℕ) 
         size = refl;
       }
 
-  pub going_start : (x : Rx) → x ≡ first_rx → (0 < n → shape_of (parse ws) ≡ Frames n) → Going a ws n s store o store o s x
+  pub going_start : (x : Rx) → x ≡ first_rx → (0 < n → shape_of (parse ws) ≡ Some n) → Going a ws n s store o store o s x
   going_start x e shape =
       rw e (⊎_elim (λ h. some_yet h (left_shape ws n (shape h))) (λ h. none_yet_lem (omega arith)) (lt_or_le 0 n))
 

@@ -1,4 +1,5 @@
 -- A reception is refused, or it is a burst: what the code reads then is what `ncs_rx` says. Assumes nothing.
+use Rattle.std.specs.Prelude.{Some}
 use mathlib.Core.Path.{◌≡◌, refl, sym, ap, ◌∙◌}
 use mathlib.Core.Bool.{Bool, true, false, cond}
 use mathlib.Core.List.{List}
@@ -10,7 +11,6 @@ use lib.Ieee.{Float}
 use borrow.Author.Tests.{lt-ltb, eqb-true}
 use Rattle.wire.specs.Kinds.{tiny}
 use Rattle.words.specs.declared.Head.{Head}
-use Rattle.words.specs.declared.Shape.TheVariants.{Frames}
 use Rattle.words.specs.Words.{Burst, Parsed, parsed, parse, shape_of}
 use Rattle.words.proofs.Walk.{Left, left_shape, left_none, opened}
 use Rattle.net.specs.declared.Station.{Station}
@@ -56,7 +56,7 @@ module _ (s : Station) (b : Burst) (level now : Float) (store ws : List ℕ) (n 
 -- ### Together
 
 module _ (ws : List ℕ) (n : ℕ) (s : Station) (level now : Float) (store : List ℕ) where
-  heard_is : shape_of (parse ws) ≡ Frames n
+  heard_is : shape_of (parse ws) ≡ Some n
       → burst_read (air_of s (head_for true ws) level now) (head_for true ws) (many_of (head_for true ws) n) ws (with_wait s (busy_wait s.wait (head_for true ws) s.settings now)) store
       ≡ rx_of true ws s level now store
   heard_is shape = by (left_shape ws n shape)
@@ -73,13 +73,13 @@ module _ (ws : List ℕ) (n : ℕ) (s : Station) (level now : Float) (store : Li
   unfolding burst_read frames_read read_frames
   quiet_is = refl
 
-  rx_by_lem : (ok : Bool) → (ok ≡ true → shape_of (parse ws) ≡ Frames n)
+  rx_by_lem : (ok : Bool) → (ok ≡ true → shape_of (parse ws) ≡ Some n)
       → burst_read (air_of s (head_for ok ws) level now) (head_for ok ws) (many_of (head_for ok ws) n) ws (with_wait s (busy_wait s.wait (head_for ok ws) s.settings now)) store
       ≡ rx_of ok ws s level now store
   rx_by_lem true shape = heard_is (shape refl)
   rx_by_lem false shape = quiet_is
 
   pub rx_is : (ok : Bool) {h : Head} {a : Air} {v : Wait} {m : ℕ} → h ≡ head_for ok ws → a ≡ air_by s.wait.turn s.used h level now
-      → v ≡ busy_wait s.wait h s.settings now → m ≡ many_of h n → (ok ≡ true → shape_of (parse ws) ≡ Frames n)
+      → v ≡ busy_wait s.wait h s.settings now → m ≡ many_of h n → (ok ≡ true → shape_of (parse ws) ≡ Some n)
       → burst_read a h m ws (with_wait s v) store ≡ rx_of ok ws s level now store
   rx_is ok {h} {a} {v} {m} eh ea ev em shape = rw (ea, ev, em, eh) (rx_by_lem ok shape)

@@ -1,7 +1,5 @@
 -- `ncs_rx` of ncs.rs, around the frames: the deadline that moves, K_IDLE, and the reply to a poll.
-use Rattle.std.specs.Prelude.{ℕ, ◌+◌, ◌*◌, ◌/◌, ◌%◌, Bool, true, false, not, cond, ◌&&◌, ◌||◌, List, [], ◌∷◌, eqb, ltb, leb, Float}
-use Rattle.std.proofs.Math.Option.{Option, none, some}
-use Rattle.level.specs.declared.Clock.TheVariants.{Never, At}
+use Rattle.std.specs.Prelude.{ℕ, ◌+◌, ◌*◌, ◌/◌, ◌%◌, Bool, true, false, not, cond, ◌&&◌, ◌||◌, List, [], ◌∷◌, eqb, ltb, leb, Float, Option, Some, None}
 use Rattle.wire.specs.Fields.{snr_from_q}
 use Rattle.wire.specs.Kinds.{tiny, k_pollack, k_ack, k_idle, k_subpoll, k_suback}
 use Rattle.words.specs.declared.Head.{Head}
@@ -16,7 +14,7 @@ use Rattle.net.specs.declared.Turn.{Turn}
 use Rattle.net.specs.declared.Turn.TheVariants.{Idle, Sending, Waiting}
 use Rattle.net.specs.declared.Wait.{Wait}
 use Rattle.net.specs.State.{member_at, with_member, with_counted, with_wait, one_reply, index_of, also_noted}
-use Rattle.net.specs.Net.{plus, is_member, wait_of, idle_wait, tiny_wave, leaf_wait, Said, said, level_in}
+use Rattle.net.specs.Net.{plus, is_member, wait_of, idle_wait, tiny_wave, leaf_wait, Said, said}
 use Rattle.frames.specs.declared.Air.{Air}
 use Rattle.frames.specs.declared.Rx.{Rx}
 use Rattle.frames.specs.Reading.{Reading}
@@ -33,7 +31,7 @@ is_busy h = is_aside h || (eqb h.code tiny && (eqb h.hi k_subpoll || eqb h.hi k_
 abbrev pub postponed : Turn → Wait → Float → Wait
 postponed Idle w at = w
 postponed Sending w at = w
-postponed (Waiting r) w at = wait_of (Waiting r) (At at)
+postponed (Waiting r) w at = wait_of (Waiting r) (Some at)
 
 abbrev pub busy_wait : Wait → Head → Settings → Float → Wait
 busy_wait w h g now = cond (is_busy h) (postponed w.turn w (plus now (leaf_wait g))) w
@@ -45,7 +43,7 @@ pub record Ended : Type 0 where
   pub over : Option ℕ
 
 abbrev pub nothing_more : Station → Ended
-nothing_more s = record { station = s; burst = []; over = none }
+nothing_more s = record { station = s; burst = []; over = None }
 
 -- `turn_over(slot, relay_for)`
 abbrev pub turn_over_in : Station → ℕ → ℕ → Station
@@ -70,7 +68,7 @@ idle_by Idle slot s = nothing_more s
 idle_by Sending slot s = nothing_more s
 idle_by (Waiting r) slot s =
     cond (eqb r.slot slot)
-    (record { station = turn_over_in (one_reply (with_wait s idle_wait)) slot r.relayfor; burst = []; over = some slot })
+    (record { station = turn_over_in (one_reply (with_wait s idle_wait)) slot r.relayfor; burst = []; over = Some slot })
     (nothing_more s)
 
 unfoldable pub idle_end : Air → ℕ → Station → Ended
@@ -100,15 +98,15 @@ ack_words kind s slot burst heard = head_word tiny kind (ack_extra slot burst he
 abbrev pub answer_by : Bool → Reply → ℕ → ℕ → Station → Ended
 answer_by true r burst heard s =
     record {
-      station = with_wait s (wait_of (Waiting (record { slot = r.slot; relayfor = r.relayfor; tries = 0; turnbursts = r.turnbursts + 1 })) Never);
+      station = with_wait s (wait_of (Waiting (record { slot = r.slot; relayfor = r.relayfor; tries = 0; turnbursts = r.turnbursts + 1 })) None);
       burst = ack_words k_pollack s r.slot burst heard;
-      over = none;
+      over = None;
     }
 answer_by false r burst heard s =
     record {
-      station = turn_over_in (with_wait s (wait_of Sending Never)) r.slot r.relayfor;
+      station = turn_over_in (with_wait s (wait_of Sending None)) r.slot r.relayfor;
       burst = ack_words k_ack s r.slot burst heard;
-      over = some r.slot;
+      over = Some r.slot;
     }
 
 -- more to come: bit 2 of the high nibble, or a report; a turn has four bursts at most

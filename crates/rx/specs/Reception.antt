@@ -1,6 +1,5 @@
 -- `ncs_rx` of ncs.rs, whole.
-use Rattle.std.specs.Prelude.{ℕ, ◌≡◌, Bool, false, cond, List, [], ◌++◌, eqb, Float}
-use Rattle.std.proofs.Math.Option.{Option, none}
+use Rattle.std.specs.Prelude.{ℕ, ◌≡◌, Bool, false, cond, List, [], ◌++◌, eqb, Float, Option, None}
 use Rattle.wire.specs.Kinds.{tiny, k_idle}
 use Rattle.words.specs.Words.{Burst, Parsed, malformed, parsed, parse}
 use Rattle.words.specs.declared.Head.{Head}
@@ -62,7 +61,7 @@ ncs_rx s b level now store =
 
 -- nothing changes
 abbrev pub unheard : Station → List ℕ → Received
-unheard s store = record { station = s; store = store; words = []; unkept = 0; seen = []; over = none }
+unheard s store = record { station = s; store = store; words = []; unkept = 0; seen = []; over = None }
 
 abbrev pub rx_by : Parsed Burst → Station → Float → Float → List ℕ → Received
 rx_by malformed s level now store = unheard s store

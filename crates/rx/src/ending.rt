@@ -2,10 +2,9 @@
 ghost use Rattle.std.specs.Prelude.{◌≡◌, ◌+◌, ◌%◌};
 ghost use Rattle.out.specs.Encode.{Wrote};
 ghost use Rattle.rx.specs.Ending.{is_aside, is_busy, postponed, busy_wait, goes_on, is_reply, idle_member, reply_member, ack_extra};
-ghost use Rattle.rx.specs.Code.Ending.{no_reply, awaits, awaited_of, no_ending, idle_ending, reply_ending, ending_by, end_member, end_recent, end_source, end_wait, end_totals, end_level, end_words};
+ghost use Rattle.rx.specs.Code.Ending.{no_reply, awaited_of, is_awaited, ends, is_answer, no_ending, idle_ending, reply_ending, replied_by, ending_by, end_member, end_recent, end_source, end_wait, end_totals, end_level, end_words};
 
 use frames::{Air, Rx};
-use level::Clock;
 use net::{Reply, Settings, Totals, Turn, Wait};
 use recent::Recent;
 use roster::{Member, relay};
@@ -39,48 +38,62 @@ fn postponed(w: Wait, at: f64) -> Wait
 {
     let turn = w.turn;
     match turn {
-        Turn::Waiting(r) => net::waiting(r, Clock::At(at)),
+        Turn::Waiting(r) => net::waiting(r, Some(at)),
         Turn::Sending => w,
         Turn::Idle => w,
     }
 }
 
-// What a burst is at its end. kind 1: K_IDLE, 2: the reply to a poll, 0: neither; slot: the boat it is from; over: the turn that `reply`
-// waited in ends; more: it goes on.
+#[derive(Clone, Copy)]
+pub enum Kind {
+    Other,
+    // K_IDLE
+    Idle,
+    // the reply to a poll
+    Answer,
+}
+
+// What a burst is at its end. slot: the boat it is from; over: the turn that `reply` waited in ends; more: it goes on.
 #[derive(Clone, Copy)]
 pub struct Ending {
-    pub kind: u8,
+    pub kind: Kind,
     pub slot: u8,
     pub over: bool,
     pub more: bool,
     pub reply: Reply,
 }
 
-// Whether a reply is waited for, and which.
-#[derive(Clone, Copy)]
-struct Awaited {
-    waits: bool,
-    reply: Reply,
-}
-
-fn awaited_by(w: Wait) -> Awaited
+// The reply that is waited for.
+fn awaited_by(w: Wait) -> Option<Reply>
     ensures { result ≡ awaited_of w.turn }
 {
-    let turn = w.turn;
-    match turn {
-        Turn::Waiting(r) => awaits(true, r),
-        Turn::Sending => awaits(false, no_reply()),
-        Turn::Idle => awaits(false, no_reply()),
+    match w.turn {
+        Turn::Waiting(r) => Some(r),
+        Turn::Sending => None,
+        Turn::Idle => None,
     }
 }
 
-fn awaits(waits: bool, reply: Reply) -> Awaited
-    ensures { result ≡ awaits waits reply }
+// The reply that is waited for is one from the slot.
+fn is_awaited(w: Option<Reply>, slot: u8) -> bool
+    ensures { result ≡ is_awaited w slot }
 {
-    Awaited {
-        waits: waits,
-        reply: reply,
+    match w {
+        Some(r) => r.slot == slot,
+        None => false,
     }
+}
+
+fn ends(kind: Kind) -> bool
+    ensures { result ≡ ends kind }
+{
+    !matches!(kind, Kind::Other)
+}
+
+fn is_answer(kind: Kind) -> bool
+    ensures { result ≡ is_answer kind }
+{
+    matches!(kind, Kind::Answer)
 }
 
 fn no_reply() -> Reply
@@ -104,8 +117,16 @@ pub fn ending_of(w: Wait, x: Rx, h: Head) -> Ending
         }
         return no_ending();
     }
-    let r = a.reply;
-    if a.waits & is_reply(h, x.sender, r) {
+    match a {
+        Some(r) => replied(r, x, h),
+        None => no_ending(),
+    }
+}
+
+fn replied(r: Reply, x: Rx, h: Head) -> Ending
+    ensures { result ≡ replied_by r x.sender x.more h }
+{
+    if is_reply(h, x.sender, r) {
         return reply_ending(r, goes_on(h, x.more, r));
     }
     no_ending()
@@ -126,17 +147,16 @@ fn goes_on(h: Head, more: bool, r: Reply) -> bool
 }
 
 // K_IDLE from the polled boat ends the turn.
-fn idle_ending(w: Awaited, h: Head) -> Ending
+fn idle_ending(w: Option<Reply>, h: Head) -> Ending
     ensures { result ≡ idle_ending w h }
 {
-    let slot = low6(h.extra);
-    let r = w.reply;
+    let slot = (h.extra % 64) as u8;
     Ending {
-        kind: 1,
+        kind: Kind::Idle,
         slot: slot,
-        over: w.waits & (r.slot == slot),
+        over: is_awaited(w, slot),
         more: false,
-        reply: r,
+        reply: w.unwrap_or(no_reply()),
     }
 }
 
@@ -144,7 +164,7 @@ fn reply_ending(r: Reply, more: bool) -> Ending
     ensures { result ≡ reply_ending r more }
 {
     Ending {
-        kind: 2,
+        kind: Kind::Answer,
         slot: r.slot,
         over: !more,
         more: more,
@@ -158,7 +178,7 @@ fn no_ending() -> Ending
 {
     let r = no_reply();
     Ending {
-        kind: 0,
+        kind: Kind::Other,
         slot: 255,
         over: false,
         more: false,
@@ -169,29 +189,30 @@ fn no_ending() -> Ending
 pub fn end_member(m: Member, e: Ending, here: bool, h: Head, a: Air) -> Member
     ensures { result ≡ end_member m e here h a }
 {
-    if (e.kind == 0) | !here {
+    if !here {
         return m;
     }
-    if e.kind == 1 {
-        return idle_member(m, h.extra, a);
+    match e.kind {
+        Kind::Other => m,
+        Kind::Idle => idle_member(m, h.extra, a),
+        Kind::Answer => reply_member(m, h.hi, a),
     }
-    reply_member(m, h.hi, a)
 }
 
 // The burst's own level is one more reading of the boat that it is from.
 pub fn end_recent(r: Recent, e: Ending, here: bool, a: Air) -> Recent
     ensures { result ≡ end_recent r e here a }
 {
-    if (e.kind == 0) | !here {
-        return r;
+    if ends(e.kind) & here {
+        return recent::noted(r, a.level);
     }
-    recent::noted(r, a.level)
+    r
 }
 
 fn idle_member(m: Member, extra: u32, a: Air) -> Member
     ensures { result ≡ idle_member a extra m }
 {
-    let down = wire::snr_from_q(low6(extra / 64));
+    let down = wire::snr_from_q((extra / 64 % 64) as u8);
     let mut k = roster::received(m, a.level, down, a.time);
     k.missed = 0;
     if m.via != wire::ALL {
@@ -216,12 +237,6 @@ fn next_burst(hi: u32) -> u8
     ((hi % 4 + 1) % 4) as u8
 }
 
-fn low6(x: u32) -> u8
-    ensures { result ≡ x % 64 }
-{
-    (x % 64) as u8
-}
-
 // turn_over, where the turn ends and was to forward a member's traffic.
 pub fn end_source(hears: &[u8; 3844], used: u64, m: Member, e: Ending, source: u8) -> Member
     ensures { result ≡ end_source hears.now used m e source }
@@ -244,12 +259,12 @@ pub fn end_wait(w: Wait, e: Ending) -> Wait
             tries: 0,
             turnbursts: r.turnbursts % 4 + 1,
         };
-        return net::waiting(q, Clock::Never);
+        return net::waiting(q, None);
     }
-    if e.kind == 2 {
+    if is_answer(e.kind) {
         return Wait {
             turn: Turn::Sending,
-            deadline: Clock::Never,
+            deadline: None,
         };
     }
     if e.over {
@@ -263,7 +278,7 @@ pub fn end_totals(t: Totals, e: Ending, before: bool, after: bool) -> Totals
 {
     let mut k = t;
     k.silent = roster::tally(t.silent, before, after);
-    if (e.kind == 2) | e.over {
+    if is_answer(e.kind) | e.over {
         k.replies = bits::one_more(t.replies);
     }
     k
@@ -273,7 +288,7 @@ pub fn end_totals(t: Totals, e: Ending, before: bool, after: bool) -> Totals
 pub fn put_end(o: &mut [u32], at: usize, e: Ending, h: Head, heard: u64, lev: u32) -> usize
     ensures { Wrote o.old at (end_words e h heard lev) o.new result }
 {
-    if e.kind != 2 {
+    if !is_answer(e.kind) {
         return at;
     }
     let kind = if e.more { wire::K_POLLACK } else { wire::K_ACK };

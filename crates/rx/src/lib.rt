@@ -1,9 +1,8 @@
 // Reception (ncs_rx of ncs.rs): a tiny burst, or the frames one after the other, and then the reply.
 #![tactic(auto)]
 
-ghost use Rattle.std.specs.Prelude.{◌≡◌, true, ◌*◌, ◌<◌, ◌≤◌, length};
+ghost use Rattle.std.specs.Prelude.{◌≡◌, true, ◌*◌, ◌<◌, ◌≤◌, length, Some};
 ghost use Rattle.inbox.specs.Sizes.{cell_size};
-ghost use Rattle.words.specs.declared.Shape.TheVariants.{Frames};
 ghost use Rattle.words.specs.Words.{parse, shape_of};
 ghost use Rattle.rx.specs.Reception.{air_by, RxDid, rx_of};
 ghost use Rattle.rx.specs.Code.Reception.{head_for, many_of, burst_read};
@@ -27,7 +26,7 @@ pub fn ncs_rx(
     at: &mut usize,
     mask: &mut u64,
 ) -> Station
-    requires { ok ≡ true → (shape_of (parse words.now) ≡ Frames n) × (cell_size * s.count ≤ length lent.old) }
+    requires { ok ≡ true → (shape_of (parse words.now) ≡ Some n) × (cell_size * s.count ≤ length lent.old) }
     ensures { RxDid (rx_of ok words.now s level time lent.old) result lent.new o.old o.new at.new mask.new }
 {
     let h = head_or(words, ok);
@@ -52,10 +51,11 @@ fn read_burst(
     at: &mut usize,
     mask: &mut u64,
 ) -> Station
-    requires { 0 < n → (shape_of (parse words.now) ≡ Frames n) × (cell_size * s.count ≤ length lent.old) }
+    requires { 0 < n → (shape_of (parse words.now) ≡ Some n) × (cell_size * s.count ≤ length lent.old) }
     ensures { RxDid (burst_read a h n words.now s lent.old) result lent.new o.old o.new at.new mask.new }
 {
     let mut x = frames::first_rx();
+    // A while: x counts the frames itself, with the word where the next one stands; a for would count them a second time.
     while x.frame < n {
         let f = frames::frame_at(words, x.word);
         if f.ty == wire::T_UP {

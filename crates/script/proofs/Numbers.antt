@@ -1,6 +1,6 @@
 -- Numbers in a payload's bytes. Assumes nothing.
-use mathlib.Core.Path.{◌≡◌, refl, sym, ap, ◌∙◌}
-use mathlib.Core.Bool.{Bool, true, false, cond}
+use mathlib.Core.Path.{◌≡◌, sym, ap, ◌∙◌}
+use mathlib.Core.Bool.{Bool, true, false}
 use mathlib.Core.List.{List, [], ◌∷◌, ◌++◌}
 use Prim.Native.Nat.{ℕ, zero, suc, ◌+◌, ◌*◌, ◌<◌, ◌≤◌}
 use native.Mathlib.Numerals.{add-one}
@@ -8,7 +8,7 @@ use native.Mathlib.Omega.{arith}
 use borrow.Author.Tests.{lt-ltb, le-ltb}
 use lib.ListN.{length, get_or, take, set}
 use lib.Seq.{take_all, take-suc-set}
-use lib.Ieee.{Float, Format, binary32, of_bits, nan_bits}
+use lib.Ieee.{Float, Format, of_bits, nan_bits}
 use Rattle.script.specs.Numbers.{u32_at, u64_at, f32_at, float_of}
 use Rattle.script.specs.Settings.{f32s_at}
 

@@ -1,23 +1,34 @@
 // What a word asks for.
 ghost use Rattle.std.specs.Prelude.{◌≡◌};
-ghost use Rattle.script.specs.Actions.{is_end, ends_open, ends_burst, ends_setting, ends_post, ends_figures, rest_of, slot_of, asked, named, by_number, command_of, level_word, other_word, action_of, is_shown, time_of, level_of, timed, leveled, opened, closed, first_control};
+ghost use Rattle.script.specs.Actions.{is_end, ended, is_open, is_command, is_setting, ends_open, ends_burst, ends_setting, ends_post, ends_figures, rest_of, slot_of, asked, asked_of, named, by_number, command_of, level_word, other_word, action_of, is_shown, time_of, level_of, timed, leveled, opened, closed, first_control};
 
-// What the program holds beside the station. command: the command whose words are being read, 0 for none; words: how many there are so far;
-// cells: how many are lent; now and level: the clock and the level from here on; end: where the gathered text ends. drive: every command
-// is there, not only the tape's; panel: the panel's questions too.
+// A command whose words follow. The numbers are those of document 01, Words, of `drive` and of `panel`.
+#[derive(Clone, Copy, PartialEq, Eq, Debug)]
+pub enum Command {
+    Receive = 2,
+    Admit = 3,
+    Start = 8,
+    Clock = 9,
+    Level = 10,
+    Durations = 11,
+    Payloads = 12,
+    Post = 13,
+    Dues = 15,
+}
+
+// What the program holds beside the station. command: the command whose words are being read; cells: how many are lent; now and level: the clock
+// and the level from here on. drive: every command is there, not only the tape's; panel: the panel's questions too.
 #[derive(Clone, Copy)]
 pub struct Control {
     pub drive: bool,
     pub panel: bool,
-    pub command: u32,
-    pub words: usize,
+    pub command: Option<Command>,
     pub cells: usize,
     pub now: f64,
     pub level: f32,
-    pub end: usize,
 }
 
-#[derive(Clone, Copy)]
+#[derive(Clone, Copy, PartialEq, Eq, Debug)]
 pub enum Action {
     // A word of the open command.
     Push,
@@ -26,7 +37,7 @@ pub enum Action {
     Time,
     Level,
     // A command whose words follow.
-    Open(u32),
+    Open(Command),
     // The rest are the station's.
     Next,
     Sent,
@@ -45,14 +56,12 @@ pub fn first_control(drive: bool, panel: bool) -> Control
     ensures { result ≡ first_control drive panel }
 {
     Control {
-        drive: drive,
-        panel: panel,
-        command: 0,
-        words: 0,
+        drive,
+        panel,
+        command: None,
         cells: 10,
         now: 0.0,
         level: 0.0,
-        end: 0,
     }
 }
 
@@ -60,43 +69,19 @@ pub fn first_control(drive: bool, panel: bool) -> Control
 fn is_end(w: u32) -> bool
     ensures { result ≡ is_end w }
 {
-    let kind = w / 268435456;
-    (kind == 7) | (kind == 14) | (kind == 15)
+    matches!(w / 268435456, 7 | 14 | 15)
 }
 
-// The word ends the open command, which is run before the word is looked at.
-pub fn ends(w: u32, c: Control) -> bool
-    ensures { result ≡ ends_open w c }
+// The open command that the word ends, which is run before the word is looked at.
+pub fn ended(w: u32, c: Control) -> Option<Command>
+    ensures command { result ≡ ended w c }
+    ensures open { is_open result ≡ ends_open w c }
+    ensures burst { is_command Command.Receive result ≡ ends_burst w c }
+    ensures setting { is_setting result ≡ ends_setting w c }
+    ensures post { is_command Command.Post result ≡ ends_post w c }
+    ensures figures { is_command Command.Dues result ≡ ends_figures w c }
 {
-    is_end(w) & (c.command != 0)
-}
-
-// The word ends the words of a reception.
-pub fn ends_burst(w: u32, c: Control) -> bool
-    ensures { result ≡ ends_burst w c }
-{
-    is_end(w) & (c.command == 2)
-}
-
-// The word ends the words of a clock, a level, or durations or payloads of data bursts, which ask nothing of the station.
-pub fn ends_setting(w: u32, c: Control) -> bool
-    ensures { result ≡ ends_setting w c }
-{
-    is_end(w) & (9 <= c.command) & (c.command <= 12)
-}
-
-// The word ends the words of a posting.
-pub fn ends_post(w: u32, c: Control) -> bool
-    ensures { result ≡ ends_post w c }
-{
-    is_end(w) & (c.command == 13)
-}
-
-// The word ends the figures of the panel's dues.
-pub fn ends_figures(w: u32, c: Control) -> bool
-    ensures { result ≡ ends_figures w c }
-{
-    is_end(w) & (c.command == 15)
+    if is_end(w) { c.command } else { None }
 }
 
 // The slot of a sign-off, bits 11-4.
@@ -143,138 +128,122 @@ fn is_asked(rest: u32) -> bool
 fn by_number(w: u32) -> Action
     ensures { result ≡ by_number w }
 {
-    let command = w % 16;
-    if command == 0 {
-        return Action::Next;
+    match w % 16 {
+        0 => Action::Next,
+        1 => Action::Sent,
+        2 => Action::Open(Command::Receive),
+        3 => Action::Open(Command::Admit),
+        4 => Action::Close,
+        5 => Action::Read,
+        6 => Action::Free,
+        7 => Action::Roster,
+        8 => Action::Open(Command::Start),
+        9 => Action::Open(Command::Clock),
+        10 => Action::Open(Command::Level),
+        11 => Action::Open(Command::Durations),
+        12 => Action::Open(Command::Payloads),
+        13 => Action::Open(Command::Post),
+        14 => Action::SignOff,
+        _ => asked_of(rest_of(w)),
     }
-    if command == 1 {
-        return Action::Sent;
+}
+
+// The action of a command of the panel's own.
+fn asked_of(rest: u32) -> Action
+    ensures { result ≡ asked_of rest }
+{
+    if rest % 16 == 5 {
+        Action::Fill
+    } else if rest == 3 {
+        Action::Open(Command::Dues)
+    } else {
+        Action::Ask
     }
-    if command == 4 {
-        return Action::Close;
-    }
-    if command == 5 {
-        return Action::Read;
-    }
-    if command == 6 {
-        return Action::Free;
-    }
-    if command == 7 {
-        return Action::Roster;
-    }
-    if command == 14 {
-        return Action::SignOff;
-    }
-    if (command == 15) & (w / 16 % 16 == 5) {
-        return Action::Fill;
-    }
-    if (command == 15) & (w / 16 % 16777216 != 3) {
-        return Action::Ask;
-    }
-    Action::Open(command)
 }
 
 fn command_of(w: u32, c: Control) -> Action
     ensures { result ≡ command_of w c }
 {
     if is_named(w, c) {
-        return by_number(w);
+        by_number(w)
+    } else {
+        Action::Bad
     }
-    Action::Bad
 }
 
 fn level_word(w: u32) -> Action
     ensures { result ≡ level_word w }
 {
     if w % 268435456 < 2048 {
-        return Action::Level;
+        Action::Level
+    } else {
+        Action::Bad
     }
-    Action::Bad
 }
 
 // A word of another kind belongs to the open command.
 fn other_word(c: Control) -> Action
     ensures { result ≡ other_word c }
 {
-    if c.command != 0 {
-        return Action::Push;
+    if c.command.is_some() {
+        Action::Push
+    } else {
+        Action::Bad
     }
-    Action::Bad
 }
 
 pub fn action_of(w: u32, c: Control) -> Action
     ensures { result ≡ action_of w c }
 {
-    let kind = w / 268435456;
-    if kind == 7 {
-        return command_of(w, c);
+    match w / 268435456 {
+        7 => command_of(w, c),
+        14 => Action::Time,
+        15 => level_word(w),
+        _ => other_word(c),
     }
-    if kind == 14 {
-        return Action::Time;
-    }
-    if kind == 15 {
-        return level_word(w);
-    }
-    other_word(c)
 }
 
 // The action only shows something of the station.
 pub fn is_shown(a: Action) -> bool
     ensures { result ≡ is_shown a }
 {
-    match a {
-        Action::Read => true,
-        Action::Roster => true,
-        Action::Ask => true,
-        Action::Next => false,
-        Action::Sent => false,
-        Action::Close => false,
-        Action::Free => false,
-        Action::SignOff => false,
-        Action::Fill => false,
-        Action::Push => false,
-        Action::Bad => false,
-        Action::Time => false,
-        Action::Level => false,
-        Action::Open(_) => false,
-    }
+    matches!(a, Action::Read | Action::Roster | Action::Ask)
 }
 
 // Eighths of a second.
 pub fn timed(c: Control, w: u32) -> Control
     ensures { result ≡ timed c w }
 {
-    let mut k = c;
-    k.now = (w % 268435456) as f64 / 8.0;
-    k
+    Control {
+        now: (w % 268435456) as f64 / 8.0,
+        ..c
+    }
 }
 
 // Quarter decibels plus 800.
 pub fn leveled(c: Control, w: u32) -> Control
     ensures { result ≡ leveled c w }
 {
-    let mut k = c;
     let q = (w % 2048) as u16;
-    k.level = (q as f32 - 800.0) / 4.0;
-    k
+    Control {
+        level: (q as f32 - 800.0) / 4.0,
+        ..c
+    }
 }
 
 // A command whose words follow.
-pub fn opened(c: Control, command: u32) -> Control
+pub fn opened(c: Control, command: Command) -> Control
     ensures { result ≡ opened c command }
 {
-    let mut k = c;
-    k.command = command;
-    k.words = 0;
-    k
+    Control {
+        command: Some(command),
+        ..c
+    }
 }
 
 // The open command has been run.
 pub fn closed(c: Control) -> Control
     ensures { result ≡ closed c }
 {
-    let mut k = c;
-    k.command = 0;
-    k.words = 0;
-    k
+    Control { command: None, ..c }
 }

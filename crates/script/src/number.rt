@@ -1,8 +1,9 @@
 // Numbers in a frame's payload, lowest byte first, and the bits of floats. No NaN is made or taken apart.
-ghost use Rattle.std.specs.Prelude.{◌≡◌, ◌<◌};
+ghost use Rattle.std.specs.Prelude.{◌≡◌, ℕ, ◌+◌, ◌*◌, ◌^◌, ◌<◌, Bool, List};
 ghost use Rattle.std.specs.Float.{binary32, binary64};
 ghost use Rattle.std.specs.Float.Ieee.{nan_bits};
-ghost use Rattle.script.specs.Numbers.{u32_at, u64_at, nan32_at, nan64_at, f32_at, f64_at, bits32, bits64};
+ghost use Rattle.bits.specs.Loop.{any};
+ghost use Rattle.script.specs.Numbers.{u32_at, u64_at, float_of, bits32, bits64};
 
 fn wide(x: u8) -> u32
     ensures { (result ≡ x) × (result < 256) }
@@ -29,68 +30,139 @@ fn u64_at(p: &[u8; 255], at: usize) -> u64
     u32_at(p, at) as u64 + 4294967296 * u32_at(p, at + 4) as u64
 }
 
-// The pattern is a NaN's: the exponent is all ones, and the fraction is not 0.
-fn is_nan32(b: u32) -> bool
-    ensures { result ≡ nan_bits binary32 b }
-{
-    (b % 2147483648 / 8388608 == 255) & (b % 8388608 != 0)
-}
+// A float of one of IEEE 754's formats, and its pattern.
+pub trait Pattern: Copy {
+    type Bits: Copy;
 
-fn is_nan64(b: u64) -> bool
-    ensures { result ≡ nan_bits binary64 b }
-{
-    (b % 9223372036854775808 / 4503599627370496 == 2047) & (b % 4503599627370496 != 0)
-}
+    // How many bytes a pattern has.
+    const SIZE: usize;
 
-pub fn nan32_at(p: &[u8; 255], at: usize) -> bool
-    ensures { result ≡ nan32_at p.now at }
-{
-    is_nan32(u32_at(p, at))
-}
+    ghost SIZE: { ℕ };
 
-pub fn nan64_at(p: &[u8; 255], at: usize) -> bool
-    ensures { result ≡ nan64_at p.now at }
-{
-    is_nan64(u64_at(p, at))
-}
+    ghost pattern_at: { List ℕ → ℕ → Self.Bits };
 
-// The f32 at `at`; 0 for a NaN's pattern.
-pub fn f32_at(p: &[u8; 255], at: usize) -> f32
-    ensures { result ≡ f32_at p.now at }
-{
-    let b = u32_at(p, at);
-    if is_nan32(b) {
-        return 0.0;
+    ghost nan: { Self.Bits → Bool };
+
+    ghost float: { Self.Bits → Self };
+
+    ghost pattern: { Self → Self.Bits };
+
+    // The pattern at `at`; 0 where the payload has none.
+    fn bits_at(p: &[u8; 255], at: usize) -> Self::Bits
+        ensures { result ≡ pattern_at p.now at };
+
+    // The pattern is a NaN's: the exponent is all ones, and the fraction is not 0.
+    fn nan_bits(b: Self::Bits) -> bool
+        ensures { result ≡ nan b };
+
+    // The float of a pattern; 0 for a NaN's.
+    fn of(b: Self::Bits) -> Self
+        ensures { result ≡ float b };
+
+    // The bits of a float; of a NaN, those of one NaN.
+    fn bits(self) -> Self::Bits
+        ensures { result ≡ pattern self };
+
+    // The pattern at `at` is a NaN's.
+    final fn nan_at(p: &[u8; 255], at: usize) -> bool
+        ensures { result ≡ nan (pattern_at p.now at) }
+    {
+        Self::nan_bits(Self::bits_at(p, at))
     }
-    f32::from_bits(b)
+
+    // The float at `at`; 0 for a NaN's pattern.
+    final fn at(p: &[u8; 255], at: usize) -> Self
+        ensures { result ≡ float (pattern_at p.now at) }
+    {
+        Self::of(Self::bits_at(p, at))
+    }
 }
 
-// The f64 at `at`; 0 for a NaN's pattern.
-pub fn f64_at(p: &[u8; 255], at: usize) -> f64
-    ensures { result ≡ f64_at p.now at }
-{
-    let b = u64_at(p, at);
-    if is_nan64(b) {
-        return 0.0;
+impl Pattern for f32 {
+    type Bits = u32;
+
+    const SIZE: usize = 4;
+
+    ghost SIZE = { 4 };
+
+    ghost pattern_at = { u32_at };
+
+    ghost nan = { nan_bits binary32 };
+
+    ghost float = { float_of binary32 };
+
+    ghost pattern = { bits32 };
+
+    fn bits_at(p: &[u8; 255], at: usize) -> u32 {
+        u32_at(p, at)
     }
-    f64::from_bits(b)
+
+    fn nan_bits(b: u32) -> bool {
+        (b % 2147483648 / 8388608 == 255) & (b % 8388608 != 0)
+    }
+
+    fn of(b: u32) -> f32 {
+        if Self::nan_bits(b) {
+            return 0.0;
+        }
+        f32::from_bits(b)
+    }
+
+    fn bits(self) -> u32 {
+        if self == self {
+            return f32::to_bits(self);
+        }
+        0x7fc0_0000
+    }
 }
 
-// The bits of x; of a NaN, those of one NaN.
-pub fn bits32(x: f32) -> u32
-    ensures { result ≡ bits32 x }
-{
-    if x == x {
-        return f32::to_bits(x);
+impl Pattern for f64 {
+    type Bits = u64;
+
+    const SIZE: usize = 8;
+
+    ghost SIZE = { 8 };
+
+    ghost pattern_at = { u64_at };
+
+    ghost nan = { nan_bits binary64 };
+
+    ghost float = { float_of binary64 };
+
+    ghost pattern = { bits64 };
+
+    fn bits_at(p: &[u8; 255], at: usize) -> u64 {
+        u64_at(p, at)
     }
-    0x7fc0_0000
+
+    fn nan_bits(b: u64) -> bool {
+        (b % 9223372036854775808 / 4503599627370496 == 2047) & (b % 4503599627370496 != 0)
+    }
+
+    fn of(b: u64) -> f64 {
+        if Self::nan_bits(b) {
+            return 0.0;
+        }
+        f64::from_bits(b)
+    }
+
+    fn bits(self) -> u64 {
+        if self == self {
+            return f64::to_bits(self);
+        }
+        0x7ff8_0000_0000_0000
+    }
 }
 
-pub fn bits64(x: f64) -> u64
-    ensures { result ≡ bits64 x }
+// One of the n patterns from `at` on is a NaN's.
+pub fn any_nan<F: Pattern>(p: &[u8; 255], at: usize, n: usize) -> bool
+    requires { at + F.SIZE * n < 2 ^ 64 }
+    ensures { result ≡ any (λ i. F.nan (F.pattern_at p.now (at + F.SIZE * i))) n 0 }
 {
-    if x == x {
-        return f64::to_bits(x);
+    for i in 0..n {
+        if F::nan_at(p, at + F::SIZE * i) {
+            return true;
+        }
     }
-    0x7ff8_0000_0000_0000
+    false
 }

@@ -1,9 +1,9 @@
 -- This end's part of the invariant: what each call of the outbox keeps. Pieces are cut from what was posted, those acknowledged are covered in the book, and a
 -- message that leaves by acknowledgement is covered whole. Assumes nothing.
+use Rattle.std.specs.Prelude.{Option, Some, None}
 use mathlib.Core.Bool.{true, false, ◌&&◌}
 use mathlib.Core.List.{List, [], ◌∷◌, ◌++◌, append_assoc}
 use mathlib.Core.Logic.{◌⊎◌, inl, inr, ⊎_elim}
-use mathlib.Core.Option.{Option, none, some}
 use mathlib.Core.Path.{◌≡◌, refl, sym, ap, ◌∙◌, subst}
 use Prim.Native.Nat.{ℕ, zero, suc, ◌+◌, ◌≤◌, ◌<◌}
 use native.Mathlib.Omega.{arith}
@@ -259,15 +259,15 @@ module _ (slot : ℕ) (bodies : List (List ℕ)) where
       record { inv = b.inv; bursts = b.bursts ∙ a.bursts; left = λ q s. ⊎_elim (λ t. b.left q t) (λ t. inr t) (a.left q s) }
 
   pub acks_inv : (l : Ledger) (bits sent i : ℕ) (fs : List (Option ℕ)) (r : Run) (rest : List (List ℕ)) → RunInv l r rest
-      → ((k j : ℕ) → get_or fs k none ≡ some j → i + k < 6 → has_bit bits (i + k) ≡ true → K r.bursts l sent j)
+      → ((k j : ℕ) → get_or fs k None ≡ Some j → i + k < 6 → has_bit bits (i + k) ≡ true → K r.bursts l sent j)
       → AckedRun l r (run_after (acks_from bits sent i fs) r) rest
   unfolding acks_from run_after
   acks_inv l bits sent i [] r rest v h = record { inv = v; bursts = refl; left = λ q s. inl s }
-  acks_inv l bits sent i (none ∷ fs) r rest v h = acks_inv l bits sent (suc i) fs r rest v (λ k j e a b. later k j e a b)
+  acks_inv l bits sent i (None ∷ fs) r rest v h = acks_inv l bits sent (suc i) fs r rest v (λ k j e a b. later k j e a b)
     where
-      later : (k j : ℕ) → get_or fs k none ≡ some j → suc i + k < 6 → has_bit bits (suc i + k) ≡ true → K r.bursts l sent j
+      later : (k j : ℕ) → get_or fs k None ≡ Some j → suc i + k < 6 → has_bit bits (suc i + k) ≡ true → K r.bursts l sent j
       later k j e a b = let z : i + suc k ≡ suc i + k = omega arith in h (suc k) j e (omega arith) (subst (λ (y : ℕ). has_bit bits y ≡ true) (sym z) b)
-  acks_inv l bits sent i (some j ∷ fs) r rest v h =
+  acks_inv l bits sent i (Some j ∷ fs) r rest v h =
       cond_keeps (λ (es : List Event). AckedRun l r (run_after es r) rest) (ltb i 6 && has_bit bits i) _ _
       (λ q.
       let t = and_true (ltb i 6) (has_bit bits i) q in
@@ -278,12 +278,12 @@ module _ (slot : ℕ) (bodies : List (List ℕ)) where
       (acks_inv l bits sent (suc i) fs (step r (Ack sent j)) rest a.inv (λ k x e u w. subst (λ (bs : List (List Sent)). K bs l sent x) (sym a.bursts) (later k x e u w))))
       (λ q. acks_inv l bits sent (suc i) fs r rest v later)
     where
-      later : (k x : ℕ) → get_or fs k none ≡ some x → suc i + k < 6 → has_bit bits (suc i + k) ≡ true → K r.bursts l sent x
+      later : (k x : ℕ) → get_or fs k None ≡ Some x → suc i + k < 6 → has_bit bits (suc i + k) ≡ true → K r.bursts l sent x
       later k x e a b = let z : i + suc k ≡ suc i + k = omega arith in h (suc k) x e (omega arith) (subst (λ (y : ℕ). has_bit bits y ≡ true) (sym z) b)
 
 pub acks_bodies : (bits sent i : ℕ) (fs : List (Option ℕ)) → bodies_in (acks_from bits sent i fs) ≡ []
 unfolding acks_from bodies_in
 acks_bodies bits sent i [] = refl
-acks_bodies bits sent i (none ∷ fs) = acks_bodies bits sent (suc i) fs
-acks_bodies bits sent i (some j ∷ fs) =
+acks_bodies bits sent i (None ∷ fs) = acks_bodies bits sent (suc i) fs
+acks_bodies bits sent i (Some j ∷ fs) =
     cond_keeps (λ (es : List Event). bodies_in es ≡ []) (ltb i 6 && has_bit bits i) _ _ (λ _. acks_bodies bits sent (suc i) fs) (λ _. acks_bodies bits sent (suc i) fs)

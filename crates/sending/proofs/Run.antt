@@ -1,10 +1,10 @@
 -- The definitions run on steps that meet the premises: a message in two pieces, of which the first is lost, sent again and acknowledged. So the theorem is not
 -- empty. Each by computation; assumes nothing.
+use Rattle.std.specs.Prelude.{Some, None}
 use mathlib.Core.Path.{◌≡◌, refl, sym, subst}
 use mathlib.Core.Bool.{false}
 use mathlib.Core.List.{List, [], ◌∷◌}
 use mathlib.Core.Logic.{inl, inr}
-use mathlib.Core.Option.{none, some}
 use Prim.Native.Nat.{ℕ, zero, suc}
 use native.Mathlib.Omega.{arith}
 use lib.IntN.{pos}
@@ -107,11 +107,11 @@ opening es =
 abbrev steps : List Step
 steps =
     opening
-    (answer (head_word tiny k_pollack (ack_extra 0 0 2)) 0 (some 0 ∷ some 1 ∷ []) 0 16384 16384
+    (answer (head_word tiny k_pollack (ack_extra 0 0 2)) 0 (Some 0 ∷ Some 1 ∷ []) 0 16384 16384
     ∷ shore sent_call
     ∷ take 255 64 8192 16384 16384
     ∷ shore (hears 1 (heard 0 0 (2 ∷ 0 ∷ []) ∷ []) (0 ∷ []))
-    ∷ answer (head_word tiny k_ack (ack_extra 0 1 1)) 1 (some 0 ∷ []) 1 16384 16384
+    ∷ answer (head_word tiny k_ack (ack_extra 0 1 1)) 1 (Some 0 ∷ []) 1 16384 16384
     ∷ [])
 
 abbrev M : Stays
@@ -141,8 +141,8 @@ hi_run = record { posts = refl; holds = refl; lands = refl }
 abbrev mistaken : List Step
 mistaken =
     opening
-    (answer (head_word tiny k_pollack (ack_extra 0 0 2)) 0 (none ∷ some 0 ∷ []) 0 16384 16384
-    ∷ answer (head_word tiny k_pollack (ack_extra 0 0 2)) 0 (none ∷ some 1 ∷ []) 0 16384 16384
+    (answer (head_word tiny k_pollack (ack_extra 0 0 2)) 0 (None ∷ Some 0 ∷ []) 0 16384 16384
+    ∷ answer (head_word tiny k_pollack (ack_extra 0 0 2)) 0 (None ∷ Some 1 ∷ []) 0 16384 16384
     ∷ [])
 
 pub record Mistaken : Type 0 where
@@ -158,12 +158,12 @@ mistaken_run = record { holds = refl; handed = refl }
 abbrev gone : List Step
 gone =
     opening
-    (answer (head_word tiny k_pollack (ack_extra 0 0 2)) 0 (some 0 ∷ some 1 ∷ []) 0 16384 16384
+    (answer (head_word tiny k_pollack (ack_extra 0 0 2)) 0 (Some 0 ∷ Some 1 ∷ []) 0 16384 16384
     ∷ shore sent_call
     ∷ take 255 64 8192 16384 16384
     ∷ shore (hears 1 (heard 0 0 (2 ∷ 0 ∷ []) ∷ []) (0 ∷ []))
     ∷ shore (signing 0)
-    ∷ answer (head_word tiny k_ack (ack_extra 0 1 1)) 1 (some 0 ∷ []) 1 16384 16384
+    ∷ answer (head_word tiny k_ack (ack_extra 0 1 1)) 1 (Some 0 ∷ []) 1 16384 16384
     ∷ [])
 
 pub record Gone : Type 0 where
@@ -175,19 +175,19 @@ pub gone_run : Gone
 unfolding after sign_off_refusal sign_off_of sign_off bereave_at bereave_all clear_all clear_at unhear_all unhear_at book_ends size units round sum add mul lt le of_int of_bits first fold every any has_bit with_bit without_bit both_of either_of minus_of lowest_bit lowest_free slots_of stop level_below total_lt digit char trim_start trim_end unpacked shifted widened widened_at word_ok payload_ok unpack payload frame_of item_at frames_of head_ok parse pack frames_words chunks_of seek next grow settle store await cells.accept shows_of slide_of mark_of own_cell put_of accept heard_at relay_src_for turn_over is_member new_station on_tx_done seat_of find_call leads_to poll_burst acks_burst beacon_rows beacon_payload beyond beacon_of tell_all list_sent rx_list_burst tried_of source_for promote_at promote_all move_at move_all reroute_of mask_where rows_on least_reach least_direct poll_stage directed_to is_due list_for draw_stage reroute_stage round_end act_of window_stage again_stage due_of ncs_next piece_frame read_frame frame_step read_frames reply_end ncs_rx admit_refusal admit_of receive_refusal receive_of next_refusal next_of sent_of read_refusal cell_refusal reading_of cut_up recut picked swept sweep sweep_out fresh fresh_out lens take_out retain remove acked result item3.step cover also_handed all_below book_frame book_frames events_in acks_from done_by run_after bodies_in posted stepped runs.step
 gone_run = record { holds = refl; handed = refl }
 
-some_is : (a b : ℕ) → some a ≡ some b → a ≡ b
+some_is : (a b : ℕ) → Some a ≡ Some b → a ≡ b
 some_is a b q = cc
 
-not_some : {A : Type 0} (b : ℕ) → none ≡ some b → A
+not_some : {A : Type 0} (b : ℕ) → None ≡ Some b → A
 not_some b q = absurd (let z : ◌≡◌ {A = ℕ} 0 1 = cc in omega arith)
 
 -- which frames of a burst carried which pieces
-two_cases : (P : ℕ → ℕ → Type 0) → P 0 0 → P 1 1 → (i j : ℕ) → get_or (some 0 ∷ some 1 ∷ []) i none ≡ some j → P i j
+two_cases : (P : ℕ → ℕ → Type 0) → P 0 0 → P 1 1 → (i j : ℕ) → get_or (Some 0 ∷ Some 1 ∷ []) i None ≡ Some j → P i j
 two_cases P a b zero j q = subst (P 0) (some_is 0 j q) a
 two_cases P a b (suc zero) j q = subst (P 1) (some_is 1 j q) b
 two_cases P a b (suc (suc i)) j q = not_some j q
 
-one_case : (P : ℕ → ℕ → Type 0) → P 0 0 → (i j : ℕ) → get_or (some 0 ∷ []) i none ≡ some j → P i j
+one_case : (P : ℕ → ℕ → Type 0) → P 0 0 → (i j : ℕ) → get_or (Some 0 ∷ []) i None ≡ Some j → P i j
 one_case P a zero j q = subst (P 0) (some_is 0 j q) a
 one_case P a (suc i) j q = not_some j q
 
@@ -253,11 +253,11 @@ noisy =
     ∷ shore (admission (pack_call (66 ∷ 32 ∷ 32 ∷ 32 ∷ 32 ∷ 32 ∷ 32 ∷ [])) 63 nil 8192)
     ∷ take 2 64 8192 16384 16384
     ∷ shore (hears 4 (lost ∷ heard 0 2 (104 ∷ 105 ∷ []) ∷ heard 1 0 (2 ∷ 0 ∷ 104 ∷ []) ∷ heard 1 2 (111 ∷ 105 ∷ []) ∷ []) (0 ∷ 0 ∷ 0 ∷ 0 ∷ []))
-    ∷ answer (head_word tiny k_pollack (ack_extra 0 0 14)) 0 (some 0 ∷ some 1 ∷ []) 0 16384 16384
+    ∷ answer (head_word tiny k_pollack (ack_extra 0 0 14)) 0 (Some 0 ∷ Some 1 ∷ []) 0 16384 16384
     ∷ shore sent_call
     ∷ take 255 64 8192 16384 16384
     ∷ shore (hears 1 (heard 0 0 (2 ∷ 0 ∷ []) ∷ []) (0 ∷ []))
-    ∷ answer (head_word tiny k_ack (ack_extra 0 1 1)) 1 (some 0 ∷ []) 1 16384 16384
+    ∷ answer (head_word tiny k_ack (ack_extra 0 1 1)) 1 (Some 0 ∷ []) 1 16384 16384
     ∷ []
 
 abbrev room : Ends

@@ -1,9 +1,9 @@
 -- The theorem of request U11: every message that the sending end drops by acknowledgement of kept pieces has landed, unchanged. It stands on the definitions of
 -- `outbox` and on those that the station's entry points name, and assumes nothing.
+use Rattle.std.specs.Prelude.{Option, Some, None}
 use mathlib.Core.Bool.{Bool, true, false, cond, ◌&&◌}
 use mathlib.Core.List.{List, [], ◌∷◌, ◌++◌}
 use mathlib.Core.Logic.{◌⊎◌, inl, inr, ⊎_elim}
-use mathlib.Core.Option.{Option, none, some}
 use mathlib.Core.Path.{◌≡◌, refl, sym, ap, ◌∙◌, subst}
 use Prim.Native.Nat.{ℕ, zero, suc, ◌+◌, ◌/◌, ◌%◌, ◌≤◌, ◌<◌}
 use native.Mathlib.Omega.{arith}
@@ -40,14 +40,14 @@ use Rattle.sending.proofs.Ends.{own, K, CutOf, RunInv, event_inv, ledger_inv, Wh
 -- ---- events 2 and messages that pair off
 
 -- what is entered stays: a later event names an empty cell
-entry_stays : (count : ℕ) (es : List Event2) (ms : List Message) (f : ℕ → Option Message) (c : ℕ) (m : Message) → Pairs count es ms f → f c ≡ some m → enter_all es ms f c ≡ some m
+entry_stays : (count : ℕ) (es : List Event2) (ms : List Message) (f : ℕ → Option Message) (c : ℕ) (m : Message) → Pairs count es ms f → f c ≡ Some m → enter_all es ms f c ≡ Some m
 entry_stays count [] [] f c m p h = h
 entry_stays count [] (x ∷ ms) f c m p h = absurd p
 entry_stays count (e ∷ es) [] f c m p h = absurd p
 entry_stays count (e ∷ es) (x ∷ ms) f c m p h =
-    entry_stays count es ms (enter e.cell (some x) f) c m p.4
-    (⊎_elim (λ q. absurd (let z : some m ≡ none = sym h ∙ ap f (sym q) ∙ p.3 in let w : ◌≡◌ {A = ℕ} 0 1 = cc in omega arith))
-    (λ n. ap (λ (t : Bool). cond t (some x) (f c)) (ne_eqb e.cell c n) ∙ h) (eq_or_not e.cell c))
+    entry_stays count es ms (enter e.cell (Some x) f) c m p.4
+    (⊎_elim (λ q. absurd (let z : Some m ≡ None = sym h ∙ ap f (sym q) ∙ p.3 in let w : ◌≡◌ {A = ℕ} 0 1 = cc in omega arith))
+    (λ n. ap (λ (t : Bool). cond t (Some x) (f c)) (ne_eqb e.cell c n) ∙ h) (eq_or_not e.cell c))
 
 -- the landing of a message that is handed over
 record Lands (count : ℕ) (m : Message) (n : Net) (ls : List Landing) (f : ℕ → Option Message) : Type 0 where
@@ -57,7 +57,7 @@ record Lands (count : ℕ) (m : Message) (n : Net) (ls : List Landing) (f : ℕ 
   slot : landing.event.slot ≡ m.slot
   number : landing.event.number ≡ m.number % 256
   below : landing.event.cell < count
-  entry : f landing.event.cell ≡ some m
+  entry : f landing.event.cell ≡ Some m
   bytes : landing.bytes ≡ reading_of n.station n.store landing.event.cell
 
 lands : (count : ℕ) (es : List Event2) (ms : List Message) (f : ℕ → Option Message) (m : Message) (n : Net) → Pairs count es ms f → Among m ms
@@ -74,12 +74,12 @@ lands count (e ∷ es) (x ∷ ms) f m n p (inl q) =
       number = p.1 ∙ ap (λ (y : Message). y.number % 256) (sym q);
       below = p.2;
       entry =
-          entry_stays count es ms (enter e.cell (some x) f) e.cell x p.4 (ap (λ (t : Bool). cond t (some x) (f e.cell)) (eq-eqb e.cell e.cell refl))
-          ∙ ap (λ (y : Message). some y) (sym q);
+          entry_stays count es ms (enter e.cell (Some x) f) e.cell x p.4 (ap (λ (t : Bool). cond t (Some x) (f e.cell)) (eq-eqb e.cell e.cell refl))
+          ∙ ap (λ (y : Message). Some y) (sym q);
       bytes = refl;
     }
 lands count (e ∷ es) (x ∷ ms) f m n p (inr a) =
-    let r = lands count es ms (enter e.cell (some x) f) m n p.4 a in
+    let r = lands count es ms (enter e.cell (Some x) f) m n p.4 a in
     record { landing = r.landing; written = inr r.written; message = r.message; slot = r.slot; number = r.number; below = r.below; entry = r.entry; bytes = r.bytes }
 
 -- ---- one call of the station, in the book

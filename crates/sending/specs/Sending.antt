@@ -1,8 +1,7 @@
 -- Request U11 of document 02, the sending end and the station joined by a channel: `SendingEnd`, the last definition, is one statement over every list of steps.
 -- A step is a call of this end (`Outbox` of stream.rs), or a call of the station as item 3 has it, of any boats, refused ones too. The channel 'makes frames
 -- lost ones and loses, repeats and reorders bursts': a reception may bring any frames, in any order, and of this boat's pieces any that were sent so far.
-use Rattle.std.specs.Prelude.{ℕ, suc, ◌+◌, ◌/◌, ◌%◌, ◌≤◌, ◌<◌, ◌≡◌, Bool, true, false, cond, ◌&&◌, ◌||◌, List, [], ◌∷◌, ◌++◌, ◌⊎◌, eqb, ltb, length, get_or}
-use Rattle.std.proofs.Math.Option.{Option, none, some}
+use Rattle.std.specs.Prelude.{ℕ, suc, ◌+◌, ◌/◌, ◌%◌, ◌≤◌, ◌<◌, ◌≡◌, Bool, true, false, cond, ◌&&◌, ◌||◌, List, [], ◌∷◌, ◌++◌, ◌⊎◌, eqb, ltb, length, get_or, Option, Some, None}
 use Rattle.bits.specs.Mask.{has_bit}
 use Rattle.wire.specs.Kinds.{tiny, k_pollack, k_ack}
 use Rattle.words.specs.Words.{Heard, lost, heard, parse, head_of}
@@ -46,8 +45,8 @@ is_ack_to slot word =
 -- what it acknowledges of a burst: each of the first six frames that carried a piece and whose bit is set
 unfoldable pub acks_from : ℕ → ℕ → ℕ → List (Option ℕ) → List Event
 acks_from bits sent i [] = []
-acks_from bits sent i (none ∷ fs) = acks_from bits sent (suc i) fs
-acks_from bits sent i (some j ∷ fs) =
+acks_from bits sent i (None ∷ fs) = acks_from bits sent (suc i) fs
+acks_from bits sent i (Some j ∷ fs) =
     cond (ltb i 6 && has_bit bits i) (Ack sent j ∷ acks_from bits sent (suc i) fs) (acks_from bits sent (suc i) fs)
 
 -- ---- this end
@@ -213,7 +212,7 @@ pub record MadeFor (slot : ℕ) (x : Ends) (word sent : ℕ) (frames : List (Opt
   pub came : Among r x.receptions
   pub returned : Among word r.words
   pub ack : is_ack_to slot word ≡ true
-  pub carried : (i j : ℕ) → get_or frames i none ≡ some j
+  pub carried : (i j : ℕ) → get_or frames i None ≡ Some j
       → Is x.run.bursts sent j × Carried slot (get_or r.frames i lost) (get_or r.numbers i 0) (piece x.run.bursts sent j)
 
 -- of a step; 'numbers stay within the window' here: a posting that is not refused finds a number that no other message has

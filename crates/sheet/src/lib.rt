@@ -4,7 +4,10 @@
 ghost use Rattle.std.specs.Prelude.{◌≡◌, [], ◌*◌, ◌≤◌, ◌<◌, length, get_or};
 ghost use Rattle.std.proofs.Math.Seq.{paste};
 ghost use Rattle.wire.specs.Call.{packed};
+ghost use Rattle.refusal.specs.Numbers.{number_in};
 ghost use Rattle.sheet.specs.Sheet.{short_calls, refusal, written};
+
+use refusal::Refusal;
 
 // How many short calls there are, and the bytes of their sheet.
 pub const CALLS: usize = 1407;
@@ -14,19 +17,17 @@ pub const SHEET: usize = 9849;
 // 38 to the power 5: the number of a call is this times that of its first two characters, where none follow.
 const PLACE: u64 = 79235168;
 
-// The whole sheet, to the front of the output; 4 for an output that cannot hold it.
-pub fn short_calls(out: &mut [u8]) -> u8
-    ensures { (result ≡ refusal out.old) × (out.new ≡ written out.old) }
+// The whole sheet, to the front of the output; refused where the output cannot hold it.
+pub fn short_calls(out: &mut [u8]) -> Result<(), Refusal>
+    ensures { (number_in result ≡ refusal out.old) × (out.new ≡ written out.old) }
 {
     if out.len() < SHEET {
-        return 4;
+        return Err(Refusal::SmallOut);
     }
-    let mut k = 0;
-    while k < CALLS {
+    for k in 0..CALLS {
         put_call(out, k);
-        k += 1;
     }
-    0
+    Ok(())
 }
 
 // Call k at its place on the sheet.
@@ -34,13 +35,8 @@ fn put_call(out: &mut [u8], k: usize)
     requires { (k < 1407) × (9849 ≤ length out.old) }
     ensures { out.new ≡ paste out.old (7 * k) (get_or short_calls k []) 7 }
 {
-    let call = wire::calls::unpack_number(number_at(k));
     let at = 7 * k;
-    let mut j = 0;
-    while j < 7 {
-        out[at + j] = call[j];
-        j += 1;
-    }
+    out[at..at + 7].copy_from_slice(&wire::calls::unpack_number(number_at(k)));
 }
 
 // The packed number of call k. The empty call has 0; from `0` on the first two characters count up by one, and those of `0` are 38.

@@ -1,11 +1,10 @@
 -- The theorem `faithful`: reading back what was written is the identity, for every station. Assumes nothing.
-use mathlib.Core.Path.{◌≡◌, refl, sym, ap, ◌∙◌}
+use Rattle.std.specs.Prelude.{Option, Some, None, Float}
+use mathlib.Core.Path.{◌≡◌, refl, ap}
 use mathlib.Core.Bool.{Bool, true, false}
 use mathlib.Core.List.{List, [], ◌∷◌, map}
 use Rattle.level.specs.declared.Level.{Level}
 use Rattle.level.specs.declared.Level.TheVariants.{Unheard, Decibels}
-use Rattle.level.specs.declared.Clock.{Clock}
-use Rattle.level.specs.declared.Clock.TheVariants.{Never, At}
 use Rattle.queue.specs.declared.Queue.{Queue}
 use Rattle.roster.specs.declared.Member.{Member}
 use Rattle.net.specs.declared.Turn.{Turn}
@@ -13,10 +12,10 @@ use Rattle.net.specs.declared.Turn.TheVariants.{Idle, Sending, Waiting}
 use Rattle.net.specs.declared.Wait.{Wait}
 use Rattle.net.specs.declared.Settings.{Settings}
 use Rattle.net.specs.declared.Round.{Round}
-use Rattle.net.specs.declared.Station.{Station}
+use Rattle.outbox.specs.declared.sender.Message.{Message}
 use Rattle.outbox.specs.declared.sender.Sender.{Sender}
-use Rattle.shore.specs.Sending.{sender_of, outgoing_of}
-use Rattle.shore.specs.Blocks.{flag_of, is_set, reading_of, level_of, time_of, clock_of, await_by, await_of, turn_of, wait_of, setup_of, settings_of, course_of, round_of, boat_of, member_of, line_of, queue_of, block_of, station_of, Faithful}
+use Rattle.shore.specs.Sending.{messages_of, sender_of, outgoing_of}
+use Rattle.shore.specs.Blocks.{flag_of, is_set, reading_of, level_of, time_of, clock_of, await_by, await_of, wait_of, setup_of, settings_of, course_of, round_of, boat_of, member_of, line_of, queue_of, block_of, station_of, Faithful}
 
 flag_back : (b : Bool) → is_set (flag_of b) ≡ b
 flag_back true = refl
@@ -26,11 +25,11 @@ pub level_back : (x : Level) → level_of (reading_of x) ≡ x
 level_back Unheard = refl
 level_back (Decibels x) = refl
 
-pub clock_back : (t : Clock) → clock_of (time_of t) ≡ t
-clock_back Never = refl
-clock_back (At t) = refl
+pub clock_back : (t : Option Float) → clock_of (time_of t) ≡ t
+clock_back None = refl
+clock_back (Some t) = refl
 
-turn_back : (t : Turn) (d : Clock) → wait_of (await_by t d) ≡ record { turn = t; deadline = d }
+turn_back : (t : Turn) (d : Option Float) → wait_of (await_by t d) ≡ record { turn = t; deadline = d }
 turn_back Idle d = rw (clock_back d)
 turn_back Sending d = rw (clock_back d)
 turn_back (Waiting r) d = rw (clock_back d)
@@ -74,6 +73,11 @@ faithful s =
     )
 
 -- the same of the sending end
+messages_back : (l : List Message) → messages_of (map (λ m. m.seq) l) (map (λ m. m.total) l) (map (λ m. m.cut) l) ≡ l
+unfolding messages_of
+messages_back [] = refl
+messages_back (m ∷ l) = ap (λ (x : List Message). m ∷ x) (messages_back l)
+
 pub sender_back : (s : Sender) → sender_of (outgoing_of s) ≡ s
 unfolding sender_of outgoing_of
-sender_back s = refl
+sender_back s = ap (λ (x : List Message). record { next = s.next; count = s.count; messages = x }) (messages_back s.messages)

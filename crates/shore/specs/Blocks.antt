@@ -1,12 +1,10 @@
 -- The station as a host holds it: every part of `Block` in numbers and arrays, and the station that a block says. No float is converted: its bits stay as they are.
 use mir.Val.{bool_byte}
-use Rattle.std.specs.Prelude.{ℕ, ◌≡◌, Bool, not, cond, List, map, eqb, Float}
+use Rattle.std.specs.Prelude.{ℕ, ◌≡◌, Bool, not, cond, List, map, eqb, Float, Option, Some, None}
 use Rattle.std.specs.Float.Ieee.{of_bits}
 use Rattle.std.specs.Float.{binary32, binary64}
 use Rattle.level.specs.declared.Level.{Level}
 use Rattle.level.specs.declared.Level.TheVariants.{Unheard, Decibels}
-use Rattle.level.specs.declared.Clock.{Clock}
-use Rattle.level.specs.declared.Clock.TheVariants.{Never, At}
 use Rattle.queue.specs.declared.Queue.{Queue}
 use Rattle.roster.specs.declared.Member.{Member}
 use Rattle.net.specs.declared.Reply.{Reply}
@@ -41,23 +39,23 @@ reading_of (Decibels x) = record { heard = 1; decibels = x }
 abbrev pub level_of : Reading → Level
 level_of x = cond (eqb x.heard 0) Unheard (Decibels x.decibels)
 
-abbrev pub time_of : Clock → Time
-time_of Never = record { known = 0; seconds = of_bits binary64 0 }
-time_of (At t) = record { known = 1; seconds = t }
+abbrev pub time_of : Option Float → Time
+time_of None = record { known = 0; seconds = of_bits binary64 0 }
+time_of (Some t) = record { known = 1; seconds = t }
 
-abbrev pub clock_of : Time → Clock
-clock_of t = cond (eqb t.known 0) Never (At t.seconds)
+abbrev pub clock_of : Time → Option Float
+clock_of t = cond (eqb t.known 0) None (Some t.seconds)
 
 -- ---- the turn: 0 idle, 1 sending, any other waits for a reply
 
 abbrev pub no_reply : Reply
 no_reply = record { slot = 0; relayfor = 0; tries = 0; turnbursts = 0 }
 
-abbrev pub await_made : ℕ → Reply → Clock → Await
+abbrev pub await_made : ℕ → Reply → Option Float → Await
 await_made turn r d =
     record { turn = turn; slot = r.slot; relayfor = r.relayfor; tries = r.tries; turnbursts = r.turnbursts; deadline = time_of d }
 
-abbrev pub await_by : Turn → Clock → Await
+abbrev pub await_by : Turn → Option Float → Await
 await_by Idle d = await_made 0 no_reply d
 await_by Sending d = await_made 1 no_reply d
 await_by (Waiting r) d = await_made 2 r d

@@ -1,12 +1,13 @@
 -- What a host gives at the start, and what each exported call gives back: the entry point's own answer, with the station as a block.
-use Rattle.std.specs.Prelude.{ℕ, ◌≡◌, List}
+use Rattle.std.specs.Prelude.{ℕ, ◌≡◌, Bool, List, replicate, Result, Ok, Err}
+use Rattle.refusal.specs.declared.Refusal.{Refusal}
+use Rattle.refusal.specs.Numbers as refusals
 use Rattle.level.specs.declared.Level.TheVariants.{Unheard}
 use Rattle.config.specs.declared.Given.{Given}
 use Rattle.stream.specs.Window.{bitmap_of}
 use Rattle.net.specs.declared.Station.{Station}
 use Rattle.net.specs.State.{member_at, queue_at}
 use Rattle.dues.specs.declared.Bill.{Bill}
-use Rattle.logs.specs.declared.Verdict.{Verdict}
 use Rattle.logs.specs.Turns as turns
 use Rattle.station.specs.declared.Answer.{Answer}
 use Rattle.station.specs.declared.Answered.{Answered}
@@ -50,11 +51,12 @@ abbrev pub counts_of : Station → ℕ → Counts
 counts_of s slot =
     record { next = (member_at s slot).up.next; posted = (queue_at s slot).posted; kept = (queue_at s slot).kept; reported = (queue_at s slot).reported; bitmap = bitmap_of (member_at s slot).up; burst = (member_at s slot).burst }
 
-abbrev pub month_of : Bill → Month
-month_of b = record { takings = b.takings; charges = b.charges; credits = b.credits; refusal = b.refusal }
+abbrev pub month_of : Result Bill Refusal → Month
+month_of (Ok b) = record { takings = b.takings; charges = b.charges; credits = b.credits; refusal = 0 }
+month_of (Err r) = record { takings = 0; charges = replicate 62 0; credits = replicate 62 0; refusal = refusals.number_of r }
 
-abbrev pub checked_of : Verdict → Checked
-checked_of v = record { refusal = turns.number_in v; accepted = flag_of (turns.is_accepted v) }
+abbrev pub checked_of : Result Bool Refusal → Checked
+checked_of v = record { refusal = refusals.number_in v; accepted = flag_of (turns.is_accepted v) }
 
 -- The block of a station is read back as that block, and so a refused call gives back the very block that it was given: n is the call's refusal, o what it
 -- would have done. (A block that no call gave may come back in the form that calls give: a flag of 7 as 1.)

@@ -8,9 +8,9 @@ use super::{pack, unpack};
 use config::Given;
 use dues::Bill;
 use level::Level;
-use logs::Verdict;
 use net::Station;
 use queue::Queue;
+use refusal::Refusal;
 use station::show::Entry;
 use station::{Answer, Answered, Heard, Lowest};
 use stream::window;
@@ -85,7 +85,7 @@ pub struct Counts {
     pub burst: u8,
 }
 
-// dues::Bill.
+// dues::Bill, or why there is none.
 #[repr(C)]
 #[derive(Clone, Copy)]
 pub struct Month {
@@ -95,7 +95,7 @@ pub struct Month {
     pub refusal: u8,
 }
 
-// logs::Verdict.
+// Why a log is sent back, or whether it is accepted.
 #[repr(C)]
 #[derive(Clone, Copy)]
 pub struct Checked {
@@ -217,33 +217,42 @@ pub fn counts_of(s: Station, slot: u8) -> Counts
     }
 }
 
-pub fn month_of(b: Bill) -> Month
-    ensures { result ≡ month_of b }
+pub fn month_of(answer: Result<Bill, Refusal>) -> Month
+    ensures { result ≡ month_of answer }
 {
-    let charges = b.charges;
-    let credits = b.credits;
-    Month {
-        takings: b.takings,
-        charges: charges,
-        credits: credits,
-        refusal: b.refusal,
+    match answer {
+        Ok(b) => {
+            let charges = b.charges;
+            let credits = b.credits;
+            Month {
+                takings: b.takings,
+                charges,
+                credits,
+                refusal: 0,
+            }
+        }
+        Err(r) => {
+            let none = [0u32; 62];
+            Month {
+                takings: 0,
+                charges: none,
+                credits: none,
+                refusal: u8::from(r),
+            }
+        }
     }
 }
 
-pub fn checked_of(v: Verdict) -> Checked
-    ensures { result ≡ checked_of v }
+pub fn checked_of(answer: Result<bool, Refusal>) -> Checked
+    ensures { result ≡ checked_of answer }
 {
-    match v {
-        Verdict::Refused(n) => Checked {
-            refusal: n,
-            accepted: 0,
-        },
-        Verdict::Accepted => Checked {
+    match answer {
+        Ok(accepted) => Checked {
             refusal: 0,
-            accepted: 1,
+            accepted: accepted as u8,
         },
-        Verdict::Rejected => Checked {
-            refusal: 0,
+        Err(r) => Checked {
+            refusal: u8::from(r),
             accepted: 0,
         },
     }

@@ -13,7 +13,7 @@ pub struct Reading {
     pub decibels: f32,
 }
 
-// level::Clock: the seconds, where known.
+// Option<f64>: the seconds, where known.
 #[repr(C)]
 #[derive(Clone, Copy)]
 pub struct Time {

@@ -209,5 +209,5 @@ pub fn shore_turn_check(words: &[u32]) -> Checked
 pub fn shore_short_calls(out: &mut [u8]) -> u8
     ensures { (result ≡ refusal out.old) × (out.new ≡ written out.old) }
 {
-    sheet::short_calls(out)
+    refusal::number_in(&sheet::short_calls(out))
 }

@@ -3,7 +3,7 @@ ghost use Rattle.std.specs.Prelude.{◌≡◌, map};
 ghost use Rattle.shore.specs.Blocks.{reading_of, time_of, await_made, await_by, setup_of, course_of, boat_of, line_of, block_of};
 
 use super::block::{Await, Block, Boat, Course, Line, Reading, Setup, Time};
-use level::{Clock, Level};
+use level::Level;
 use net::{Reply, Round, Settings, Station, Turn, Wait};
 use queue::Queue;
 use roster::Member;
@@ -23,22 +23,22 @@ pub fn reading_of(x: Level) -> Reading
     }
 }
 
-pub fn time_of(c: Clock) -> Time
+pub fn time_of(c: Option<f64>) -> Time
     ensures { result ≡ time_of c }
 {
     match c {
-        Clock::Never => Time {
+        None => Time {
             known: 0,
             seconds: 0.0,
         },
-        Clock::At(t) => Time {
+        Some(t) => Time {
             known: 1,
             seconds: t,
         },
     }
 }
 
-fn await_made(turn: u8, r: Reply, d: Clock) -> Await
+fn await_made(turn: u8, r: Reply, d: Option<f64>) -> Await
     ensures { result ≡ await_made turn r d }
 {
     Await {

@@ -5,12 +5,12 @@ ghost use Rattle.outbox.specs.Outbox.{push_msg, ack, held, stale, has_new, with_
 ghost use Rattle.outbox.specs.Bursts.{sent_words};
 ghost use Rattle.outbox.specs.Senders.{outbox, unless, none, post_refusal, take_refusal, both_refusal, memory_refusal, pending_of};
 ghost use Rattle.shore.specs.Blocks.{flag_of};
-ghost use Rattle.shore.specs.Sending.{sender_of, outgoing_of, left_of, taken_of, waiting_of};
+ghost use Rattle.shore.specs.Sending.{sender_of, outgoing_of, left_of, waiting_of};
 
-use outbox::sender::{Answered, Sender, Waiting};
-use outbox::taking::Taken;
+use outbox::sender::{Message, Sender};
+use refusal::{Refusal, number_in};
 
-// outbox::sender::Sender.
+// outbox::sender::Sender; C has its messages' numbers in an array for each.
 #[repr(C)]
 #[derive(Clone, Copy)]
 pub struct Outgoing {
@@ -30,7 +30,7 @@ pub struct Left {
     pub refusal: u8,
 }
 
-// outbox::sender::Waiting.
+// How many bytes are to be sent or in flight.
 #[repr(C)]
 #[derive(Clone, Copy)]
 pub struct Unsent {
@@ -41,66 +41,68 @@ pub struct Unsent {
 fn sender_of(o: Outgoing) -> Sender
     ensures { result ≡ sender_of o }
 {
-    let seqs = o.seqs;
-    let totals = o.totals;
-    let cuts = o.cuts;
+    let none = Message {
+        seq: 0,
+        total: 0,
+        cut: 0,
+    };
+    let mut messages = [none; 8];
+    for i in 0..8 {
+        messages[i] = Message {
+            seq: o.seqs[i],
+            total: o.totals[i],
+            cut: o.cuts[i],
+        };
+    }
     Sender {
         next: o.next,
         count: o.count,
-        seqs: seqs,
-        totals: totals,
-        cuts: cuts,
+        messages,
     }
 }
 
 fn outgoing_of(s: Sender) -> Outgoing
     ensures { result ≡ outgoing_of s }
 {
-    let seqs = s.seqs;
-    let totals = s.totals;
-    let cuts = s.cuts;
+    let mut seqs = [0u32; 8];
+    let mut totals = [0u16; 8];
+    let mut cuts = [0u16; 8];
+    for i in 0..8 {
+        let m = s.messages[i];
+        seqs[i] = m.seq;
+        totals[i] = m.total;
+        cuts[i] = m.cut;
+    }
     Outgoing {
         count: s.count,
         next: s.next,
-        seqs: seqs,
-        totals: totals,
-        cuts: cuts,
+        seqs,
+        totals,
+        cuts,
     }
 }
 
-fn left_of(x: Answered) -> Left
-    ensures { result ≡ left_of x }
+fn left_of(s: Sender, words: usize, refusal: u8) -> Left
+    ensures { result ≡ left_of s words refusal }
 {
-    let s = x.sender;
     Left {
         sender: outgoing_of(s),
-        words: 0,
-        refusal: x.refusal,
+        words,
+        refusal,
     }
 }
 
-fn taken_of(x: Taken) -> Left
-    ensures { result ≡ taken_of x }
-{
-    let s = x.sender;
-    Left {
-        sender: outgoing_of(s),
-        words: x.words,
-        refusal: x.refusal,
-    }
-}
-
-fn waiting_of(w: Waiting) -> Unsent
+fn waiting_of(w: Result<usize, Refusal>) -> Unsent
     ensures { result ≡ waiting_of w }
 {
     match w {
-        Waiting::Bytes(n) => Unsent {
+        Ok(n) => Unsent {
             bytes: n,
             refusal: 0,
         },
-        Waiting::Refused(n) => Unsent {
+        Err(r) => Unsent {
             bytes: 0,
-            refusal: n,
+            refusal: u8::from(r),
         },
     }
 }
@@ -119,8 +121,9 @@ pub fn shore_sender_post(o: Outgoing, bytes: &mut [u8], body: &[u8]) -> Left
         ≡ unless result.refusal (outbox (sender_of o) bytes.old marks) (push_msg (outbox (sender_of o) bytes.old marks) body.now) }
     ensures untouched { (result.refusal ≡ 0 → ⊥) → (sender_of result.sender ≡ sender_of o) × (bytes.new ≡ bytes.old) }
 {
-    let s = sender_of(o);
-    left_of(outbox::sender::post(s, bytes, body))
+    let mut s = sender_of(o);
+    let answer = outbox::sender::post(&mut s, bytes, body);
+    left_of(s, 0, number_in(&answer))
 }
 
 // Up to `room` pieces of at most `max` bytes: lost ones first, then new, then stale.
@@ -140,8 +143,11 @@ pub fn shore_sender_take(
         (sent_words (take_out max room (outbox (sender_of o) bytes.now marks.old)).out) []) out.new result.words }
     ensures untouched { (result.refusal ≡ 0 → ⊥) → (sender_of result.sender ≡ sender_of o) × (marks.new ≡ marks.old) }
 {
-    let s = sender_of(o);
-    taken_of(outbox::taking::take(s, bytes, marks, max, room, out))
+    let mut s = sender_of(o);
+    match outbox::taking::take(&mut s, bytes, marks, max, room, out) {
+        Ok(n) => left_of(s, n, 0),
+        Err(r) => left_of(s, 0, u8::from(r)),
+    }
 }
 
 // The piece of message seq at off was acknowledged.
@@ -158,8 +164,9 @@ pub fn shore_sender_ack(
     ensures untouched { (result.refusal ≡ 0 → ⊥) → (sender_of result.sender ≡ sender_of o)
         × ((bytes.new ≡ bytes.old) × (marks.new ≡ marks.old)) }
 {
-    let s = sender_of(o);
-    left_of(outbox::leave::ack(s, bytes, marks, seq, off))
+    let mut s = sender_of(o);
+    let answer = outbox::leave::ack(&mut s, bytes, marks, seq, off);
+    left_of(s, 0, number_in(&answer))
 }
 
 // The far end holds every message below `next`, and those in `also`.
@@ -177,8 +184,9 @@ pub fn shore_sender_held(
     ensures untouched { (result.refusal ≡ 0 → ⊥) → (sender_of result.sender ≡ sender_of o)
         × ((bytes.new ≡ bytes.old) × (marks.new ≡ marks.old)) }
 {
-    let s = sender_of(o);
-    left_of(outbox::leave::held(s, bytes, marks, next, also))
+    let mut s = sender_of(o);
+    let answer = outbox::leave::held(&mut s, bytes, marks, next, also);
+    left_of(s, 0, number_in(&answer))
 }
 
 // Our last burst got no answer at all.
@@ -189,7 +197,7 @@ pub fn shore_sender_stale(o: Outgoing, marks: &mut [u8]) -> u8
     ensures untouched { (result ≡ 0 → ⊥) → marks.new ≡ marks.old }
 {
     let s = sender_of(o);
-    outbox::sender::stale(s, marks)
+    number_in(&outbox::sender::stale(s, marks))
 }
 
 // How many bytes are not sent yet, or in flight.

@@ -3,7 +3,7 @@ ghost use Rattle.std.specs.Prelude.{◌≡◌, map};
 ghost use Rattle.shore.specs.Blocks.{level_of, clock_of, turn_of, wait_of, settings_of, round_of, member_of, queue_of, station_of};
 
 use super::block::{Await, Block, Boat, Course, Line, Reading, Setup, Time};
-use level::{Clock, Level};
+use level::Level;
 use net::{Reply, Round, Settings, Station, Turn, Wait};
 use queue::Queue;
 use roster::Member;
@@ -17,13 +17,13 @@ fn level_of(x: Reading) -> Level
     Level::Decibels(x.decibels)
 }
 
-fn clock_of(t: Time) -> Clock
+fn clock_of(t: Time) -> Option<f64>
     ensures { result ≡ clock_of t }
 {
     if t.known == 0 {
-        return Clock::Never;
+        return None;
     }
-    Clock::At(t.seconds)
+    Some(t.seconds)
 }
 
 fn turn_of(w: Await) -> Turn

@@ -2,15 +2,12 @@
 #![tactic(auto)]
 
 ghost use Rattle.std.specs.Prelude.{◌≡◌, cond, ◌<◌, leb};
-ghost use Rattle.bits.specs.Mask.{without_bit};
-ghost use Rattle.recent.specs.Readings.{empty};
 ghost use Rattle.roster.specs.Members.{tally};
 ghost use Rattle.net.specs.State.{with_table, table_of, with_hears};
 ghost use Rattle.signoff.specs.SignOff.{vacant, bereft, bereave_all, clear_all, unhear_all, strike_round, strike_by, strike_wait, sign_off};
 
 use level::Level;
 use net::{Reply, Round, Station, Turn, Wait};
-use recent::Recent;
 use roster::Member;
 
 // What a start has in every slot.
@@ -27,13 +24,10 @@ fn bereft(m: Member, slot: u8, limit: u32) -> Member
     let mut k = m;
     k.tried = bits::without(m.tried, slot as usize);
     if m.via == slot {
-        let down = m.snrdown;
-        let direct = m.direct;
-        let last = m.lastheard;
-        let mut c = roster::with_links(k, Level::Unheard, down, direct, last);
-        c.via = wire::ALL;
-        c.missed = limit;
-        return c;
+        k.snrup = Level::Unheard;
+        k.via = wire::ALL;
+        k.missed = limit;
+        return k;
     }
     k
 }
@@ -57,32 +51,20 @@ fn bereft_if(yes: bool, m: Member, slot: u8, limit: u32) -> Member
     m
 }
 
-// None where the up level is unheard now.
-fn recent_if(lost: bool, r: Recent) -> Recent
-    ensures { result ≡ cond lost empty r }
-{
-    if lost {
-        return recent::empty();
-    }
-    r
-}
-
 fn bereave_all(mut s: Station, slot: u8) -> Station
     ensures { result ≡ bereave_all slot s }
 {
-    let mut i: usize = 0;
-    while i < 62 {
+    for i in 0..62 {
         let m = s.members[i];
         let limit = s.settings.misslimit;
         let here = bits::has(s.used, i);
         let k = bereft_if(here, m, slot, limit);
         s.members[i] = k;
         let r = s.recent[i];
-        let q = recent_if(here & (m.via == slot), r);
+        let q = net::recent_if(r, here & (m.via == slot));
         s.recent[i] = q;
         let silent = tally_if(s.totals.silent, here, limit, m, k);
         s.totals.silent = silent;
-        i += 1;
     }
     s
 }
@@ -127,25 +109,14 @@ fn strike_round(mut r: Round, slot: u8) -> Round
     r
 }
 
-pub fn without_if(mask: u64, cell: usize, yes: bool) -> u64
-    ensures { result ≡ cond yes (without_bit mask cell) mask }
-{
-    if yes {
-        return bits::without(mask, cell);
-    }
-    mask
-}
-
 fn clear_all(mut s: Station, slot: u8) -> Station
     ensures { result ≡ with_table s (clear_all slot (table_of s)) }
 {
-    let mut c: usize = 0;
-    while c < 64 {
+    for c in 0..64 {
         let o = s.owners[c];
         let yes = bits::has(s.busy, c) & (o / 4294967296 == slot as u64);
-        s.landed = without_if(s.landed, c, yes);
-        s.busy = without_if(s.busy, c, yes);
-        c += 1;
+        s.landed = bits::without_if(s.landed, yes, c);
+        s.busy = bits::without_if(s.busy, yes, c);
     }
     s
 }
@@ -155,11 +126,9 @@ fn unhear_all(mut s: Station, slot: u8) -> Station
     ensures { result ≡ with_hears s (unhear_all slot s.hears) }
 {
     let a = slot as usize;
-    let mut i: usize = 0;
-    while i < 62 {
+    for i in 0..62 {
         s.hears[a * 62 + i] = wire::UNHEARD;
         s.hears[i * 62 + a] = wire::UNHEARD;
-        i += 1;
     }
     s
 }

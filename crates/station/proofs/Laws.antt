@@ -1,4 +1,5 @@
 -- What a call answers, by its refusal. Knows nothing of the code. Assumes nothing.
+use Rattle.std.specs.Prelude.{Some, None}
 use mathlib.Core.Path.{◌≡◌, refl, sym, ap, ◌∙◌}
 use mathlib.Core.Bool.{Bool, true, false, cond, ◌||◌}
 use mathlib.Core.List.{List, []}
@@ -10,7 +11,6 @@ use lib.Ieee.{Float}
 use lib.ListN.{length, drop}
 use lib.Seq.{sets}
 use Rattle.level.specs.Spans.{up_to, within}
-use Rattle.words.specs.declared.Shape.TheVariants.{Malformed, Frames}
 use Rattle.words.specs.Words.{Burst, Parsed, malformed, parsed, parse, shape_of}
 use Rattle.words.proofs.Walk.{opened, frames_count}
 use Rattle.out.specs.Encode.{after}
@@ -24,11 +24,9 @@ use Rattle.queue.specs.Queues.{space_refusal}
 use Rattle.net.specs.State.{with_round, queue_at, with_queue, table_of, with_table}
 use Rattle.net.proofs.Laws.{queue_again}
 use Rattle.net.specs.Net.{is_member, Said, said, Did}
-use Rattle.station.specs.declared.Answer.{Answer}
 use Rattle.station.specs.declared.Answer.TheVariants.{Refused, Words}
 use Rattle.rx.specs.Reception.{RxDid, rx_by, rx_of, unheard}
 use Rattle.station.specs.declared.Answered.{Answered}
-use Rattle.station.specs.declared.Heard.{Heard}
 use Rattle.station.specs.Entries.{answered, unless, done, refused, read_refusal, post_refusal, cell_refusal, receive_refusal, receive_check, frames_or65, check1, check2, check3, receive_by, receive_of, heard_of}
 
 -- a call that is refused by n unless n is 0: the parts of its answer go by the same test
@@ -152,13 +150,13 @@ receive_with n p s snr now store {r} {t} {l} {m} {j} {k} never = go (eqb n 0) re
     go false e q f x = (rw (x.station, x.unkept, e), x.store, x.wrote.out)
 
 -- the refusal by a flag is that of the words
-pub check_is : (room size count : ℕ) (now snr : Float) (p : Parsed Burst) (n : ℕ) → shape_of p ≡ Frames n → n ≤ 64
+pub check_is : (room size count : ℕ) (now snr : Float) (p : Parsed Burst) (n : ℕ) → shape_of p ≡ Some n → n ≤ 64
     → receive_check room size count now snr (ltb 64 n) ≡ receive_refusal room size count now snr p
 unfolding receive_refusal
 check_is room size count now snr malformed n e l = let z : ◌≡◌ {A = ℕ} 0 1 = cc in absurd (omega arith)
 check_is room size count now snr (parsed b) n e l = rw (le-ltb 64 n l)
 
-pub check_bad : (room size count : ℕ) (now snr : Float) (p : Parsed Burst) → shape_of p ≡ Malformed
+pub check_bad : (room size count : ℕ) (now snr : Float) (p : Parsed Burst) → shape_of p ≡ None
     → receive_check room size count now snr true ≡ receive_refusal room size count now snr p
 unfolding receive_refusal
 check_bad room size count now snr malformed e = refl
@@ -185,11 +183,11 @@ store_in room size count now snr p f = at (ltb room 8192) (ltb (size / 6400) cou
 
 -- what a reception that is not refused may count on: the words are a burst of so many frames, and the store has the station's cells
 pub receive_ready : (room size count : ℕ) (now snr : Float) (ws : List ℕ) → receive_refusal room size count now snr (parse ws) ≡ 0
-    → (shape_of (parse ws) ≡ Frames (frames_or65 (shape_of (parse ws)))) × (6400 * count ≤ size)
+    → (shape_of (parse ws) ≡ Some (frames_or65 (shape_of (parse ws)))) × (6400 * count ≤ size)
 receive_ready room size count now snr ws e = go (parse ws) e
   where
     go : (p : Parsed Burst) → receive_refusal room size count now snr p ≡ 0
-        → (shape_of p ≡ Frames (frames_or65 (shape_of p))) × (6400 * count ≤ size)
+        → (shape_of p ≡ Some (frames_or65 (shape_of p))) × (6400 * count ≤ size)
     go malformed g = absurd (malformed_refused room size count now snr g)
     go (parsed b) g = (refl, store_in room size count now snr (parsed b) g)
 
@@ -199,7 +197,7 @@ module _ (room size count : ℕ) (now snr : Float) (ws : List ℕ) (n num : ℕ)
   pub receive_no : num ≡ receive_refusal room size count now snr (parse ws)
   receive_no = r ∙ ap (λ (k : ℕ). receive_check room size count now snr (ltb 64 k)) f ∙ checked room size count now snr ws
 
-  pub receive_asked : eqb num 0 ≡ true → (shape_of (parse ws) ≡ Frames n) × (6400 * count ≤ size)
+  pub receive_asked : eqb num 0 ≡ true → (shape_of (parse ws) ≡ Some n) × (6400 * count ≤ size)
   receive_asked e = rw f (receive_ready room size count now snr ws (sym receive_no ∙ eqb-true num 0 e))
 
   pub receive_bad : parse ws ≡ malformed → num ≡ 0 → ⊥

@@ -1,11 +1,9 @@
 -- The entry points, whole: document 01's checks in its order (4, 7, 1, 2, 3, 5, 6, 8, 9, then 21, 22, 23), and what a call that none of them refuses does.
 -- A refusal is its number, and 0 is none; a refused call gives its number alone, and station, store and output keep every value.
-use Rattle.std.specs.Prelude.{ℕ, ◌+◌, ◌/◌, Bool, true, false, not, cond, ◌&&◌, ◌||◌, List, [], eqb, ltb, leb, length, take, drop, Float}
+use Rattle.std.specs.Prelude.{ℕ, ◌+◌, ◌/◌, Bool, true, cond, ◌||◌, List, [], eqb, ltb, leb, length, Float, Option, Some, None}
 use Rattle.bits.specs.Mask.{has_bit}
 use Rattle.level.specs.Spans.{up_to, within}
 use Rattle.wire.specs.Call.{unpack_call}
-use Rattle.words.specs.declared.Shape.{Shape}
-use Rattle.words.specs.declared.Shape.TheVariants.{Malformed, Frames}
 use Rattle.words.specs.Words.{Burst, Parsed, malformed, parsed, parse}
 use Rattle.inbox.specs.Messages.{framed}
 use Rattle.inbox.specs.Stores.{message_of}
@@ -140,9 +138,9 @@ receive_refusal room size count now snr burst =
 abbrev pub receive_check : ℕ → ℕ → ℕ → Float → Float → Bool → ℕ
 receive_check room size count now snr bad = check4 room (check7 size count (check1 now (check2 snr (cond bad 3 0))))
 
-abbrev pub frames_or65 : Shape → ℕ
-frames_or65 Malformed = 65
-frames_or65 (Frames n) = n
+abbrev pub frames_or65 : Option ℕ → ℕ
+frames_or65 None = 65
+frames_or65 (Some n) = n
 
 unfoldable pub receive_of : Station → List ℕ → Float → Float → List ℕ → ℕ → Outcome
 receive_of s words snr now store room =

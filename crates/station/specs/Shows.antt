@@ -1,5 +1,5 @@
 -- `roster` of ncs.rs: what is shown of the boat in a slot, and whom it hears.
-use Rattle.std.specs.Prelude.{ℕ, Bool, cond, ◌&&◌, ltb}
+use Rattle.std.specs.Prelude.{ℕ, cond, ◌&&◌, ltb}
 use Rattle.level.specs.declared.Level.{Level}
 use Rattle.level.specs.declared.Level.TheVariants.{Unheard}
 use Rattle.wire.specs.Fields.{snr_from_q}

@@ -1,7 +1,5 @@
 -- Request U13 of document 02: 'Before a crossing the dispatcher wants a boat's poorest signal of late.' The entry point, checks 8 and 21; the station is only read.
-use Rattle.std.specs.Prelude.{ℕ, cond, eqb, Float}
-use Rattle.std.proofs.Math.Option.{Option, none}
-use Rattle.level.specs.declared.Level.{Level}
+use Rattle.std.specs.Prelude.{ℕ, cond, eqb, Float, Option, None}
 use Rattle.level.specs.Levels.{decibels_in}
 use Rattle.recent.specs.Readings.{worst}
 use Rattle.net.specs.declared.Station.{Station}
@@ -22,5 +20,5 @@ refusal_in (Is level) = 0
 
 -- the decibels that an answer is; none for a refusal, and where nothing was heard
 abbrev pub decibels_of : Lowest → Option Float
-decibels_of (Refused n) = none
+decibels_of (Refused n) = None
 decibels_of (Is level) = decibels_in level

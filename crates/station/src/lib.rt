@@ -18,7 +18,6 @@ use config::Given;
 use level::Level;
 use net::Station;
 use queue::Queue;
-use words::Shape;
 
 pub mod show;
 
@@ -152,13 +151,13 @@ pub fn admit(mut s: Station, packed: [u8; 5], relay: u8, time: f64, o: &mut [u32
     let k = admit::member_if(m, fresh, call, via, time);
     s.members[i] = k;
     let r = s.recent[i];
-    let z = admit::recent_if(r, fresh);
+    let z = net::recent_if(r, fresh);
     s.recent[i] = z;
     let q = s.queues[i];
     let y = admit::queue_if(q, fresh);
     s.queues[i] = y;
-    s.used = admit::with_if(s.used, fresh, i);
-    let acks = admit::with_if(s.round.toack, !admit::is_full(seat), i);
+    s.used = bits::with_if(s.used, fresh, i);
+    let acks = bits::with_if(s.round.toack, !admit::is_full(seat), i);
     s.round.toack = acks;
     let at = admit::events_if(o, 0, fresh, slot, via);
     Answered {
@@ -174,8 +173,8 @@ fn frames_in(words: &[u32]) -> usize
     ensures { result ≡ frames_or65 (shape_of (parse words.now)) }
 {
     match words::shape_of(words) {
-        Shape::Malformed => 65,
-        Shape::Frames(n) => n,
+        None => 65,
+        Some(n) => n,
     }
 }
 
@@ -342,8 +341,8 @@ pub fn free(mut s: Station, cell: usize) -> Answered
     ensures { result ≡ answered (free_of s cell) 0 }
 {
     let no = cell_refusal(s.count, s.landed, cell);
-    s.landed = signoff::without_if(s.landed, cell, no == 0);
-    s.busy = signoff::without_if(s.busy, cell, no == 0);
+    s.landed = bits::without_if(s.landed, no == 0, cell);
+    s.busy = bits::without_if(s.busy, no == 0, cell);
     Answered {
         station: s,
         answer: answer_of(no, 0),

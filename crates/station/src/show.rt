@@ -2,7 +2,7 @@
 ghost use Rattle.std.specs.Prelude.{◌≡◌};
 ghost use Rattle.station.specs.Shows.{entry_of, hears_of};
 
-use level::{Clock, Level};
+use level::Level;
 use net::Station;
 
 // RosterEntry of net.rs: the boat in a slot. `cap` is its level cap.
@@ -14,7 +14,7 @@ pub struct Entry {
     pub snrup: Level,
     pub snrdown: Level,
     pub cap: u32,
-    pub lastheard: Clock,
+    pub lastheard: Option<f64>,
     pub missed: u32,
     pub bytesin: u32,
     pub hascaps: bool,

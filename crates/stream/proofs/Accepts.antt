@@ -1,4 +1,5 @@
 -- What a boat's piece does, by its four cases; and that table, store and window stay what they are known to be. Assumes nothing.
+use Rattle.std.specs.Prelude.{Option, Some, None, is_some}
 use mathlib.Core.Path.{◌≡◌, refl, sym, ap, ◌∙◌, subst}
 use mathlib.Core.Bool.{Bool, true, false, cond, ◌&&◌, ◌||◌}
 use mathlib.Core.List.{List}
@@ -10,14 +11,11 @@ use lib.Dec.{eqb, ltb}
 use borrow.Author.Tests.{ltb-true}
 use Rattle.bits.specs.Mask.{has_bit}
 use Rattle.bits.proofs.Lists.{cond_true, cond_false, cases, le_or_lt, never_both, or_false}
-use Rattle.wire.specs.declared.number.Number.{Number}
-use Rattle.wire.specs.declared.number.Number.TheVariants.{Is, Before}
 use Rattle.wire.specs.Numbers.{widened, widened_at, distance, numbers}
 use Rattle.wire.proofs.Near.{widened_at_lem}
 use Rattle.inbox.specs.declared.cell.Cell.{Cell}
 use Rattle.inbox.specs.declared.keep.Kept.{Kept}
 use Rattle.inbox.specs.declared.keep.Kept.TheVariants.{Needless, Yes, Late, Overlong, Long, NoCell, NoPlace}
-use Rattle.inbox.specs.declared.store.Landed.TheVariants.{NotYet}
 use Rattle.inbox.specs.Cells.{Held, held}
 use Rattle.inbox.specs.Messages.{Fits, shows_of}
 use Rattle.inbox.specs.Stores.{cell_of, landed_of}
@@ -28,7 +26,7 @@ use Rattle.stream.specs.declared.window.Window.{Window}
 use Rattle.stream.specs.declared.table.Room.{Room}
 use Rattle.stream.specs.declared.table.Room.TheVariants.{Own, Free, Full}
 use Rattle.stream.specs.Window.{handed_of, land_of, barred_of, bar_of}
-use Rattle.stream.specs.Table.{Table, Accepted, accept, accept_by, accept_in, accepted, passed, table_room, cell_at, cell_for, held_for, place_of, has_room, owner_of, is_over, kept_for, take_by, put_of, put_in, joined_of, changes, bars, is_lost, has_landed, barred_table}
+use Rattle.stream.specs.Table.{Table, Accepted, accept, accept_by, accept_in, accepted, passed, table_room, cell_at, cell_for, held_for, place_of, has_room, owner_of, is_over, kept_for, take_by, put_of, put_in, joined_of, changes, bars, is_lost, barred_table}
 use Rattle.stream.proofs.Takes.{changes_yes, bars_over, joined_length}
 use Rattle.stream.proofs.Tables.{Tidy, kept_tidy, kept_other, freed_other, barred_tidy, place_below, place_in, room_only}
 use Rattle.stream.proofs.Windows.{Sound, sound_next, sound_land, sound_bar, land_at, land_bars, bar_handed, bar_bars, handed_low}
@@ -42,7 +40,7 @@ or_no false = refl
 -- a piece that the rule does not keep, or that changes nothing: only the answer tells of it
 abbrev pub left_as : Table → Window → List ℕ → ℕ → ℕ → Kept → Accepted
 left_as t w store c k a =
-    record { table = t; window = w; store = store; lost = is_lost a; bars = false; landed = NotYet; cell = c; number = k }
+    record { table = t; window = w; store = store; lost = is_lost a; bars = false; landed = None; cell = c; number = k }
 
 -- a piece of a message that claims too much: its own cell is free, and the number barred
 abbrev pub barred_as : Table → Window → List ℕ → ℕ → ℕ → Accepted
@@ -53,7 +51,7 @@ barred_as t w store slot k =
       store = store;
       lost = true;
       bars = true;
-      landed = NotYet;
+      landed = None;
       cell = place_of (table_room t slot k);
       number = k;
     }
@@ -94,24 +92,24 @@ put_by t w store slot k offset p room cell = refl
 module _ (t : Table) (w : Window) (store : List ℕ) (slot field : ℕ) (p : List ℕ) where
   -- the piece is of message k, which is not handed over
   pub record Open (k : ℕ) : Type 0 where
-    pub is : widened (field / 65536 % 256) w.next ≡ Is k
+    pub is : widened (field / 65536 % 256) w.next ≡ Some k
     pub fresh : handed_of w k ≡ false
 
   -- the three ways, as the code takes them
-  pub accept_none : widened (field / 65536 % 256) w.next ≡ Before → accept t w store slot field p ≡ passed t w store 0
+  pub accept_none : widened (field / 65536 % 256) w.next ≡ None → accept t w store slot field p ≡ passed t w store 0
   unfolding accept
-  accept_none e = ap (λ (n : Number). accept_by n t w store slot (field % 65536) p) e
+  accept_none e = ap (λ (n : Option ℕ). accept_by n t w store slot (field % 65536) p) e
 
-  pub accept_old : (k : ℕ) → widened (field / 65536 % 256) w.next ≡ Is k → handed_of w k ≡ true
+  pub accept_old : (k : ℕ) → widened (field / 65536 % 256) w.next ≡ Some k → handed_of w k ≡ true
       → accept t w store slot field p ≡ passed t w store k
   unfolding accept
-  accept_old k e h = ap (λ (n : Number). accept_by n t w store slot (field % 65536) p) e ∙ cond_true (handed_of w k) _ _ h
+  accept_old k e h = ap (λ (n : Option ℕ). accept_by n t w store slot (field % 65536) p) e ∙ cond_true (handed_of w k) _ _ h
 
   pub accept_open : (k : ℕ) → Open k
       → accept t w store slot field p ≡ accept_in t w store slot k (field % 65536) p (table_room t slot k)
   unfolding accept
   accept_open k o =
-      ap (λ (n : Number). accept_by n t w store slot (field % 65536) p) o.is ∙ cond_false (handed_of w k) _ _ o.fresh
+      ap (λ (n : Option ℕ). accept_by n t w store slot (field % 65536) p) o.is ∙ cond_false (handed_of w k) _ _ o.fresh
 
   -- what the rule's answer makes of the piece
   abbrev answered : ℕ → Kept → Accepted
@@ -145,8 +143,8 @@ module _ (t : Table) (w : Window) (store : List ℕ) (slot field : ℕ) (p : Lis
 
   -- what holds in each case holds of the piece: number none; handed over; not kept or needless; claiming too much; kept
   pub accept_cases : (P : Accepted → Type 0)
-      → (widened (field / 65536 % 256) w.next ≡ Before → P (passed t w store 0))
-      → ((k : ℕ) → widened (field / 65536 % 256) w.next ≡ Is k → handed_of w k ≡ true → P (passed t w store k))
+      → (widened (field / 65536 % 256) w.next ≡ None → P (passed t w store 0))
+      → ((k : ℕ) → widened (field / 65536 % 256) w.next ≡ Some k → handed_of w k ≡ true → P (passed t w store k))
       → ((k : ℕ) → Open k → (a : Kept) → answer_of t w store slot k (field % 65536) p ≡ a → changes a ≡ false → bars a ≡ false
       → P (left_as t w store (cell_in t slot k) k a))
       → ((k : ℕ) → Open k → answer_of t w store slot k (field % 65536) p ≡ Overlong → P (barred_as t w store slot k))
@@ -155,9 +153,9 @@ module _ (t : Table) (w : Window) (store : List ℕ) (slot field : ℕ) (p : Lis
   unfolding accept
   accept_cases P none old left bar put = go (widened (field / 65536 % 256) w.next) refl
     where
-      go : (n : Number) → widened (field / 65536 % 256) w.next ≡ n → P (accept_by n t w store slot (field % 65536) p)
-      go Before e = none e
-      go (Is k) e = by (handed_of w k) refl
+      go : (n : Option ℕ) → widened (field / 65536 % 256) w.next ≡ n → P (accept_by n t w store slot (field % 65536) p)
+      go None e = none e
+      go (Some k) e = by (handed_of w k) refl
         where
           by : (b : Bool) → handed_of w k ≡ b
               → P (cond b (passed t w store k) (accept_in t w store slot k (field % 65536) p (table_room t slot k)))
@@ -168,20 +166,20 @@ module _ (t : Table) (w : Window) (store : List ℕ) (slot field : ℕ) (p : Lis
 -- ---- the number, and the window
 
 -- a number made whole is at most 127 above next
-pub widen_most : (s n k : ℕ) → n ≤ numbers → widened s n ≡ Is k → k ≤ n + 127
+pub widen_most : (s n k : ℕ) → n ≤ numbers → widened s n ≡ Some k → k ≤ n + 127
 widen_most s n k h e = at (sym (widened_at_lem s n h) ∙ e)
   where
-    at : widened_at s n ≡ Is k → k ≤ n + 127
+    at : widened_at s n ≡ Some k → k ≤ n + 127
     at = unfold widened_at in go (ltb (distance s n) 128) (ltb n (256 - distance s n)) refl
       where
         go : (a b : Bool) → ltb (distance s n) 128 ≡ a
-            → cond a (Is (n + distance s n)) (cond b Before (Is (n - (256 - distance s n)))) ≡ Is k → k ≤ n + 127
+            → cond a (Some (n + distance s n)) (cond b None (Some (n - (256 - distance s n)))) ≡ Some k → k ≤ n + 127
         go true b q z = let l = ltb-true (distance s n) 128 q in let y : n + distance s n ≡ k = cc in omega arith
         go false true q z = absurd (let y : ◌≡◌ {A = ℕ} 0 1 = cc in omega arith)
         go false false q z = let y : n - (256 - distance s n) ≡ k = cc in omega arith
 
 -- a message that is not handed over and whose number was made whole near next lies in the window
-pub open_window : (w : Window) (s k : ℕ) → Sound w → widened s w.next ≡ Is k → handed_of w k ≡ false → (w.next ≤ k) × (k ≤ w.next + 127)
+pub open_window : (w : Window) (s k : ℕ) → Sound w → widened s w.next ≡ Some k → handed_of w k ≡ false → (w.next ≤ k) × (k ≤ w.next + 127)
 open_window w s k sound e f =
     let n = sound_next w sound in
     (⊎_elim (λ l. l) (λ l. absurd (never_both (handed_of w k) (handed_low w k l) f)) (le_or_lt w.next k), widen_most s w.next k n e)
@@ -312,13 +310,13 @@ module _ (t : Table) (w : Window) (store : List ℕ) (slot field : ℕ) (p : Lis
 
     pub accept_window : Sound (accept t w store slot field p).window
         × ((j : ℕ) → handed_of (accept t w store slot field p).window j
-        ≡ handed_of w j || (has_landed (accept t w store slot field p).landed && eqb j (accept t w store slot field p).number))
+        ≡ handed_of w j || (is_some (accept t w store slot field p).landed && eqb j (accept t w store slot field p).number))
         × ((j : ℕ) → barred_of (accept t w store slot field p).window j
         ≡ barred_of w j || ((accept t w store slot field p).bars && eqb j (accept t w store slot field p).number))
     accept_window =
-        accept_cases t w store slot field p (λ x. Moves x.window (has_landed x.landed) x.bars x.number)
+        accept_cases t w store slot field p (λ x. Moves x.window (is_some x.landed) x.bars x.number)
         (λ e. stays 0)
         (λ k e h. stays k)
         (λ k o a q c z. stays k)
         (λ k o q. barred_window k o)
-        (λ k o q. landed_window k o q (has_landed (landed_of (held_after t store slot k (field % 65536) p))))
+        (λ k o q. landed_window k o q (is_some (landed_of (held_after t store slot k (field % 65536) p))))

@@ -6,7 +6,7 @@ use Prim.Native.Nat.{ℕ, zero, suc, ◌+◌, ◌-◌, ◌*◌, ◌/◌, ◌%◌
 use native.Mathlib.Nat.{mul-le-mul_left, mul-suc, add_comm, add-lt-add_of_lt_of_le, lt_of_lt_of_le, le_refl}
 use lib.Pow.{pow-add}
 use native.Mathlib.Omega.{arith}
-use lib.Dec.{eqb, leb, ltb}
+use lib.Dec.{eqb}
 use borrow.Author.Tests.{lt-ltb, le-ltb, le-leb, eq-eqb, ne_eqb}
 use Rattle.bits.specs.Mask.{has_bit, with_bit}
 use Rattle.bits.specs.Stop.{stop}

@@ -1,5 +1,6 @@
 -- What the room for a piece says: the cell is below the count, its own cell is filling with the message, a free one is not taken.
 -- Assumes nothing.
+use Rattle.std.specs.Prelude.{Option, Some, None}
 use mathlib.Core.Path.{◌≡◌, refl, ap, ◌∙◌}
 use mathlib.Core.Bool.{Bool, true, false, not, cond, ◌&&◌}
 use mathlib.Core.List.{List}
@@ -9,8 +10,6 @@ use native.Mathlib.Omega.{arith}
 use lib.ListN.{get_or}
 use lib.Dec.{eqb}
 use borrow.Author.Tests.{lt-ltb, le-ltb, eq-eqb, eqb-true, not-true}
-use Rattle.bits.specs.declared.Found.{Found}
-use Rattle.bits.specs.declared.Found.TheVariants.{At, Nothing}
 use Rattle.bits.specs.Mask.{has_bit, lowest_free}
 use Rattle.bits.proofs.Laws.{free_lt, free_is, free_none}
 use Rattle.bits.proofs.Lists.{and_true, le_or_lt}
@@ -76,11 +75,11 @@ module _ (owners : List ℕ) (busy landed owner : ℕ) where
     RoomIs (Free c) = FreeAt c
     RoomIs Full = NoneLeft
 
-    own_none : own_cell owners busy landed n owner ≡ Nothing → (d : ℕ) → d < n → is_own busy landed d (get_or owners d 0) owner ≡ false
+    own_none : own_cell owners busy landed n owner ≡ None → (d : ℕ) → d < n → is_own busy landed d (get_or owners d 0) owner ≡ false
     unfolding own_cell
     own_none e d l = first_nothing (λ c. is_own busy landed c (get_or owners c 0) owner) n 0 e d (omega arith) (omega arith)
 
-    own_some : (c : ℕ) → own_cell owners busy landed n owner ≡ At c → OwnAt c
+    own_some : (c : ℕ) → own_cell owners busy landed n owner ≡ Some c → OwnAt c
     unfolding own_cell
     own_some c e =
         let r = first_found (λ c. is_own busy landed c (get_or owners c 0) owner) n 0 c e in
@@ -89,7 +88,7 @@ module _ (owners : List ℕ) (busy landed owner : ℕ) where
     pub room_is : RoomIs (room_of (own_cell owners busy landed n owner) (lowest_free busy n))
     room_is = go (own_cell owners busy landed n owner) (lowest_free busy n) refl refl
       where
-        go : (a b : Found) → own_cell owners busy landed n owner ≡ a → lowest_free busy n ≡ b → RoomIs (room_of a b)
-        go (At c) b p q = own_some c p
-        go Nothing (At c) p q = record { below = free_lt busy n c q; unused = free_is busy n c q; none = own_none p }
-        go Nothing Nothing p q = record { all = free_none busy n q; none = own_none p }
+        go : (a b : Option ℕ) → own_cell owners busy landed n owner ≡ a → lowest_free busy n ≡ b → RoomIs (room_of a b)
+        go (Some c) b p q = own_some c p
+        go None (Some c) p q = record { below = free_lt busy n c q; unused = free_is busy n c q; none = own_none p }
+        go None None p q = record { all = free_none busy n q; none = own_none p }

@@ -1,5 +1,6 @@
 -- What the table is known to be, and that a kept piece and a freed cell leave it so. Assumes nothing.
-use mathlib.Core.Path.{◌≡◌, refl, sym, ap, ◌∙◌, subst}
+use Rattle.std.specs.Prelude.{is_some}
+use mathlib.Core.Path.{◌≡◌, sym, ap, ◌∙◌, subst}
 use mathlib.Core.Bool.{Bool, true, false, cond}
 use mathlib.Core.List.{List}
 use mathlib.Core.Logic.{⊎_elim}
@@ -15,7 +16,7 @@ use Rattle.inbox.proofs.Steps.{empty_fits}
 use Rattle.stream.specs.declared.table.Room.{Room}
 use Rattle.stream.specs.declared.table.Room.TheVariants.{Own, Free, Full}
 use Rattle.stream.specs.declared.table.Taken.{Taken}
-use Rattle.stream.specs.Table.{Table, no_cell, cell_at, owner_of, cell_count, place_of, has_room, has_landed, kept_table, freed_table, barred_table, start_table, table_room}
+use Rattle.stream.specs.Table.{Table, no_cell, cell_at, owner_of, cell_count, place_of, has_room, kept_table, freed_table, barred_table, start_table, table_room}
 use Rattle.stream.proofs.Rooms.{Filling, filling_own, RoomIs, room_is, cells_are}
 
 -- cell c is filling with the message `owner`
@@ -87,7 +88,7 @@ module _ (t : Table) (store : List ℕ) (tidy : Tidy t store) (slot k : ℕ) whe
 
 module _ (t : Table) (c owner : ℕ) (x : Taken) where
   landed_other : (j : ℕ) → (c ≡ j → ⊥) → has_bit (kept_table t c owner x).landed j ≡ has_bit t.landed j
-  landed_other j n = go (has_landed x.landed)
+  landed_other j n = go (is_some x.landed)
     where
       go : (b : Bool) → has_bit (cond b (with_bit t.landed c) (without_bit t.landed c)) j ≡ has_bit t.landed j
       go true = with_other t.landed c j n
@@ -147,7 +148,7 @@ module _ (t : Table) (c owner : ℕ) (x : Taken) where
           owners = length-set t.owners c owner ∙ tidy.owners;
           cells = length-set t.cells c x.cell ∙ tidy.cells;
           busy = with_fits t.busy c tidy.busy;
-          landed = landed_fits (has_landed x.landed);
+          landed = landed_fits (is_some x.landed);
           within = λ j e. ⊎_elim (λ q. subst (λ (y : ℕ). y < t.count) (sym q) below) (λ q. tidy.within j (sym (kept_other j q).0 ∙ e)) (eq_or_not j c);
           taken = λ j e. ⊎_elim (λ q. at_c j q) (λ q. (kept_other j q).0 ∙ tidy.taken j (sym (kept_other j q).1 ∙ e)) (eq_or_not j c);
           fits = λ j l. ⊎_elim (λ q. fits_c j q) (λ q. subst Fits (sym (kept_other j q).3) (tidy.fits j l)) (eq_or_not j c);

@@ -1,4 +1,5 @@
 -- A piece taken: what the calls give is what the definition says. Assumes nothing.
+use Rattle.std.specs.Prelude.{Option}
 use mathlib.Core.Path.{◌≡◌, refl, sym, ap, ap₂, ◌∙◌}
 use mathlib.Core.Bool.{Bool, true, false}
 use mathlib.Core.List.{List}
@@ -9,7 +10,6 @@ use lib.Seq.{length-take-le}
 use Rattle.inbox.specs.declared.cell.Cell.{Cell}
 use Rattle.inbox.specs.declared.keep.Kept.{Kept}
 use Rattle.inbox.specs.declared.keep.Kept.TheVariants.{Needless, Yes, Late, Overlong, Long, NoCell, NoPlace}
-use Rattle.inbox.specs.declared.store.Landed.{Landed}
 use Rattle.inbox.specs.Cells.{held}
 use Rattle.inbox.specs.Stores.{cell_of, in_cell, landed_of}
 use Rattle.inbox.specs.Keeping.{kept_of}
@@ -39,7 +39,7 @@ module _ (s : List ℕ) (c : ℕ) (cell : Cell) (o : ℕ) (p : List ℕ) (fits :
   joined_length = accept_length 6400 (omega arith) (held cell (cell_of s c)) o p (cell_length s c fits) short room
 
   -- a kept piece joined, and its message asked for
-  pub put_is : (r : Cell) (s' : List ℕ) (x : Landed)
+  pub put_is : (r : Cell) (s' : List ℕ) (x : Option ℕ)
       → r ≡ (joined_of s c cell o p).cell → s' ≡ in_cell s c (joined_of s c cell o p).bytes → x ≡ landed_of (held r (cell_of s' c))
       → took (record { cell = r; kept = Yes; landed = x }) s' ≡ put_of s c cell o p
   unfolding put_of
@@ -51,7 +51,7 @@ module _ (s : List ℕ) (c : ℕ) (cell : Cell) (o : ℕ) (p : List ℕ) (fits :
       ∙ ap (λ (y : List ℕ). landed_of (held (joined_of s c cell o p).cell y)) (in_same s c (joined_of s c cell o p).bytes fits joined_length) in
       same_took r _ x _ s' _ a e b
     where
-      same_took : (r r₁ : Cell) (x x₁ : Landed) (t t₁ : List ℕ) → r ≡ r₁ → x ≡ x₁ → t ≡ t₁
+      same_took : (r r₁ : Cell) (x x₁ : Option ℕ) (t t₁ : List ℕ) → r ≡ r₁ → x ≡ x₁ → t ≡ t₁
           → took (record { cell = r; kept = Yes; landed = x }) t ≡ took (record { cell = r₁; kept = Yes; landed = x₁ }) t₁
       same_took r r₁ x x₁ t t₁ a b d = rw (a, b, d)
 

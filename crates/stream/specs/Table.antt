@@ -1,18 +1,12 @@
 -- `MsgIn::accept` of stream.rs, with the cells of document 01 ('Message cell') for its map of messages: the table of the station's cells,
 -- and what a boat's piece does to it, to the lent store and to the boat's window. Messages that claim too much are document 02's, U4.
-use Rattle.std.specs.Prelude.{ℕ, ◌+◌, ◌*◌, ◌/◌, ◌%◌, ◌^◌, Bool, true, false, not, cond, ◌&&◌, ◌||◌, List, [], length, get_or, set, replicate, eqb, ltb}
-use Rattle.bits.specs.declared.Found.{Found}
-use Rattle.bits.specs.declared.Found.TheVariants.{At, Nothing}
+use Rattle.std.specs.Prelude.{ℕ, ◌+◌, ◌*◌, ◌/◌, ◌%◌, ◌^◌, Bool, true, false, not, cond, ◌&&◌, ◌||◌, List, [], length, get_or, set, replicate, eqb, ltb, Option, Some, None, is_some}
 use Rattle.bits.specs.Loop.{first}
 use Rattle.bits.specs.Mask.{has_bit, with_bit, without_bit, lowest_free}
-use Rattle.wire.specs.declared.number.Number.{Number}
-use Rattle.wire.specs.declared.number.Number.TheVariants.{Is, Before}
 use Rattle.wire.specs.Numbers.{widened}
 use Rattle.inbox.specs.declared.cell.Cell.{Cell}
 use Rattle.inbox.specs.declared.keep.Kept.{Kept}
 use Rattle.inbox.specs.declared.keep.Kept.TheVariants.{Needless, Yes, Late, Overlong, Long, NoCell, NoPlace}
-use Rattle.inbox.specs.declared.store.Landed.{Landed}
-use Rattle.inbox.specs.declared.store.Landed.TheVariants.{Bytes, NotYet}
 use Rattle.inbox.specs.Cells.{Held, held}
 use Rattle.inbox.specs.Cells as cells
 use Rattle.inbox.specs.Keeping.{kept_of, test_of}
@@ -38,13 +32,13 @@ is_own busy landed c holds owner = has_bit busy c && not (has_bit landed c) && e
 abbrev pub cell_count : ℕ → ℕ
 cell_count count = cond (ltb count 64) count 64
 
-unfoldable pub own_cell : List ℕ → ℕ → ℕ → ℕ → ℕ → Found
+unfoldable pub own_cell : List ℕ → ℕ → ℕ → ℕ → ℕ → Option ℕ
 own_cell owners busy landed n owner = first (λ c. is_own busy landed c (get_or owners c 0) owner) n 0
 
-abbrev pub room_of : Found → Found → Room
-room_of (At c) free = Own c
-room_of Nothing (At c) = Free c
-room_of Nothing Nothing = Full
+abbrev pub room_of : Option ℕ → Option ℕ → Room
+room_of (Some c) free = Own c
+room_of None (Some c) = Free c
+room_of None None = Full
 
 -- the cell that is filling with the message; a new number takes the lowest free cell
 abbrev pub room_for : List ℕ → ℕ → ℕ → ℕ → ℕ → Room
@@ -100,7 +94,7 @@ put_of store c cell offset piece = put_in store c (joined_of store c cell offset
 
 -- a piece that changed nothing
 abbrev pub left_of : Cell → Kept → Taken
-left_of cell kept = record { cell = cell; kept = kept; landed = NotYet }
+left_of cell kept = record { cell = cell; kept = kept; landed = None }
 
 -- its message claims too much: the number is barred, or the piece would show a length above 2,046
 abbrev pub is_over : Bool → List ℕ → Room → Cell → ℕ → List ℕ → Bool
@@ -133,10 +127,6 @@ bars NoPlace = false
 -- one of the tests refused it: the reception's mask marks the piece
 abbrev pub is_lost : Kept → Bool
 is_lost kept = ltb 0 (test_of kept)
-
-abbrev pub has_landed : Landed → Bool
-has_landed (Bytes n) = true
-has_landed NotYet = false
 
 -- where the rule keeps the piece, it is joined into the cell; otherwise cell and store stay as they are
 abbrev pub take_by : Kept → List ℕ → Room → Cell → ℕ → List ℕ → Took
@@ -186,7 +176,7 @@ kept_table t c owner x =
     record {
       count = t.count;
       busy = with_bit t.busy c;
-      landed = cond (has_landed x.landed) (with_bit t.landed c) (without_bit t.landed c);
+      landed = cond (is_some x.landed) (with_bit t.landed c) (without_bit t.landed c);
       owners = set t.owners c owner;
       cells = set t.cells c x.cell;
     }
@@ -200,7 +190,7 @@ took_table t room owner x =
     cond (changes x.kept) (kept_table t (place_of room) owner x) (cond (bars x.kept) (barred_table t room) t)
 
 abbrev pub took_window : Window → ℕ → Taken → Window
-took_window w k x = cond (has_landed x.landed) (land_of w k) (cond (bars x.kept) (bar_of w k) w)
+took_window w k x = cond (is_some x.landed) (land_of w k) (cond (bars x.kept) (bar_of w k) w)
 
 -- ---- a piece of a boat
 
@@ -211,14 +201,14 @@ pub record Accepted : Type 0 where
   pub store : List ℕ
   pub lost : Bool
   pub bars : Bool
-  pub landed : Landed
+  pub landed : Option ℕ
   pub cell : ℕ
   pub number : ℕ
 
 -- a piece that needs no place: its number is none, or its message is handed over
 abbrev pub passed : Table → Window → List ℕ → ℕ → Accepted
 passed t w store k =
-    record { table = t; window = w; store = store; lost = false; bars = false; landed = NotYet; cell = 0; number = k }
+    record { table = t; window = w; store = store; lost = false; bars = false; landed = None; cell = 0; number = k }
 
 -- what became of a piece, put into the table and the boat's window
 abbrev pub accepted : Table → Window → Room → ℕ → ℕ → Took → Accepted
@@ -241,9 +231,9 @@ accept_in t w store slot k offset piece room =
 abbrev pub table_room : Table → ℕ → ℕ → Room
 table_room t slot k = room_for t.owners t.busy t.landed t.count (owner_of slot k)
 
-abbrev pub accept_by : Number → Table → Window → List ℕ → ℕ → ℕ → List ℕ → Accepted
-accept_by Before t w store slot offset piece = passed t w store 0
-accept_by (Is k) t w store slot offset piece =
+abbrev pub accept_by : Option ℕ → Table → Window → List ℕ → ℕ → ℕ → List ℕ → Accepted
+accept_by None t w store slot offset piece = passed t w store 0
+accept_by (Some k) t w store slot offset piece =
     cond (handed_of w k) (passed t w store k) (accept_in t w store slot k offset piece (table_room t slot k))
 
 -- MsgIn::accept: a piece of the boat in `slot`, whose field has eight bits of the number and the offset

@@ -2,13 +2,11 @@
 // The station has the table as plain fields (owners, busy and landed masks, count, cells), and lends or copies what a function needs.
 ghost use Rattle.std.specs.Prelude.{◌≡◌, ◌+◌, ◌*◌, ◌≤◌, ◌<◌, length};
 ghost use Rattle.inbox.specs.Sizes.{cell_size, message_room};
-ghost use Rattle.stream.specs.Table.{owner_of, is_own, cell_count, own_cell, room_of, room_for, place_of, has_room, has_own, cell_for, is_over, changes, bars, is_lost, has_landed, took, put_of, left_of, take_of};
+ghost use Rattle.stream.specs.Table.{owner_of, is_own, cell_count, own_cell, room_of, room_for, place_of, has_room, has_own, cell_for, is_over, changes, bars, is_lost, took, put_of, left_of, take_of};
 
-use bits::Found;
 use inbox::cell::Cell;
 use inbox::keep;
 use inbox::keep::Kept;
-use inbox::store::Landed;
 
 // Where a piece goes: the cell of its message, a free one, or no cell is left.
 #[derive(Clone, Copy)]
@@ -23,7 +21,7 @@ pub enum Room {
 pub struct Taken {
     pub cell: Cell,
     pub kept: Kept,
-    pub landed: Landed,
+    pub landed: Option<usize>,
 }
 
 // A boat's message, as the table names it.
@@ -48,8 +46,7 @@ pub fn place_of(room: Room) -> usize
     ensures { result ≡ place_of room }
 {
     match room {
-        Room::Own(c) => c,
-        Room::Free(c) => c,
+        Room::Own(c) | Room::Free(c) => c,
         Room::Full => 0,
     }
 }
@@ -58,11 +55,7 @@ pub fn place_of(room: Room) -> usize
 pub fn has_own(room: Room) -> bool
     ensures { result ≡ has_own room }
 {
-    match room {
-        Room::Own(_) => true,
-        Room::Free(_) => false,
-        Room::Full => false,
-    }
+    matches!(room, Room::Own(_))
 }
 
 // A piece taken into the cell that the room names, where the kept rule keeps it. barred: its message's number is.
@@ -95,62 +88,32 @@ pub fn take(
 pub fn changed(kept: Kept) -> bool
     ensures { result ≡ changes kept }
 {
-    match kept {
-        Kept::Yes => true,
-        Kept::Needless => false,
-        Kept::Late => false,
-        Kept::Overlong => false,
-        Kept::Long => false,
-        Kept::NoCell => false,
-        Kept::NoPlace => false,
-    }
+    matches!(kept, Kept::Yes)
 }
 
 // Whether the number is barred with a piece, and the message's cell freed.
 pub fn barring(kept: Kept) -> bool
     ensures { result ≡ bars kept }
 {
-    match kept {
-        Kept::Yes => false,
-        Kept::Needless => false,
-        Kept::Late => false,
-        Kept::Overlong => true,
-        Kept::Long => false,
-        Kept::NoCell => false,
-        Kept::NoPlace => false,
-    }
+    matches!(kept, Kept::Overlong)
 }
 
 // Whether a piece was not kept: the reception's mask marks it.
 pub fn lost(kept: Kept) -> bool
     ensures { result ≡ is_lost kept }
 {
-    match kept {
-        Kept::Yes => false,
-        Kept::Needless => false,
-        Kept::Late => true,
-        Kept::Overlong => true,
-        Kept::Long => true,
-        Kept::NoCell => true,
-        Kept::NoPlace => true,
-    }
-}
-
-// Whether a message landed.
-pub fn has_landed(x: Landed) -> bool
-    ensures { result ≡ has_landed x }
-{
-    match x {
-        Landed::Bytes(_) => true,
-        Landed::NotYet => false,
-    }
+    matches!(
+        kept,
+        Kept::Late | Kept::Overlong | Kept::Long | Kept::NoCell | Kept::NoPlace
+    )
 }
 
 // As many cells as are counted, and no more than 64.
+#[tactic(auto, using(std::proofs::lemmas::Bool::Decides::nat_tests))]
 fn cell_count(count: usize) -> usize
     ensures { (result ≡ cell_count count) × (result ≤ 64) }
 {
-    if count < 64 { count } else { 64 }
+    count.min(64)
 }
 
 // Whether cell c is filling with the message `owner`, where it holds `held`.
@@ -161,28 +124,26 @@ fn is_own(busy: u64, landed: u64, c: usize, held: u64, owner: u64) -> bool
 }
 
 // The cell of n that is filling with the message `owner`.
-fn own_cell(owners: &[u64; 64], busy: u64, landed: u64, n: usize, owner: u64) -> Found
+fn own_cell(owners: &[u64; 64], busy: u64, landed: u64, n: usize, owner: u64) -> Option<usize>
     requires { n ≤ 64 }
     ensures { result ≡ own_cell owners.now busy landed n owner }
 {
-    let mut c: usize = 0;
-    while c < n {
+    for c in 0..n {
         if is_own(busy, landed, c, owners[c], owner) {
-            return Found::At(c);
+            return Some(c);
         }
-        c += 1;
     }
-    Found::Nothing
+    None
 }
 
-fn room_of(own: Found, free: Found) -> Room
+fn room_of(own: Option<usize>, free: Option<usize>) -> Room
     ensures { result ≡ room_of own free }
 {
     match own {
-        Found::At(c) => Room::Own(c),
-        Found::Nothing => match free {
-            Found::At(c) => Room::Free(c),
-            Found::Nothing => Room::Full,
+        Some(c) => Room::Own(c),
+        None => match free {
+            Some(c) => Room::Free(c),
+            None => Room::Full,
         },
     }
 }
@@ -190,11 +151,7 @@ fn room_of(own: Found, free: Found) -> Room
 fn has_room(room: Room) -> bool
     ensures { result ≡ has_room room }
 {
-    match room {
-        Room::Own(_) => true,
-        Room::Free(_) => true,
-        Room::Full => false,
-    }
+    !matches!(room, Room::Full)
 }
 
 // The cell that a piece is asked of: its message's own, or an empty one.
@@ -203,8 +160,7 @@ fn cell_for(room: Room, cell: Cell) -> Cell
 {
     match room {
         Room::Own(_) => cell,
-        Room::Free(_) => inbox::store::empty_cell(),
-        Room::Full => inbox::store::empty_cell(),
+        Room::Free(_) | Room::Full => inbox::store::empty_cell(),
     }
 }
 
@@ -246,6 +202,6 @@ fn left(cell: Cell, kept: Kept) -> Taken
     Taken {
         cell: cell,
         kept: kept,
-        landed: Landed::NotYet,
+        landed: None,
     }
 }

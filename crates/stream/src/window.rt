@@ -1,10 +1,11 @@
 // What is whole of a boat's messages: every number below next, and the marked ones of the 128 after it.
 // Bit d of low is the number next + 1 + d, bit d of high the number next + 65 + d. The barred numbers (request U4) in the same way, from
 // next on: bit d of barlow is the number next + d, bit d of barhigh the number next + 64 + d. No value of a Window is wrong.
-ghost use Rattle.std.specs.Prelude.{◌≡◌, true, false, ◌+◌, ◌-◌, ◌*◌, ◌^◌};
-ghost use Rattle.bits.specs.Mask.{has_bit};
+ghost use Rattle.std.specs.Prelude.{◌≡◌, true, false, cond, ltb, ◌+◌, ◌-◌, ◌*◌, ◌^◌};
+ghost use Rattle.bits.specs.Mask.{has_bit, with_bit};
 ghost use Rattle.stream.specs.Window.{fresh_of, marks_of, bitmap_of, holes_of, handed_of, bars_of, barred_of, bar_of, slid_of, slide_of, mark_of, land_of};
 
+// Two halves of 64 bits and no u128: the C structure has them so, and C has no plain type of 128 bits.
 #[repr(C)]
 #[derive(Clone, Copy)]
 pub struct Window {
@@ -78,13 +79,12 @@ pub fn bar(w: Window, number: u32) -> Window
         return w;
     }
     let d = (number - next) as usize;
-    let mut t = w;
-    if d < 64 {
-        t.barlow = bits::with(w.barlow, d);
-        return t;
+    let (barlow, barhigh) = with(w.barlow, w.barhigh, d);
+    Window {
+        barlow,
+        barhigh,
+        ..w
     }
-    t.barhigh = bits::with(w.barhigh, d - 64);
-    t
 }
 
 // The message of this number has landed.
@@ -109,6 +109,19 @@ fn has(low: u64, high: u64, d: usize) -> bool
     bits::has(high, d - 64)
 }
 
+// The same 128 with bit d; past them nothing is put in.
+#[tactic(auto, using(std::proofs::lemmas::Bool::Decides::nat_tests))]
+fn with(low: u64, high: u64, d: usize) -> (u64, u64)
+    ensures low { result.0 ≡ cond (ltb d 64) (with_bit low d) low }
+    ensures high { result.1 ≡ cond (ltb d 64) high (with_bit high (d - 64)) }
+{
+    if d < 64 {
+        (bits::with(low, d), high)
+    } else {
+        (low, bits::with(high, d - 64))
+    }
+}
+
 // One on: the number next is whole.
 fn slid(w: Window) -> Window
     ensures { result ≡ slid_of w.next (marks_of w) (bars_of w) }
@@ -128,14 +141,12 @@ fn slide(w: Window) -> Window
     ensures { result ≡ slide_of 128 w.next (marks_of w) (bars_of w) }
 {
     let mut t = w;
-    let mut i: usize = 0;
-    while i < 128 {
+    for _ in 0..128usize {
         let on = t.low % 2 == 1;
         t = slid(t);
         if !on {
             return t;
         }
-        i += 1;
     }
     slid(t)
 }
@@ -143,11 +154,6 @@ fn slide(w: Window) -> Window
 fn mark(w: Window, d: usize) -> Window
     ensures { result ≡ mark_of w d }
 {
-    let mut t = w;
-    if d < 64 {
-        t.low = bits::with(w.low, d);
-        return t;
-    }
-    t.high = bits::with(w.high, d - 64);
-    t
+    let (low, high) = with(w.low, w.high, d);
+    Window { low, high, ..w }
 }

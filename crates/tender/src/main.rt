@@ -5,11 +5,18 @@
 mod boat;
 mod channel;
 mod message;
+mod run;
 mod shore;
 mod tell;
 
-fn main(rt: HostRuntime) {
-    let mut t = [0u8; 65536];
-    let n = shore::whole(rt.stdout(), &mut t);
-    text::flush(rt.stdout(), &t, n);
+use run::Run;
+use std::alloc::AllocError;
+use std::io::Write;
+
+fn main(rt: HostRuntime) -> Result<(), AllocError> {
+    let mut run = Run::new(rt.alloc())?;
+    run.whole()?;
+    // What cannot be written is dropped.
+    let _ = rt.stdout().write_all(run.shore.text.as_bytes());
+    Ok(())
 }

@@ -1,38 +1,50 @@
 // What the program prints.
-use std::io::Stdout;
-
-fn number(t: &mut [u8; 65536], at: usize, n: usize) -> usize {
-    text::put_decimal(t, at, n as u64)
-}
-
-// A line of a text, a number and a text.
-pub fn line(to: Stdout, t: &mut [u8; 65536], at: usize, a: &[u8], n: usize, b: &[u8]) -> usize {
-    let c = text::room(to, t, at);
-    let d = text::put_text(t, c, a);
-    let e = number(t, d, n);
-    let f = text::put_text(t, e, b);
-    text::put(t, f, b'\n')
-}
+use std::fmt;
 
 // A message that has landed.
-pub fn landed(
-    to: Stdout,
-    t: &mut [u8; 65536],
-    at: usize,
-    k: u32,
-    cell: usize,
-    size: usize,
-    same: bool,
-) -> usize {
-    let a = text::room(to, t, at);
-    let b = text::put_text(t, a, b"message ");
-    let c = number(t, b, k as usize);
-    let d = text::put_text(t, c, b" has landed in cell ");
-    let e = number(t, d, cell);
-    let f = text::put_text(t, e, b": ");
-    let g = number(t, f, size);
-    if same {
-        return text::put_text(t, g, b" bytes, those that were posted\n");
+#[derive(Clone, Copy, Debug, PartialEq, Eq)]
+pub struct Landed {
+    pub number: u32,
+    pub cell: usize,
+    pub size: usize,
+    pub same: bool,
+}
+
+impl fmt::Display for Landed {
+    fn fmt<W: fmt::Write>(&self, f: &mut fmt::Formatter<W>) -> fmt::Result {
+        let is = if self.same { "those" } else { "NOT those" };
+        write!(
+            f,
+            "message {} has landed in cell {}: {} bytes, {is} that were posted",
+            self.number, self.cell, self.size
+        )
     }
-    text::put_text(t, g, b" bytes, NOT those that were posted\n")
+}
+
+// What the run counted, and the bytes that the sending end has left.
+#[derive(Clone, Copy, Debug, Default, PartialEq, Eq)]
+pub struct Counts {
+    pub landed: usize,
+    pub pending: usize,
+    pub bursts: usize,
+    pub gone: usize,
+    pub late: usize,
+    pub twice: usize,
+    pub lost: usize,
+}
+
+impl fmt::Display for Counts {
+    fn fmt<W: fmt::Write>(&self, f: &mut fmt::Formatter<W>) -> fmt::Result {
+        writeln!(f, "{} messages have landed", self.landed)?;
+        writeln!(
+            f,
+            "the sending end has {} bytes left to send or in flight",
+            self.pending
+        )?;
+        writeln!(f, "it sent {} bursts of at most nine pieces", self.bursts)?;
+        writeln!(f, "{} of them were lost whole", self.gone)?;
+        writeln!(f, "{} times the burst before came behind it", self.late)?;
+        writeln!(f, "{} came twice", self.twice)?;
+        writeln!(f, "{} frames were lost in the others", self.lost)
+    }
 }

@@ -11,8 +11,8 @@ ghost use Rattle.text.specs.Digits.{glyph, digit_of, digits_of, Decimal};
 mod input;
 mod number;
 
-pub use input::read_full;
-pub use number::decimal;
+pub use input::{read_full, read_line};
+pub use number::{decimal, hex_value, hex_word};
 use std::io::{Stdout, Write};
 
 // Writes the first n bytes. What cannot be written is dropped.
@@ -99,9 +99,7 @@ fn put_digits(t: &mut [u8; 65536], at: usize, v: u64, digits: usize, small: bool
     ensures { Wrote t.old at (digits_of small v digits) t.new result }
 {
     let mut e = at;
-    let mut k = digits;
-    while 0 < k {
-        k -= 1;
+    for k in (0..digits).rev() {
         e = put(t, e, glyph(digit_of(v, k), small));
     }
     e

@@ -2,50 +2,51 @@
 // word of a mark; an empty line ends it. For each log one line is printed: accepted, or which sending or mark breaks which rule and where.
 #![tactic(auto)]
 
-mod lines;
-mod place;
-mod say;
+mod log;
+mod marks;
+mod sendings;
+mod turns;
+mod verdict;
 
-use lines::State;
-use std::io::{Stdin, Stdout};
+use log::Log;
+use std::alloc::Global;
+use std::io::{self, BufRead, BufReader, BufWriter, Write};
+use verdict::Outcome;
 
-fn byte_at(b: &[u8], i: usize) -> u8 {
-    if i < b.len() { b[i] } else { b'\n' }
+// The line on a log. What can't be written is dropped.
+fn tell(log: &Log, to: &mut impl Write) {
+    let _ = writeln!(to, "{}", Outcome::of(log));
 }
 
-// The first n bytes of b.
-fn feed(
-    s: State,
-    b: &[u8],
-    n: usize,
-    words: &mut [u32; 262144],
-    to: Stdout,
-    t: &mut [u8; 65536],
-) -> State {
-    let mut u = s;
-    for i in 0..n {
-        u = lines::step(u, byte_at(b, i), words, to, t);
-    }
-    u
-}
-
-// Standard input to its end, at most 2^64 - 1 parts of 65,536 bytes.
-fn read_all(from: Stdin, words: &mut [u32; 262144], to: Stdout, t: &mut [u8; 65536]) -> usize {
-    let mut b = [0u8; 65536];
-    let mut s = lines::first();
+// Every log of the input: an empty line behind words ends one, and so does the input's end. An input without any is one empty log.
+fn check_logs(alloc: Global, from: &mut impl BufRead, to: &mut impl Write) -> io::Result<()> {
+    let mut log = Log::new(alloc);
+    let mut line = Vec::new(alloc);
+    let mut told = false;
     for _ in 0..u64::MAX {
-        let n = text::read_full(from, &mut b);
-        s = feed(s, &b, n, words, to, t);
-        if n < 65536 {
-            return lines::last(s, words, to, t);
+        if !text::read_line(from, &mut line)? {
+            break;
+        }
+        let digits = line.strip_suffix(b"\n").unwrap_or(&line);
+        if !digits.is_empty() {
+            log.push(text::hex_word(digits))?;
+        } else if !log.is_empty() {
+            tell(&log, to);
+            log.clear();
+            told = true;
         }
     }
-    s.end
+    if !told || !log.is_empty() {
+        tell(&log, to);
+    }
+    Ok(())
 }
 
-fn main(rt: HostRuntime) {
-    let mut words = [0u32; 262144];
-    let mut t = [0u8; 65536];
-    let n = read_all(rt.stdin(), &mut words, rt.stdout(), &mut t);
-    text::flush(rt.stdout(), &t, n);
+fn main(rt: HostRuntime) -> io::Result<()> {
+    let alloc = rt.alloc();
+    let mut from = BufReader::new(alloc, rt.reader())?;
+    let mut to = BufWriter::new(alloc, io::writer(&rt))?;
+    check_logs(alloc, &mut from, &mut to)?;
+    let _ = to.flush();
+    Ok(())
 }

@@ -2,14 +2,13 @@
 use mathlib.Core.Path.{◌≡◌, refl, sym, ap, ◌∙◌}
 use mathlib.Core.Bool.{Bool, true, false, cond}
 use mathlib.Core.List.{List, [], ◌∷◌, ◌++◌}
-use Prim.Native.Nat.{ℕ, zero, suc, ◌+◌, ◌*◌, ◌/◌, ◌%◌, ◌≤◌, ◌<◌}
-use native.Mathlib.Nat.{zero-mul, zero-add}
+use Prim.Native.Nat.{ℕ, zero, suc, ◌+◌, ◌/◌, ◌%◌, ◌≤◌, ◌<◌}
 use native.Mathlib.Omega.{arith}
 use lib.Dec.{eqb}
-use lib.ListN.{length, get_or}
+use lib.ListN.{length, get_or, take, drop}
 use lib.Seq.{ext_get_or}
 use borrow.Author.Tests.{eqb-true, eq-eqb, ne_eqb}
-use Rattle.wire.specs.Call.{digit, char, packed, number_of, chars, trim_start, keep, trim_end, pad, unpacked, shifted}
+use Rattle.wire.specs.Call.{char, chars, trim_start, keep, trim_end, pad, unpacked, shifted}
 
 -- ### Padding after trimming the end is padding
 
@@ -111,31 +110,10 @@ module _ (l : List ℕ) where
   pub seven : length l ≡ 7 → l ≡ spread
   seven h = ext_get_or 0 l spread (omega arith) (λ i m. each i (omega arith))
 
-  pub packed_seven : length l ≡ 7
-      → packed l
-      ≡ (((((digit (get_or l 0 0) * 38 + digit (get_or l 1 0)) * 38 + digit (get_or l 2 0)) * 38 + digit (get_or l 3 0)) * 38 + digit (get_or l 4 0)) * 38
-      + digit (get_or l 5 0)) * 38 + digit (get_or l 6 0)
-  packed_seven h = ap packed (seven h) ∙ rw (zero-mul, zero-add)
-
   pub shifted_not : length l ≡ 7 → (get_or l 0 0 ≡ 32 → ⊥) → l ≡ shifted l
   unfolding shifted
   shifted_not h z = seven h ∙ sym (ap shifted (seven h) ∙ rw (ne_eqb (get_or l 0 0) 32 z))
 
-  pub shifted_space : length l ≡ 7 → get_or l 0 0 ≡ 32 → get_or l 1 0 ∷ get_or l 2 0 ∷ get_or l 3 0 ∷ get_or l 4 0 ∷ get_or l 5 0 ∷ get_or l 6 0 ∷ 32 ∷ [] ≡ shifted l
+  pub shifted_space : length l ≡ 7 → get_or l 0 0 ≡ 32 → drop 1 l ++ take 1 l ≡ shifted l
   unfolding shifted
-  shifted_space h z = sym (ap shifted (seven h) ∙ rw (eq-eqb (get_or l 0 0) 32 z))
-
-  pub key_seven : length l ≡ 7
-      → number_of l
-      ≡ get_or l 0 0 + 256 * (get_or l 1 0 + 256 * (get_or l 2 0 + 256 * (get_or l 3 0 + 256 * (get_or l 4 0 + 256 * (get_or l 5 0 + 256 * get_or l 6 0)))))
-  key_seven h = ap number_of (seven h) ∙ omega arith
-
-pub number_five : (l : List ℕ) → length l ≡ 5
-    → number_of l ≡ get_or l 0 0 + 256 * (get_or l 1 0 + 256 * (get_or l 2 0 + 256 * (get_or l 3 0 + 256 * get_or l 4 0)))
-number_five [] h = absurd (omega arith)
-number_five (a ∷ []) h = absurd (omega arith)
-number_five (a ∷ b ∷ []) h = absurd (omega arith)
-number_five (a ∷ b ∷ c ∷ []) h = absurd (omega arith)
-number_five (a ∷ b ∷ c ∷ d ∷ []) h = absurd (omega arith)
-number_five (a ∷ b ∷ c ∷ d ∷ e ∷ []) h = omega arith
-number_five (a ∷ b ∷ c ∷ d ∷ e ∷ f ∷ l) h = absurd (omega arith)
+  shifted_space h z = ap (λ (m : List ℕ). drop 1 m ++ take 1 m) (seven h) ∙ rw z (sym (ap shifted (seven h) ∙ rw (eq-eqb (get_or l 0 0) 32 z)))

@@ -18,6 +18,9 @@ pub const UNHEARD: u8 = 63;
 // The code of a header-only message.
 pub const TINY: u32 = 62;
 
+// The codes below are constants and no enums: they are built into words by sums and told apart in bits of any value that comes on the air,
+// most of which no code has, so an enum would only be turned from and to a number at each place.
+
 // Frame types: the top two bits of a frame's flags.
 pub const T_UP: u32 = 0;
 

@@ -2,18 +2,11 @@
 ghost use Rattle.std.specs.Prelude.{◌≡◌, ◌≤◌};
 ghost use Rattle.wire.specs.Numbers.{numbers, widened, widened_at};
 
-// A number, or none: from before the start.
-#[derive(Clone, Copy)]
-pub enum Number {
-    Is(u32),
-    Before,
-}
-
 // No message has this number or one above it.
 pub const NUMBERS: u32 = 4294967040;
 
 // The number near next whose lowest eight bits are s. No station has a next above NUMBERS; one that had is read as NUMBERS.
-pub fn widen8(s: u8, next: u32) -> Number
+pub fn widen8(s: u8, next: u32) -> Option<u32>
     ensures { result ≡ widened s next }
 {
     if NUMBERS < next {
@@ -22,17 +15,17 @@ pub fn widen8(s: u8, next: u32) -> Number
     widen_at(s, next)
 }
 
-fn widen_at(s: u8, next: u32) -> Number
+fn widen_at(s: u8, next: u32) -> Option<u32>
     requires { next ≤ numbers }
     ensures { result ≡ widened_at s next }
 {
     let d = (s as u32 + 256 - next % 256) % 256;
     if d < 128 {
-        return Number::Is(next + d);
+        return Some(next + d);
     }
     let back = 256 - d;
     if next < back {
-        return Number::Before;
+        return None;
     }
-    Number::Is(next - back)
+    Some(next - back)
 }

@@ -1,5 +1,6 @@
 -- How the definitions of `specs/Words` go on at an index: each says what the definition at `drop at ws` is, from the word at `at` and the definition at `drop (at + 1) ws`.
 -- Assumes nothing.
+use Rattle.std.specs.Prelude.{Option, Some, None}
 use mathlib.Core.Path.{◌≡◌, refl, sym, ap, ◌∙◌}
 use mathlib.Core.Bool.{Bool, true, false, cond, ◌&&◌, ◌||◌}
 use mathlib.Core.List.{List, [], ◌∷◌}
@@ -8,21 +9,14 @@ use native.Mathlib.Nat.{add-zero, zero-add}
 use native.Mathlib.Numerals.{add-one}
 use native.Mathlib.Omega.{arith}
 use lib.Dec.{eqb}
-use lib.ListN.{length, drop, get_or, drop_of_length-le, length-drop}
-use lib.Seq.{drop-cons, drop-drop}
+use lib.ListN.{length, take, drop, get_or, drop_of_length-le, length-drop}
+use lib.Seq.{drop-cons, drop-drop, take_all}
 use borrow.Author.Tests.{eq-eqb, ne_eqb, eqb-true}
 use Rattle.words.specs.declared.Item.{Item}
 use Rattle.words.specs.declared.Item.TheVariants.{End, Bad, Lost, Frame}
 use Rattle.words.specs.Words.{word_ok, payload_ok, words_for, frame_of, item_at, size_of, Heard, Parsed, malformed, parsed, then_frames, before, no_more, frames_of, head_ok, burst_of, parse, shape_of, last_shape}
-use Rattle.words.specs.declared.Shape.{Shape}
-use Rattle.words.specs.declared.Shape.TheVariants.{Malformed, Frames}
 
 module _ (ws : List ℕ) (at : ℕ) where
-  -- the words end
-  pub payload_end : (n : ℕ) → length ws ≤ at → 0 < n → payload_ok (drop at ws) n ≡ false
-  unfolding payload_ok
-  payload_end n h p = rw (drop_of_length-le ws h, ne_eqb n 0 (omega arith))
-
   -- one word more
   pub payload_step : (n : ℕ) → at < length ws → 0 < n
       → payload_ok (drop at ws) n ≡ (word_ok (get_or ws at 0) n && payload_ok (drop (at + 1) ws) (n - 3))
@@ -35,6 +29,15 @@ module _ (ws : List ℕ) (at : ℕ) where
   pub payload_more : (n m : ℕ) → at < length ws → 0 < n → m ≡ n - 3 → word_ok (get_or ws at 0) n ≡ true
       → payload_ok (drop at ws) n ≡ payload_ok (drop (at + 1) ws) m
   payload_more n m h p e w = payload_step n h p ∙ rw (w, e)
+
+-- where no words are left
+pub payload_rest : (ws : List ℕ) (at n : ℕ) → length ws ≤ at → payload_ok (drop at ws) n ≡ eqb n 0
+unfolding payload_ok
+payload_rest ws at n h = rw (drop_of_length-le ws h)
+
+-- a part of the words, to their end
+pub payload_from : (ws : List ℕ) (at i n : ℕ) → at ≡ i → payload_ok (take (length ws - at) (drop at ws)) n ≡ payload_ok (drop i ws) n
+payload_from ws at i n e = rw (← e) (ap (λ (l : List ℕ). payload_ok l n) (take_all (length ws - at) (drop at ws) (rw length-drop (omega arith))))
 
 pub payload_none : (l : List ℕ) → payload_ok l 0 ≡ true
 unfolding payload_ok
@@ -86,9 +89,9 @@ module _ (ws : List ℕ) (at : ℕ) where
 -- ### A whole burst
 
 -- the shape of a burst with n frames before those
-abbrev pub shape_from : ℕ → Parsed (List Heard) → Shape
-shape_from n malformed = Malformed
-shape_from n (parsed fs) = Frames (n + length fs)
+abbrev pub shape_from : ℕ → Parsed (List Heard) → Option ℕ
+shape_from n malformed = None
+shape_from n (parsed fs) = Some (n + length fs)
 
 turn_end : (i : Item) (ws : List ℕ) (rest : Parsed (List Heard)) (n : ℕ) → size_of i ≡ 0 → shape_from n (then_frames i ws rest) ≡ last_shape i n
 turn_end End ws rest n z = rw (add-zero n)
@@ -98,7 +101,7 @@ turn_end (Frame a b k) ws rest n z = absurd (omega arith)
 
 one_more : (f : Heard) (rest : Parsed (List Heard)) (n : ℕ) → shape_from n (before f rest) ≡ shape_from (n + 1) rest
 one_more f malformed n = refl
-one_more f (parsed fs) n = ap Frames (omega arith)
+one_more f (parsed fs) n = ap Some (omega arith)
 
 turn_more : (i : Item) (ws : List ℕ) (rest : Parsed (List Heard)) (n : ℕ) → (size_of i ≡ 0 → ⊥) → shape_from n (then_frames i ws rest) ≡ shape_from (n + 1) rest
 turn_more End ws rest n z = absurd (z refl)
@@ -194,7 +197,7 @@ parse_head_bad (w ∷ ws) h e = rw e
 
 burst_shape : (w : ℕ) (p : Parsed (List Heard)) → shape_of (burst_of w p) ≡ shape_from 0 p
 burst_shape w malformed = refl
-burst_shape w (parsed fs) = ap Frames (sym (zero-add (length fs)))
+burst_shape w (parsed fs) = ap Some (sym (zero-add (length fs)))
 
 pub parse_head : (ws : List ℕ) → 0 < length ws → head_ok (get_or ws 0 0) ≡ true → shape_of (parse ws) ≡ shape_from 0 (frames_of 64 (drop 1 ws))
 unfolding parse

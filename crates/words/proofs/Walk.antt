@@ -1,5 +1,6 @@
 -- One step of a walk over the frames of a burst: with a frame left at a place, the item there is that frame, and the rest parses behind it.
 -- Assumes nothing.
+use Rattle.std.specs.Prelude.{Some, None}
 use mathlib.Core.Path.{◌≡◌, refl, sym, ap, ◌∙◌, subst}
 use mathlib.Core.Bool.{Bool, true, false, cond}
 use mathlib.Core.List.{List, [], ◌∷◌}
@@ -9,7 +10,6 @@ use lib.ListN.{length, drop, get_or}
 use lib.Seq.{drop-drop}
 use Rattle.words.specs.declared.Item.{Item}
 use Rattle.words.specs.declared.Item.TheVariants.{End, Bad, Lost, Frame}
-use Rattle.words.specs.declared.Shape.TheVariants.{Malformed, Frames}
 use Rattle.words.specs.Words.{
   item_at,
   peek_at,
@@ -105,14 +105,14 @@ unfolding parse
 opened [] b e = absurd (never e)
 opened (w ∷ ws) b e = opened_by w ws b (frames_of 64 ws) refl (head_ok w) refl e
 
-frames_same : (a b : ℕ) → Frames a ≡ Frames b → a ≡ b
+frames_same : (a b : ℕ) → Some a ≡ Some b → a ≡ b
 frames_same a b e = cc
 
-no_frames : (b : ℕ) → Malformed ≡ Frames b → ⊥
+no_frames : (b : ℕ) → None ≡ Some b → ⊥
 no_frames b e = let z : ◌≡◌ {A = ℕ} 0 1 = cc in omega arith
 
 -- what `shape_of` found to be n frames is a burst of n frames
-pub shaped : (p : Parsed Burst) (n : ℕ) → shape_of p ≡ Frames n → (b : Burst) × (p ≡ parsed b) × (length b.frames ≡ n)
+pub shaped : (p : Parsed Burst) (n : ℕ) → shape_of p ≡ Some n → (b : Burst) × (p ≡ parsed b) × (length b.frames ≡ n)
 shaped malformed n e = absurd (no_frames n e)
 shaped (parsed b) n e = (b, refl, frames_same (length b.frames) n e)
 
@@ -131,7 +131,7 @@ left_start ws b e =
     record { rest = o.frames; count = omega arith; most = frames_count 64 (drop 1 ws) b.frames o.frames; within = o.room }
 
 -- the same from what `shape_of` found
-pub left_shape : (ws : List ℕ) (n : ℕ) → shape_of (parse ws) ≡ Frames n → (b : Burst) × (parse ws ≡ parsed b) × Left ws n 1 0 b.frames
+pub left_shape : (ws : List ℕ) (n : ℕ) → shape_of (parse ws) ≡ Some n → (b : Burst) × (parse ws ≡ parsed b) × Left ws n 1 0 b.frames
 left_shape ws n e = by (shaped (parse ws) n e)
   where
     by : (b : Burst) × (parse ws ≡ parsed b) × (length b.frames ≡ n) → (b : Burst) × (parse ws ≡ parsed b) × Left ws n 1 0 b.frames

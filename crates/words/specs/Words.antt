@@ -1,9 +1,7 @@
 -- Document 01, section "Words": what the words of a burst say. A word is a number below 2 ^ 32, its kind the top four bits.
-use Rattle.std.specs.Prelude.{Bool, true, cond, ◌&&◌, ◌||◌, List, [], ◌∷◌, ◌++◌, ℕ, zero, suc, ◌+◌, ◌-◌, ◌/◌, ◌%◌, eqb, ltb, length, take, drop, get_or, replicate}
+use Rattle.std.specs.Prelude.{Bool, true, cond, ◌&&◌, ◌||◌, List, [], ◌∷◌, ◌++◌, ℕ, zero, suc, ◌+◌, ◌-◌, ◌/◌, ◌%◌, eqb, ltb, length, take, drop, get_or, replicate, Option, Some, None}
 use Rattle.words.specs.declared.Item.{Item}
 use Rattle.words.specs.declared.Item.TheVariants.{End, Bad, Lost, Frame}
-use Rattle.words.specs.declared.Shape.{Shape}
-use Rattle.words.specs.declared.Shape.TheVariants.{Malformed, Frames}
 use Rattle.words.specs.declared.Head.{Head}
 
 -- A frame that was not heard, or its flags, its field and its payload bytes.
@@ -115,16 +113,16 @@ unfoldable pub parse : List ℕ → Parsed Burst
 parse [] = malformed
 parse (w ∷ ws) = cond (head_ok w) (burst_of w (frames_of 64 ws)) malformed
 
-abbrev pub shape_of : Parsed Burst → Shape
-shape_of malformed = Malformed
-shape_of (parsed b) = Frames (length b.frames)
+abbrev pub shape_of : Parsed Burst → Option ℕ
+shape_of malformed = None
+shape_of (parsed b) = Some (length b.frames)
 
 -- the shape of a burst that has n frames before the item i, after which there is none
-abbrev pub last_shape : Item → ℕ → Shape
-last_shape End n = Frames n
-last_shape Bad n = Malformed
-last_shape Lost n = Malformed
-last_shape (Frame flags field len) n = Malformed
+abbrev pub last_shape : Item → ℕ → Option ℕ
+last_shape End n = Some n
+last_shape Bad n = None
+last_shape Lost n = None
+last_shape (Frame flags field len) n = None
 
 -- ### Reading at a place: any words, and what is missing reads as 0
 

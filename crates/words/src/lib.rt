@@ -17,13 +17,6 @@ pub enum Item {
     Frame { flags: u32, field: u32, len: usize },
 }
 
-// What words are: no burst, or one of so many frames.
-#[derive(Clone, Copy)]
-pub enum Shape {
-    Malformed,
-    Frames(usize),
-}
-
 // What word 8 says.
 #[derive(Clone, Copy)]
 pub struct Head {
@@ -33,27 +26,25 @@ pub struct Head {
 }
 
 // Whether the words are a burst, and of how many frames.
-pub fn shape_of(words: &[u32]) -> Shape
+pub fn shape_of(words: &[u32]) -> Option<usize>
     ensures { result ≡ shape_of (parse words.now) }
 {
-    if words.len() == 0 {
-        return Shape::Malformed;
+    if words.is_empty() {
+        return None;
     }
     if !head_ok(words[0]) {
-        return Shape::Malformed;
+        return None;
     }
-    let mut at: usize = 1;
-    let mut n: usize = 0;
-    while n < 64 {
+    let mut at = 1;
+    for n in 0..64 {
         let i = item_at(words, at);
         let size = size_of(i);
         if size == 0 {
             return last(i, n);
         }
         at += size;
-        n += 1;
     }
-    last(item_at(words, at), n)
+    last(item_at(words, at), 64)
 }
 
 // The fields of word 8.
@@ -71,10 +62,9 @@ pub fn head_of(w: u32) -> Head
 pub fn peek(words: &[u32], at: usize) -> Item
     ensures { result ≡ peek_at (drop at words.now) }
 {
-    if words.len() <= at {
+    let Some(&w) = words.get(at) else {
         return Item::End;
-    }
-    let w = words[at];
+    };
     if w == 0xd000_0000 {
         return Item::Lost;
     }
@@ -138,19 +128,14 @@ pub fn payload(words: &[u32], at: usize, n: usize) -> [u8; 255]
         return out;
     }
     let full = m / 3;
-    let mut k: usize = 0;
-    while k < full {
-        let w = word_or_zero(words, at + 2 + k);
-        let j = 3 * k;
-        out[j] = low8(w / 65536);
-        out[j + 1] = low8(w / 256);
-        out[j + 2] = low8(w);
-        k += 1;
+    for k in 0..full {
+        let [_, a, b, c] = word_or_zero(words, at + 2 + k).to_be_bytes();
+        out[3 * k] = a;
+        out[3 * k + 1] = b;
+        out[3 * k + 2] = c;
     }
-    let mut j = 3 * full;
-    while j < m {
+    for j in 3 * full..m {
         out[j] = payload_byte(words, at, j);
-        j += 1;
     }
     out
 }
@@ -159,26 +144,23 @@ pub fn payload(words: &[u32], at: usize, n: usize) -> [u8; 255]
 pub fn item_at(words: &[u32], at: usize) -> Item
     ensures { result ≡ item_at (drop at words.now) }
 {
-    if words.len() <= at {
+    let Some(&w) = words.get(at) else {
         return Item::End;
-    }
-    let w = words[at];
+    };
     if w == 0xd000_0000 {
         return Item::Lost;
     }
     if w / 65536 != 0xa000 {
         return Item::Bad;
     }
-    let next = at + 1;
-    if words.len() <= next {
+    let Some(&v) = words.get(at + 1) else {
         return Item::Bad;
-    }
-    let v = words[next];
+    };
     if v / 16777216 != 176 {
         return Item::Bad;
     }
     let len = (w % 256) as usize;
-    if !payload_ok(words, next + 1, len) {
+    if !payload_ok(&words[at + 2..], len) {
         return Item::Bad;
     }
     Item::Frame {
@@ -195,103 +177,84 @@ pub fn words_for(len: usize) -> usize
     len / 3 + (len % 3 + 2) / 3
 }
 
+// std's min, under the name that the contracts have for it.
 pub fn least(a: usize, b: usize) -> usize
     ensures { result ≡ least a b }
 {
-    if a < b { a } else { b }
-}
-
-fn less3(n: usize) -> usize
-    ensures { result ≡ n - 3 }
-{
-    if n < 3 { 0 } else { n - 3 }
+    a.min(b)
 }
 
 // The word at i, 0 past the end.
 fn word_or_zero(words: &[u32], i: usize) -> u32
     ensures { result ≡ get_or words.now i 0 }
 {
-    if i < words.len() { words[i] } else { 0 }
-}
-
-fn low8(w: u32) -> u8
-    ensures { result ≡ w % 256 }
-{
-    (w % 256) as u8
+    words.get(i).copied().unwrap_or(0)
 }
 
 // Byte k of a word 12, the first highest.
 fn byte_of(w: u32, k: usize) -> u8
     ensures { result ≡ byte_of w k }
 {
-    if k == 0 {
-        return low8(w / 65536);
+    let [_, first, second, third] = w.to_be_bytes();
+    match k {
+        0 => first,
+        1 => second,
+        _ => third,
     }
-    if k == 1 {
-        return low8(w / 256);
-    }
-    low8(w)
 }
 
 // The shape of a burst that has n frames before the item i, after which there is none.
-fn last(i: Item, n: usize) -> Shape
+fn last(i: Item, n: usize) -> Option<usize>
     ensures { result ≡ last_shape i n }
 {
     match i {
-        Item::End => Shape::Frames(n),
-        Item::Bad => Shape::Malformed,
-        Item::Lost => Shape::Malformed,
+        Item::End => Some(n),
+        Item::Bad => None,
+        Item::Lost => None,
         Item::Frame {
             flags: _,
             field: _,
             len: _,
-        } => Shape::Malformed,
+        } => None,
     }
 }
 
 // w is a word 8.
+#[tactic(auto, using(std::proofs::lemmas::Bool::Decides::nat_tests), unfolding(crate::specs::Words::head_ok))]
 fn head_ok(w: u32) -> bool
     ensures { result ≡ head_ok w }
 {
-    if w / 268435456 != 8 {
-        return false;
-    }
-    w / 65536 % 2 == 0
+    w / 268435456 == 8 && w / 65536 % 2 == 0
 }
 
 // w is a word 12 that holds the next of left bytes, its spare ones zero.
+#[tactic(auto, using(std::proofs::lemmas::Bool::Decides::nat_tests), unfolding(crate::specs::Words::word_ok))]
 fn word_ok(w: u32, left: usize) -> bool
     ensures { result ≡ word_ok w left }
 {
     if w / 16777216 != 192 {
         return false;
     }
-    if left == 1 {
-        return w % 65536 == 0;
+    match left {
+        1 => w % 65536 == 0,
+        2 => w % 256 == 0,
+        _ => true,
     }
-    if left == 2 {
-        return w % 256 == 0;
-    }
-    true
 }
 
-// From `from` on stand the words of len payload bytes.
-fn payload_ok(words: &[u32], from: usize, len: usize) -> bool
-    requires { from ≤ length words.now }
-    ensures { result ≡ payload_ok (drop from words.now) len }
+// At the head of words stand those of len payload bytes.
+fn payload_ok(words: &[u32], len: usize) -> bool
+    ensures { result ≡ payload_ok words.now len }
 {
-    let mut at = from;
     let mut left = len;
-    while 0 < left {
-        if words.len() <= at {
+    for w in words {
+        if left == 0 {
+            return true;
+        }
+        if !word_ok(*w, left) {
             return false;
         }
-        let w = words[at];
-        if !word_ok(w, left) {
-            return false;
-        }
-        left = less3(left);
-        at += 1;
+        left = left.saturating_sub(3);
     }
-    true
+    left == 0
 }

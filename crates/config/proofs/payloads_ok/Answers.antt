@@ -1,32 +1,14 @@
-use mathlib.Core.Path.{refl, sym, ap, ◌∙◌}
-use mathlib.Core.Bool.{not}
-use Prim.Native.Nat.{◌-◌}
-use native.Mathlib.Omega.{arith}
-use borrow.Author.Tests.{eq-eqb, ne_eqb}
-use Rattle.bits.proofs.Loops.{every_pass, every_stop, every_end}
+-- Assumes nothing.
+use Rattle.std.proofs.Common.{◌∙◌, rules, tests}
+use Rattle.std.proofs.lemmas.Iterator.{YieldsList-from_slice}
+use Rattle.std.proofs.lemmas.Iterator.Search.{all_from_yields_List}
+use Rattle.std.proofs.Common.{not, eqb}
 use Rattle.config.specs.Checks.{payloads_ok}
+use Rattle.config.proofs.Every.{every_in}
 use Rattle.config.proofs.payloads_ok.Goals as goal
 
-pub loop-i-init : goal.loop-i-init
-unfolding payloads_ok
-loop-i-init c = (omega arith, refl)
-
-pub bounds-p-i : goal.bounds-p-i
-bounds-p-i c = omega arith
-
-pub returns-then-p-i-eq0 : goal.returns-then-p-i-eq0
-returns-then-p-i-eq0 c =
-    sym (every_stop _ _ _ c.loop-i-test.true (ap not (eq-eqb _ _ c.if-p-i-eq0.true))) ∙ c.loop-i.invariant.1
-
-pub overflow_add-i : goal.overflow_add-i
-overflow_add-i c = omega arith
-
-pub loop-i-smaller : goal.loop-i-smaller
-loop-i-smaller c = omega arith
-
-pub loop-i-preserved : goal.loop-i-preserved
-loop-i-preserved c =
-    (omega arith, sym (every_pass _ _ _ c.loop-i-test.true (ap not (ne_eqb _ _ c.if-p-i-eq0.false))) ∙ c.loop-i.invariant.1)
-
 pub returns : goal.returns
-returns c = sym (every_end _ _ _ c.loop-i-test.false) ∙ c.loop-i.invariant.1
+unfolding payloads_ok
+returns c =
+    all_from_yields_List (λ x. not (eqb x 0)) _ _ _ c.all.ensures.ran (YieldsList-from_slice c.args.p.now cc) (λ x b q k. search (rules, tests))
+    ∙ every_in (λ x. not (eqb x 0)) 0 c.args.p.now c.told-p

@@ -1,11 +1,8 @@
 -- Assumes nothing.
 use mathlib.Core.Path.{◌≡◌}
-use Prim.Native.Nat.{◌-◌, ◌≤◌}
+use Prim.Native.Nat.{◌-◌}
 use Rattle.config.specs.Checks.{room_on, room}
 use Rattle.config.proofs.room.Given as goal
 
 abbrev pub invariant-loop-n : goal.invariant-loop-n
-invariant-loop-n l = (1 ≤ l.n) × (l.n ≤ 64) × (room_on l.d l.max l.level (64 - l.n) l.n ≡ room l.d l.max l.level)
-
-abbrev pub decreases-loop-n : goal.decreases-loop-n
-decreases-loop-n l = 64 - l.n
+invariant-loop-n l = room_on l.d l.max l.level (64 - l.n) l.n ≡ room l.d l.max l.level

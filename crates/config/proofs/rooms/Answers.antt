@@ -1,6 +1,6 @@
 use mathlib.Core.Path.{◌≡◌, refl, ap, ◌∙◌}
 use mathlib.Core.List.{List, append-nil}
-use Prim.Native.Nat.{ℕ, ◌-◌}
+use Prim.Native.Nat.{ℕ}
 use native.Mathlib.Omega.{arith}
 use lib.ListN.{set}
 use Rattle.config.specs.Checks.{rooms_from}
@@ -9,26 +9,17 @@ use Rattle.config.proofs.rooms.Goals as goal
 
 pub loop-i-init : goal.loop-i-init
 unfolding rooms_from
-loop-i-init c = (omega arith, refl)
+loop-i-init c = refl
 
 pub room-requires : goal.room-requires
 room-requires c = c.loop-i-test.true
 
-pub bounds-r-i : goal.bounds-r-i
-bounds-r-i c = omega arith
-
-pub overflow_add-i : goal.overflow_add-i
-overflow_add-i c = omega arith
-
-pub loop-i-smaller : goal.loop-i-smaller
-loop-i-smaller c = omega arith
-
 pub loop-i-preserved : goal.loop-i-preserved
 loop-i-preserved c =
     let a = c.args in
-    (omega arith, ap (λ (p : List ℕ). set p c.loop-i.i c.room.result) c.loop-i.invariant.1 ∙ rooms_next a.d.now a.max c.loop-i.i c.room.result (omega arith) c.room.ensures)
+    ap (λ (p : List ℕ). set p c.loop-i.i c.room.result) c.loop-i.invariant ∙ rooms_next a.d.now a.max c.loop-i.i c.room.result (omega arith) c.room.ensures
 
 pub returns : goal.returns
 returns c =
     let e : c.loop-i.i ≡ 17 = omega arith in
-    c.loop-i.invariant.1 ∙ rw e (append-nil _)
+    c.loop-i.invariant ∙ rw e (append-nil _)

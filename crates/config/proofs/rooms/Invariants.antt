@@ -1,13 +1,10 @@
 -- The invariant: the rooms of the first i levels stand, and zeros behind them. Assumes nothing.
 use mathlib.Core.Path.{◌≡◌}
 use mathlib.Core.List.{◌++◌}
-use Prim.Native.Nat.{◌-◌, ◌≤◌}
+use Prim.Native.Nat.{◌-◌}
 use lib.ListN.{replicate}
 use Rattle.config.specs.Checks.{rooms_from}
 use Rattle.config.proofs.rooms.Given as goal
 
 abbrev pub invariant-loop-i : goal.invariant-loop-i
-invariant-loop-i l = (l.i ≤ 17) × (l.r ≡ rooms_from l.d l.max l.i 0 ++ replicate (17 - l.i) 0)
-
-abbrev pub decreases-loop-i : goal.decreases-loop-i
-decreases-loop-i l = 17 - l.i
+invariant-loop-i l = l.r ≡ rooms_from l.d l.max l.i 0 ++ replicate (17 - l.i) 0

@@ -1,5 +1,5 @@
 -- Assumes nothing.
-use mathlib.Core.Path.{sym, ◌∙◌}
+use mathlib.Core.Path.{refl, sym, ◌∙◌}
 use lib.ListN.{drop}
 use Rattle.frames.specs.Code.Frames.{frame_of}
 use Rattle.frames.proofs.Laws.{frame_read}
@@ -21,4 +21,4 @@ pub returns-in-Frame : goal.returns-in-Frame
 returns-in-Frame c =
     frame_read (drop c.args.at c.args.words.now) _ _ _ _ _ _
     (sym c.peek.ensures ∙ c.in-Frame.is)
-    c.low.ensures c.low_len.ensures c.words_for-size.ensures
+    refl refl c.words_for-size.ensures

@@ -1,7 +1,7 @@
 -- A frame as the code reads it from the words, and what it does by its kind. Nothing here has to be believed: law `read_kind` shows that it is `read_frame`.
 use Rattle.std.specs.Prelude.{ℕ, ◌+◌, ◌/◌, ◌%◌, true, false, not, cond, ◌&&◌, List, eqb, leb}
 use Rattle.wire.specs.Kinds.{t_up, t_ctrl, c_checkin, c_report, c_overheard, c_kids}
-use Rattle.words.specs.Words.{lost, words_for}
+use Rattle.words.specs.Words.{words_for}
 use Rattle.words.specs.declared.Item.{Item}
 use Rattle.words.specs.declared.Item.TheVariants as item
 use Rattle.frames.specs.declared.Air.{Air}

@@ -1,9 +1,7 @@
 -- A boat's piece as the code takes it, one element of the station at a time. Nothing here has to be believed: law `piece_whole` shows that it is `piece_frame`.
-use Rattle.std.specs.Prelude.{ℕ, ◌+◌, ◌*◌, ◌/◌, ◌%◌, ◌<◌, ◌≤◌, Bool, true, false, not, cond, ◌&&◌, ◌||◌, List, [], ◌∷◌, ◌++◌, eqb, get_or, set}
+use Rattle.std.specs.Prelude.{ℕ, ◌+◌, ◌*◌, ◌/◌, ◌%◌, ◌<◌, ◌≤◌, Bool, true, false, not, cond, ◌&&◌, ◌||◌, List, [], ◌∷◌, ◌++◌, eqb, get_or, set, Option, Some, None, is_some}
 use Rattle.bits.specs.Mask.{with_bit, without_bit}
 use Rattle.bits.specs.Stop.{stop}
-use Rattle.wire.specs.declared.number.Number.{Number}
-use Rattle.wire.specs.declared.number.Number.TheVariants.{Is, Before}
 use Rattle.wire.specs.Numbers.{widened}
 use Rattle.out.specs.Encode.{event_word, message_word}
 use Rattle.inbox.specs.declared.cell.Cell.{Cell}
@@ -14,7 +12,7 @@ use Rattle.stream.specs.declared.table.Room.{Room}
 use Rattle.stream.specs.declared.table.Room.TheVariants.{Own, Free, Full}
 use Rattle.stream.specs.declared.table.Taken.{Taken}
 use Rattle.stream.specs.Window.{handed_of, barred_of}
-use Rattle.stream.specs.Table.{Took, took, room_for, owner_of, place_of, has_own, take_of, left_of, changes, bars, is_lost, has_landed}
+use Rattle.stream.specs.Table.{Took, took, room_for, owner_of, place_of, has_own, take_of, left_of, changes, bars, is_lost}
 use Rattle.roster.specs.declared.Member.{Member}
 use Rattle.roster.specs.Members.{no_member, landed_one, barred_one}
 use Rattle.net.specs.declared.Station.{Station}
@@ -38,9 +36,9 @@ numbered_of w here slot field k room =
     cond (not here || handed_of w k) (unwanted_of slot here)
     (record { slot = slot; here = here; wanted = true; barred = barred_of w k; number = k; offset = field % 65536; room = room })
 
-abbrev pub piece_by : Number → Window → Bool → ℕ → ℕ → List ℕ → ℕ → ℕ → ℕ → Piece
-piece_by Before w here slot field owners busy landed count = unwanted_of slot here
-piece_by (Is k) w here slot field owners busy landed count =
+abbrev pub piece_by : Option ℕ → Window → Bool → ℕ → ℕ → List ℕ → ℕ → ℕ → ℕ → Piece
+piece_by None w here slot field owners busy landed count = unwanted_of slot here
+piece_by (Some k) w here slot field owners busy landed count =
     numbered_of w here slot field k (room_for owners busy landed count (owner_of slot k))
 
 -- the piece in a frame of `slot`, whose boat has the window w where it is `here`
@@ -80,26 +78,26 @@ busy_after busy d p c = cond (changes d.kept) (with_bit busy c) (cond (frees d p
 -- the landed bit of a cell that a piece changed says whether its message landed
 abbrev pub landed_after : ℕ → Taken → Piece → ℕ → ℕ
 landed_after landed d p c =
-    cond (changes d.kept) (cond (has_landed d.landed) (with_bit landed c) (without_bit landed c))
+    cond (changes d.kept) (cond (is_some d.landed) (with_bit landed c) (without_bit landed c))
     (cond (frees d p) (without_bit landed c) landed)
 
 abbrev pub member_after : Member → Taken → Piece → Air → Member
 member_after m d p a =
     cond (not p.here || is_lost d.kept) (cond (bars d.kept) (barred_one m p.number) m)
-    (cond (has_landed d.landed) (landed_one (heard_member a m p.slot) p.number (stop (size_of d.landed))) (heard_member a m p.slot))
+    (cond (is_some d.landed) (landed_one (heard_member a m p.slot) p.number (stop (size_of d.landed))) (heard_member a m p.slot))
 
 abbrev pub relayed_by : Taken → Piece → Air → ℕ → Bool
-relayed_by d p a used = has_landed d.landed && not (eqb a.polled p.slot) && is_member used a.polled
+relayed_by d p a used = is_some d.landed && not (eqb a.polled p.slot) && is_member used a.polled
 
 abbrev pub round_after : Round → Taken → Bool → Round
-round_after r d relayed = with_rxdirty (with_traffic r (r.traffic || has_landed d.landed)) (r.rxdirty || relayed)
+round_after r d relayed = with_rxdirty (with_traffic r (r.traffic || is_some d.landed)) (r.rxdirty || relayed)
 
 abbrev pub totals_after : Totals → Bool → Totals
 totals_after t relayed = cond relayed (with_relays t (stop (t.relays + 1))) t
 
 abbrev pub landed_events : Taken → Piece → ℕ → Bool → ℕ → List ℕ
 landed_events d p c relayed polled =
-    cond (has_landed d.landed)
+    cond (is_some d.landed)
     (cond relayed (event_word 4 p.slot polled ∷ message_word p.slot c p.number ∷ []) (message_word p.slot c p.number ∷ [])) []
 
 -- the station after the stores of a piece of the boat at i, offered to cell c

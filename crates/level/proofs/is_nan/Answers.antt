@@ -1,6 +1,7 @@
 -- `level::is_nan` meets its contract, by cases on the value. Assumes nothing.
-use Rattle.level.proofs.Total.{nan_alone}
+use mathlib.Core.Path.{◌∙◌}
+use Rattle.level.proofs.Sign.{nan_is}
 use Rattle.level.proofs.is_nan.Goals as goal
 
 pub returns : goal.returns
-returns c = nan_alone c.args.x
+returns c = c.is_nan.ensures.value ∙ nan_is c.args.x

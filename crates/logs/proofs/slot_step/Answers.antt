@@ -2,6 +2,7 @@
 use mathlib.Core.Path.{sym, ap, ◌∙◌}
 use Prim.Native.Nat.{ℕ, ◌-◌}
 use Rattle.bits.proofs.Lists.{cond_true, cond_false}
+use Rattle.std.specs.Prelude.{Some}
 use Rattle.logs.specs.Steps.{slot_step, marks}
 use Rattle.logs.proofs.slot_step.Goals as goal
 
@@ -11,4 +12,4 @@ returns-then-not-slot_ok c = sym (cond_false _ _ _ (sym c.slot_ok.ensures ∙ c.
 
 pub returns : goal.returns
 unfolding slot_step
-returns c = ap (λ (k : ℕ). marks (c.args.m.left - 1) k) c.with.ensures ∙ sym (cond_true _ _ _ (sym c.slot_ok.ensures ∙ c.if-not-slot_ok.false))
+returns c = ap (λ (k : ℕ). Some (marks (c.args.m.left - 1) k)) c.with.ensures ∙ sym (cond_true _ _ _ (sym c.slot_ok.ensures ∙ c.if-not-slot_ok.false))

@@ -1,6 +1,7 @@
 -- Assumes nothing.
-use mathlib.Core.Path.{sym, ◌∙◌}
+use mathlib.Core.Path.{sym, ap, ◌∙◌}
 use Rattle.bits.proofs.Lists.{cond_true, cond_false}
+use Rattle.std.specs.Prelude.{Ok}
 use Rattle.logs.specs.Turns.{verdict_of}
 use Rattle.logs.proofs.turn_check.Goals as goal
 
@@ -12,10 +13,7 @@ pub returns-then-not-marks_ok : goal.returns-then-not-marks_ok
 unfolding verdict_of
 returns-then-not-marks_ok c = sym (cond_true _ _ _ (sym c.sendings_ok.ensures ∙ c.if-not-sendings_ok.false) ∙ cond_false _ _ _ (sym c.marks_ok.ensures ∙ c.if-not-marks_ok.true))
 
-pub returns-then-turns_ok : goal.returns-then-turns_ok
-unfolding verdict_of
-returns-then-turns_ok c = sym (cond_true _ _ _ (sym c.sendings_ok.ensures ∙ c.if-not-sendings_ok.false) ∙ cond_true _ _ _ (sym c.marks_ok.ensures ∙ c.if-not-marks_ok.false) ∙ cond_true _ _ _ (sym c.turns_ok.ensures ∙ c.if-turns_ok.true))
-
 pub returns : goal.returns
 unfolding verdict_of
-returns c = sym (cond_true _ _ _ (sym c.sendings_ok.ensures ∙ c.if-not-sendings_ok.false) ∙ cond_true _ _ _ (sym c.marks_ok.ensures ∙ c.if-not-marks_ok.false) ∙ cond_false _ _ _ (sym c.turns_ok.ensures ∙ c.if-turns_ok.false))
+returns c =
+    ap Ok c.turns_ok.ensures ∙ sym (cond_true _ _ _ (sym c.sendings_ok.ensures ∙ c.if-not-sendings_ok.false) ∙ cond_true _ _ _ (sym c.marks_ok.ensures ∙ c.if-not-marks_ok.false))

@@ -1,9 +1,7 @@
 -- The end of a sending as the code takes it: what is read of the boat whose reply is waited for is one truth value. Law `done_is` (proofs/Laws.antt) says
 -- that it comes to `done_by`.
-use Rattle.std.specs.Prelude.{ℕ, Bool, cond, ◌&&◌, eqb, Float}
+use Rattle.std.specs.Prelude.{Bool, cond, ◌&&◌, eqb, Float, Option, Some}
 use Rattle.level.specs.Levels.{is_heard}
-use Rattle.level.specs.declared.Clock.{Clock}
-use Rattle.level.specs.declared.Clock.TheVariants.{At}
 use Rattle.roster.specs.declared.Member.{Member}
 use Rattle.net.specs.declared.Settings.{Settings}
 use Rattle.net.specs.declared.Turn.{Turn}
@@ -15,8 +13,8 @@ use Rattle.net.specs.Net.{plus, wait_of}
 abbrev pub is_sure : Bool → Member → Bool
 is_sure here m = here && is_heard m.snrup && eqb m.missed 0
 
-abbrev pub deadline_for : Settings → Bool → Float → Clock
-deadline_for g sure t = At (plus (plus (plus t g.turnaround) (cond sure g.detect g.maxburst)) g.replyslack)
+abbrev pub deadline_for : Settings → Bool → Float → Option Float
+deadline_for g sure t = Some (plus (plus (plus t g.turnaround) (cond sure g.detect g.maxburst)) g.replyslack)
 
 abbrev pub done_for : Turn → Wait → Settings → Bool → Float → Wait
 done_for Idle w g sure t = w

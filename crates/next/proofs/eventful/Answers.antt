@@ -1,21 +1,12 @@
-use Rattle.std.proofs.Common.{◌-◌, get_or, sym, refl, ◌∙◌, arith}
+use Rattle.std.proofs.Common.{get_or, sym, refl, ◌∙◌, arith}
 use Rattle.roster.specs.Members.{no_member}
 use Rattle.bits.proofs.Loops.{any_pass, any_stop, any_end}
 use Rattle.net.proofs.Laws.{index_lt}
 use Rattle.next.specs.Code.Decision.{eventful_in}
 use Rattle.next.proofs.eventful.Goals as goal
 
-pub bounds-th-0 : goal.bounds-th-0
-bounds-th-0 c = omega arith
-
 pub loop-i-init : goal.loop-i-init
-loop-i-init c = (omega arith, refl)
-
-pub offset_bounds-ms-i : goal.offset_bounds-ms-i
-offset_bounds-ms-i c = omega arith
-
-pub bounds-ms-i : goal.bounds-ms-i
-bounds-ms-i c = omega arith
+loop-i-init c = refl
 
 pub offset_bounds-ms-v : goal.offset_bounds-ms-v
 offset_bounds-ms-v c = omega (arith, rw (← c.index-v.ensures) at (index_lt (get_or c.args.ms c.loop-i.i no_member).via))
@@ -26,20 +17,14 @@ bounds-ms-v c = omega (arith, rw (← c.index-v.ensures) at (index_lt (get_or c.
 pub returns-then-eventful_at : goal.returns-then-eventful_at
 returns-then-eventful_at c =
     let a = c.args in
-    sym (any_stop (eventful_in a.ms a.used a.g) 62 c.loop-i.i c.loop-i-test.true (rw (c.eventful_at.ensures, c.has.ensures, c.index-v.ensures) at c.if-eventful_at.true)) ∙ c.loop-i.invariant.1
-
-pub overflow_add-i : goal.overflow_add-i
-overflow_add-i c = omega arith
-
-pub loop-i-smaller : goal.loop-i-smaller
-loop-i-smaller c = omega arith
+    sym (any_stop (eventful_in a.ms a.used a.g) 62 c.loop-i.i c.loop-i-test.true (rw (c.eventful_at.ensures, c.has.ensures, c.index-v.ensures) at c.if-eventful_at.true)) ∙ c.loop-i.invariant
 
 pub loop-i-preserved : goal.loop-i-preserved
 loop-i-preserved c =
     let a = c.args in
-    (omega arith, sym (any_pass (eventful_in a.ms a.used a.g) 62 c.loop-i.i c.loop-i-test.true (rw (c.eventful_at.ensures, c.has.ensures, c.index-v.ensures) at c.if-eventful_at.false)) ∙ c.loop-i.invariant.1)
+    sym (any_pass (eventful_in a.ms a.used a.g) 62 c.loop-i.i c.loop-i-test.true (rw (c.eventful_at.ensures, c.has.ensures, c.index-v.ensures) at c.if-eventful_at.false)) ∙ c.loop-i.invariant
 
 pub returns : goal.returns
 returns c =
     let a = c.args in
-    sym (any_end (eventful_in a.ms a.used a.g) _ _ c.loop-i-test.false) ∙ c.loop-i.invariant.1
+    sym (any_end (eventful_in a.ms a.used a.g) _ _ c.loop-i-test.false) ∙ c.loop-i.invariant

@@ -1,4 +1,4 @@
-use Rattle.std.proofs.Common.{◌≡◌, ◌-◌, sym, ◌∙◌, arith}
+use Rattle.std.proofs.Common.{◌≡◌, sym, ◌∙◌, arith}
 use Rattle.out.proofs.Laws.{wrote_length}
 use Rattle.net.specs.Net.{Did}
 use Rattle.net.proofs.Laws.{index_lt}
@@ -47,12 +47,6 @@ offset_bounds-s-j-in-loop-j c = omega (arith, c.loop-j.invariant.most)
 
 pub bounds-s-j-in-loop-j : goal.bounds-s-j-in-loop-j
 bounds-s-j-in-loop-j c = omega (arith, c.loop-j.invariant.most)
-
-pub overflow_add-j : goal.overflow_add-j
-overflow_add-j c = omega (arith, c.loop-j.invariant.most)
-
-pub loop-j-smaller : goal.loop-j-smaller
-loop-j-smaller c = omega (arith, c.loop-j-test.true)
 
 pub loop-j-preserved : goal.loop-j-preserved
 loop-j-preserved c = looking_turn c.loop-j-test.true c.loop-j.invariant c.look-seen.ensures

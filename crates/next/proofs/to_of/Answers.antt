@@ -4,8 +4,8 @@ use Rattle.next.proofs.to_of.Goals as goal
 pub returns-then-has : goal.returns-then-has
 returns-then-has c = rw (← c.has.ensures, c.if-has.true)
 
-pub returns-in-At : goal.returns-in-At
-returns-in-At c = rw (← c.has.ensures, c.if-has.false, ← c.lowest.ensures, c.in-At.is) c.low.ensures
+pub returns-in-Some : goal.returns-in-Some
+returns-in-Some c = rw (← c.has.ensures, c.if-has.false, ← c.lowest.ensures, c.in-Some.is)
 
-pub returns-in-Nothing : goal.returns-in-Nothing
-returns-in-Nothing c = rw (← c.has.ensures, c.if-has.false, ← c.lowest.ensures, c.in-Nothing.is)
+pub returns-in-None : goal.returns-in-None
+returns-in-None c = rw (← c.has.ensures, c.if-has.false, ← c.lowest.ensures, c.in-None.is)

@@ -1,13 +1,10 @@
 -- ncs_next of ncs.rs as the code goes: one line through the station, with what is due as numbers. The proof shows that it comes to the stages of `Next`.
-use Rattle.std.specs.Prelude.{◌≡◌, ℕ, ◌+◌, ◌-◌, ◌%◌, ◌<◌, ◌≤◌, Bool, true, false, cond, not, ◌&&◌, ◌||◌, List, [], ◌∷◌, ◌++◌, get_or, ◌==◌, ◌≢◌, nat_lt, slice_index_or, slice_set, Float}
+use Rattle.std.specs.Prelude.{◌≡◌, ℕ, ◌+◌, ◌-◌, ◌%◌, ◌<◌, ◌≤◌, Bool, true, false, cond, not, ◌&&◌, ◌||◌, List, [], ◌∷◌, ◌++◌, get_or, ◌==◌, ◌≢◌, nat_lt, slice_index_or, slice_set, Float, Option, Some, None}
 use Rattle.std.specs.Float.{nan, binary32}
 use Rattle.std.specs.Float.Ieee.{add, lt}
 use Rattle.bits.specs.Loop.{fold}
 use Rattle.bits.specs.Mask.{has_bit, with_bit, without_bit, lowest_bit}
 use Rattle.bits.specs.Stop.{stop}
-use Rattle.bits.specs.declared.Found.{Found}
-use Rattle.bits.specs.declared.Found.TheVariants as found
-use Rattle.level.specs.declared.Clock.TheVariants.{Never}
 use Rattle.level.specs.Levels.{is_heard}
 use Rattle.level.specs.Order.{least}
 use Rattle.wire.specs.Kinds.{k_close}
@@ -84,7 +81,7 @@ late_source hears used m l =
 abbrev pub late_wait : Wait → Late → Wait
 late_wait w l =
     cond l.again
-    (wait_of (Waiting (record { slot = l.slot; relayfor = l.relayfor; tries = 1; turnbursts = l.turnbursts })) Never)
+    (wait_of (Waiting (record { slot = l.slot; relayfor = l.relayfor; tries = 1; turnbursts = l.turnbursts })) None)
     (cond l.missed idle_wait w)
 
 -- the member that was polled was silent before, and is after
@@ -228,9 +225,9 @@ may_poll act.Acks = false
 may_poll act.Draw = true
 may_poll act.Poll = true
 
-abbrev pub front_by : Found → ℕ
-front_by found.Nothing = 255
-front_by (found.At slot) = slot % 256
+abbrev pub front_by : Option ℕ → ℕ
+front_by None = 255
+front_by (Some slot) = slot % 256
 
 -- the slot to be polled, 255 for none
 abbrev pub front_of : Wait → ℕ → Act → ℕ

@@ -13,9 +13,6 @@ overflow_cast-m c = let a = c.args in omega (arith, cut_room _ a.n _ a.p.now c.l
 pub overflow_add-flags-2 : goal.overflow_add-flags-2
 overflow_add-flags-2 c = let a = c.args in omega (arith, cut_room _ a.n _ a.p.now c.least.ensures c.least-m.ensures)
 
-pub put_payload-requires : goal.put_payload-requires
-put_payload-requires c = let a = c.args in cut_room _ a.n _ a.p.now c.least.ensures c.least-m.ensures
-
 pub returns : goal.returns
 returns c =
     let a = c.args in

@@ -4,7 +4,6 @@ use Rattle.frames.specs.declared.Rx.{Rx}
 use Rattle.frames.specs.Code.Kinds.{Piece, Checkin, Overheard, Kids}
 use Rattle.frames.proofs.ByKind.{kind_up, kind_byte, is_checkin, short_checkin, is_report_lem, short_report, is_overheard, is_kids, is_none}
 use native.Mathlib.Omega.{arith}
-use Prim.Native.Nat.{◌-◌}
 use Rattle.net.proofs.Laws.{index_lt}
 use Rattle.rx.proofs.Endings.{finished}
 use Rattle.rx.proofs.Turns.{going_start, fits, fewer, read_done}

@@ -1,6 +1,6 @@
 use mathlib.Core.Path.{◌≡◌, refl, ap, ◌∙◌}
 use mathlib.Core.List.{List, [], ◌++◌}
-use Prim.Native.Nat.{ℕ, ◌+◌, ◌*◌, ◌-◌, ◌<◌}
+use Prim.Native.Nat.{ℕ, ◌+◌, ◌*◌, ◌<◌}
 use native.Mathlib.Omega.{arith}
 use lib.ListN.{length, get_or, drop}
 use lib.Seq.{paste, take_all}
@@ -26,19 +26,18 @@ pub returns-then-out-lt-SHEET : goal.returns-then-out-lt-SHEET
 returns-then-out-lt-SHEET c = let a = c.args in rw (lt-ltb (length a.out.now) 9849 (omega arith)) (refl, refl)
 
 pub loop-k-init : goal.loop-k-init
-loop-k-init c = (omega arith, refl, refl)
+loop-k-init c = (refl, refl)
 
 pub loop-k-preserved : goal.loop-k-preserved
 loop-k-preserved c =
     let a = c.args in
     let p = c.put_call in (
       omega arith,
-      omega arith,
-      p.ensures ∙ ap (λ (d : List ℕ). paste d (7 * c.loop-k.k) (get_or short_calls c.loop-k.k []) 7) c.loop-k.invariant.2 ∙ turn a.out.now c.loop-k.k (omega arith),
+      p.ensures ∙ ap (λ (d : List ℕ). paste d (7 * c.loop-k.k) (get_or short_calls c.loop-k.k []) 7) c.loop-k.invariant.1 ∙ turn a.out.now c.loop-k.k (omega arith),
     )
 
 pub returns : goal.returns
 returns c =
     let l = c.loop-k in
     let a = c.args in
-    rw (le-ltb (length a.out.now) 9849 (omega arith)) (refl, l.invariant.2 ∙ whole a.out.now l.k (omega arith))
+    rw (le-ltb (length a.out.now) 9849 (omega arith)) (refl, l.invariant.1 ∙ whole a.out.now l.k (omega arith))

@@ -1,6 +1,5 @@
 use mathlib.Core.Path.{◌≡◌, refl, sym, ap, ◌∙◌}
 use Prim.Native.Nat.{ℕ, ◌+◌, ◌-◌}
-use native.Mathlib.Omega.{arith}
 use Rattle.bits.specs.Loop.{fold}
 use Rattle.bits.proofs.Loops.{fold_turn, fold_end}
 use mathlib.Core.Bool.{Bool, true, false, cond, ◌&&◌}
@@ -32,61 +31,16 @@ seat_step s slot i false = rw (set-get_or s.recent i no_recent) (ap (with_member
 
 pub loop-i-init : goal.loop-i-init
 unfolding bereave_all
-loop-i-init c = (omega arith, refl)
-
-pub offset_bounds-s-i : goal.offset_bounds-s-i
-offset_bounds-s-i c = omega arith
-
-pub bounds-s-i : goal.bounds-s-i
-bounds-s-i c = omega arith
-
-pub has-here-requires : goal.has-here-requires
-has-here-requires c = tt
-
-pub bereft_if-k-requires : goal.bereft_if-k-requires
-bereft_if-k-requires c = tt
-
-pub offset_bounds-s-i-in-loop-i : goal.offset_bounds-s-i-in-loop-i
-offset_bounds-s-i-in-loop-i c = omega arith
-
-pub bounds-s-i-in-loop-i : goal.bounds-s-i-in-loop-i
-bounds-s-i-in-loop-i c = omega arith
-
-pub offset_bounds-s-i-in-loop-i-2 : goal.offset_bounds-s-i-in-loop-i-2
-offset_bounds-s-i-in-loop-i-2 c = omega arith
-
-pub bounds-s-i-in-loop-i-2 : goal.bounds-s-i-in-loop-i-2
-bounds-s-i-in-loop-i-2 c = omega arith
-
-pub recent_if-q-requires : goal.recent_if-q-requires
-recent_if-q-requires c = tt
-
-pub offset_bounds-s-i-in-loop-i-3 : goal.offset_bounds-s-i-in-loop-i-3
-offset_bounds-s-i-in-loop-i-3 c = omega arith
-
-pub bounds-s-i-in-loop-i-3 : goal.bounds-s-i-in-loop-i-3
-bounds-s-i-in-loop-i-3 c = omega arith
-
-pub tally_if-silent-requires : goal.tally_if-silent-requires
-tally_if-silent-requires c = tt
-
-pub overflow_add-i : goal.overflow_add-i
-overflow_add-i c = omega arith
-
-pub loop-i-smaller : goal.loop-i-smaller
-loop-i-smaller c = omega arith
+loop-i-init c = refl
 
 pub loop-i-preserved : goal.loop-i-preserved
 unfolding bereave_at
 loop-i-preserved c =
     let l = c.loop-i in
     let slot = c.args.slot in
-    let h = c.loop-i-test.true in (
-      omega arith,
-      rw (c.tally_if-silent.ensures, c.recent_if-q.ensures, c.bereft_if-k.ensures, c.has-here.ensures)
-          (ap (fold (bereave_at slot) (62 - (l.i + 1)) (l.i + 1)) (seat_step l.s slot l.i (has_bit l.s.used l.i))
-          ∙ sym (fold_turn (bereave_at slot) 62 l.i l.s h) ∙ l.invariant.1),
-    )
+    let h = c.loop-i-test.true in rw (c.tally_if-silent.ensures, c.recent_if-q.ensures, c.bereft_if-k.ensures, c.has-here.ensures)
+    (ap (fold (bereave_at slot) (62 - (l.i + 1)) (l.i + 1)) (seat_step l.s slot l.i (has_bit l.s.used l.i))
+    ∙ sym (fold_turn (bereave_at slot) 62 l.i l.s h) ∙ l.invariant)
 
 pub returns : goal.returns
-returns c = sym (fold_end _ _ _ _ c.loop-i-test.false) ∙ c.loop-i.invariant.1
+returns c = sym (fold_end _ _ _ _ c.loop-i-test.false) ∙ c.loop-i.invariant

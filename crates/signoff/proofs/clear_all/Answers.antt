@@ -1,6 +1,5 @@
 use mathlib.Core.Path.{◌≡◌, refl, sym, ap, ◌∙◌}
 use Prim.Native.Nat.{ℕ, ◌+◌, ◌-◌}
-use native.Mathlib.Omega.{arith}
 use Rattle.bits.specs.Loop.{fold}
 use Rattle.bits.proofs.Loops.{fold_turn, fold_end}
 use mathlib.Core.Bool.{Bool, true, false, cond}
@@ -17,40 +16,16 @@ table_step t c false = refl
 
 pub loop-c-init : goal.loop-c-init
 unfolding clear_all
-loop-c-init c = (omega arith, refl)
-
-pub offset_bounds-s-c : goal.offset_bounds-s-c
-offset_bounds-s-c c = omega arith
-
-pub bounds-s-c : goal.bounds-s-c
-bounds-s-c c = omega arith
-
-pub has-requires : goal.has-requires
-has-requires c = tt
-
-pub without_if-requires : goal.without_if-requires
-without_if-requires c = tt
-
-pub without_if-requires-in-loop-c : goal.without_if-requires-in-loop-c
-without_if-requires-in-loop-c c = tt
-
-pub overflow_add-c : goal.overflow_add-c
-overflow_add-c c = omega arith
-
-pub loop-c-smaller : goal.loop-c-smaller
-loop-c-smaller c = omega arith
+loop-c-init c = refl
 
 pub loop-c-preserved : goal.loop-c-preserved
 unfolding clear_at
 loop-c-preserved c =
     let l = c.loop-c in
     let slot = c.args.slot in
-    let h = c.loop-c-test.true in (
-      omega arith,
-      rw (c.without_if-in-loop-c.ensures, c.without_if.ensures, c.has.ensures)
-          (ap (λ (t : Table). with_table l.s (fold (clear_at slot) (64 - (l.c + 1)) (l.c + 1) t)) (table_step (table_of l.s) l.c (is_cell_of (table_of l.s) slot l.c))
-          ∙ sym (ap (with_table l.s) (fold_turn (clear_at slot) 64 l.c (table_of l.s) h)) ∙ l.invariant.1),
-    )
+    let h = c.loop-c-test.true in rw (c.without_if-in-loop-c.ensures, c.without_if.ensures, c.has.ensures)
+    (ap (λ (t : Table). with_table l.s (fold (clear_at slot) (64 - (l.c + 1)) (l.c + 1) t)) (table_step (table_of l.s) l.c (is_cell_of (table_of l.s) slot l.c))
+    ∙ sym (ap (with_table l.s) (fold_turn (clear_at slot) 64 l.c (table_of l.s) h)) ∙ l.invariant)
 
 pub returns : goal.returns
-returns c = sym (ap (with_table c.loop-c.s) (fold_end _ _ _ _ c.loop-c-test.false)) ∙ c.loop-c.invariant.1
+returns c = sym (ap (with_table c.loop-c.s) (fold_end _ _ _ _ c.loop-c-test.false)) ∙ c.loop-c.invariant

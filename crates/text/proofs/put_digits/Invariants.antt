@@ -6,6 +6,3 @@ use Rattle.text.proofs.put_digits.Given as goal
 
 abbrev pub invariant-loop-k : goal.invariant-loop-k
 invariant-loop-k l = Still l.initial.t l.at (digits_of l.small l.v l.digits) l.t l.e (digits_of l.small l.v l.k)
-
-abbrev pub decreases-loop-k : goal.decreases-loop-k
-decreases-loop-k l = l.k

@@ -2,19 +2,13 @@
 -- second's: the first j bytes are. Assumes nothing.
 use mathlib.Core.Path.{◌≡◌}
 use mathlib.Core.List.{◌++◌}
-use Prim.Native.Nat.{◌+◌, ◌-◌, ◌*◌, ◌≤◌}
+use Prim.Native.Nat.{◌-◌, ◌*◌, ◌≤◌}
 use lib.ListN.{drop, replicate}
 use Rattle.words.specs.Words.{bytes_at}
 use Rattle.words.proofs.payload.Given as goal
 
 abbrev pub invariant-loop-k : goal.invariant-loop-k
-invariant-loop-k l = (l.k ≤ l.full) × (l.m ≤ 255) × (l.out ≡ bytes_at (drop l.at l.words) (3 * l.k) ++ replicate (255 - 3 * l.k) 0)
-
-abbrev pub decreases-loop-k : goal.decreases-loop-k
-decreases-loop-k l = l.full - l.k
+invariant-loop-k l = (l.m ≤ 255) × (l.out ≡ bytes_at (drop l.at l.words) (3 * l.k) ++ replicate (255 - 3 * l.k) 0)
 
 abbrev pub invariant-loop-j : goal.invariant-loop-j
-invariant-loop-j l = (l.j ≤ l.m) × (l.m ≤ 255) × (l.out ≡ bytes_at (drop l.at l.words) l.j ++ replicate (255 - l.j) 0)
-
-abbrev pub decreases-loop-j : goal.decreases-loop-j
-decreases-loop-j l = l.m - l.j
+invariant-loop-j l = (l.m ≤ 255) × (l.out ≡ bytes_at (drop l.at l.words) l.j ++ replicate (255 - l.j) 0)

@@ -1,37 +1,22 @@
-use mathlib.Core.Path.{refl, sym, ◌∙◌}
+use mathlib.Core.Path.{sym, ◌∙◌}
 use native.Mathlib.Omega.{arith}
-use lib.ListN.{drop}
-use Rattle.words.proofs.Laws.{payload_end, payload_bad, payload_more, payload_done}
-use borrow.Author.Rules.{rules}
+use Rattle.words.proofs.Laws.{payload_rest, payload_bad, payload_more, payload_done}
 use Rattle.words.proofs.payload_ok.Goals as goal
 
-pub loop-left-init : goal.loop-left-init
-loop-left-init c = (search rules, refl)
-
-pub returns-then-words-at : goal.returns-then-words-at
-returns-then-words-at c =
-    sym (c.loop-left.invariant.1 ∙ payload_end c.args.words.now c.loop-left.at c.loop-left.left (omega arith) (omega arith))
+pub returns-then-left-eq0 : goal.returns-then-left-eq0
+returns-then-left-eq0 c = sym (c.loop-w.invariant ∙ payload_done _ _ c.if-left-eq0.true)
 
 pub returns-then-not-word_ok : goal.returns-then-not-word_ok
 returns-then-not-word_ok c =
-    sym (c.loop-left.invariant.1
-    ∙ payload_bad c.args.words.now c.loop-left.at c.loop-left.left (omega arith) (omega arith)
+    sym (c.loop-w.invariant
+    ∙ payload_bad c.args.words.now c.loop-w.w-index c.loop-w.left (omega arith) (omega arith)
     (sym c.word_ok.ensures ∙ c.if-not-word_ok.true))
 
-pub overflow_add-at : goal.overflow_add-at
-overflow_add-at c = omega arith
-
-pub loop-left-smaller : goal.loop-left-smaller
-loop-left-smaller c = omega arith
-
-pub loop-left-preserved : goal.loop-left-preserved
-loop-left-preserved c = (
-  omega arith,
-  c.loop-left.invariant.1
-      ∙ payload_more c.args.words.now c.loop-left.at c.loop-left.left c.less3-left.result (omega arith) (omega arith)
-      c.less3-left.ensures (sym c.word_ok.ensures ∙ c.if-not-word_ok.false),
-)
+pub loop-w-preserved : goal.loop-w-preserved
+loop-w-preserved c =
+    c.loop-w.invariant
+    ∙ payload_more c.args.words.now c.loop-w.w-index c.loop-w.left c.saturating_sub-left.result (omega arith) (omega arith)
+    c.saturating_sub-left.ensures (sym c.word_ok.ensures ∙ c.if-not-word_ok.false)
 
 pub returns : goal.returns
-returns c =
-    sym (c.loop-left.invariant.1 ∙ payload_done (drop c.loop-left.at c.args.words.now) c.loop-left.left (omega arith))
+returns c = sym (c.loop-w.invariant ∙ payload_rest c.args.words.now c.loop-w.w-index c.loop-w.left (omega arith))

@@ -1,22 +1,23 @@
-use mathlib.Core.Path.{sym, ap, ◌∙◌}
-use Prim.Native.Nat.{◌-◌}
+use mathlib.Core.Path.{◌≡◌, sym, ap, ◌∙◌}
 use native.Mathlib.Omega.{arith}
-use Rattle.words.specs.Words.{shape_of}
+use borrow.Author.Tests.{eqb-true, eqb-false}
+use Rattle.words.specs.Words.{shape_of, last_shape}
 use Rattle.words.proofs.Laws.{shape_end, shape_more, shape_full, item_within, parse_none, parse_head_bad, parse_head}
 use Rattle.words.proofs.shape_of.Goals as goal
 
-pub returns-then-words-eq0 : goal.returns-then-words-eq0
-returns-then-words-eq0 c = rw (parse_none c.args.words.now c.if-words-eq0.true)
+pub returns-then-is_empty : goal.returns-then-is_empty
+returns-then-is_empty c = rw (parse_none c.args.words.now (eqb-true _ _ (sym c.is_empty.ensures ∙ c.if-is_empty.true)))
 
 pub returns-then-not-head_ok : goal.returns-then-not-head_ok
 returns-then-not-head_ok c =
     let a = c.args in
+    let n = eqb-false _ _ (sym c.is_empty.ensures ∙ c.if-is_empty.false) in
     ap shape_of (sym (parse_head_bad a.words.now (omega arith) (sym c.head_ok.ensures ∙ c.if-not-head_ok.true)))
 
 pub loop-n-init : goal.loop-n-init
 loop-n-init c =
-    let a = c.args in (
-      omega arith,
+    let a = c.args in
+    let n = eqb-false _ _ (sym c.is_empty.ensures ∙ c.if-is_empty.false) in (
       omega arith,
       parse_head a.words.now (omega arith) (sym c.head_ok.ensures ∙ c.if-not-head_ok.false),
     )
@@ -26,7 +27,7 @@ returns-then-size-eq0 c =
     let i = c.item_at-i in
     let s = c.size_of-size in
     c.last.ensures
-    ∙ sym (c.loop-n.invariant.2 ∙ shape_end c.args.words.now c.loop-n.at c.loop-n.n i.result s.result i.ensures s.ensures (omega arith) c.if-size-eq0.true)
+    ∙ sym (c.loop-n.invariant.1 ∙ shape_end c.args.words.now c.loop-n.at c.loop-n.n i.result s.result i.ensures s.ensures (omega arith) c.if-size-eq0.true)
 
 pub overflow_add-at : goal.overflow_add-at
 overflow_add-at c =
@@ -37,11 +38,12 @@ loop-n-preserved c =
     let i = c.item_at-i in
     let s = c.size_of-size in (
       item_within c.args.words.now c.loop-n.at i.result s.result c.loop-n.invariant.0 i.ensures s.ensures,
-      omega arith,
-      c.loop-n.invariant.2 ∙ shape_more c.args.words.now c.loop-n.at c.loop-n.n i.result s.result i.ensures s.ensures (omega arith) c.if-size-eq0.false,
+      c.loop-n.invariant.1 ∙ shape_more c.args.words.now c.loop-n.at c.loop-n.n i.result s.result i.ensures s.ensures (omega arith) c.if-size-eq0.false,
     )
 
 pub returns : goal.returns
 returns c =
     let i = c.item_at in
-    c.last-2.ensures ∙ sym (c.loop-n.invariant.2 ∙ shape_full c.args.words.now c.loop-n.at c.loop-n.n i.result i.ensures (omega arith))
+    let e : c.loop-n.n ≡ 64 = omega arith in
+    c.last-2.ensures
+    ∙ sym (c.loop-n.invariant.1 ∙ shape_full c.args.words.now c.loop-n.at c.loop-n.n i.result i.ensures (omega arith) ∙ ap (last_shape i.result) e)

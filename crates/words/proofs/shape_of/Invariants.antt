@@ -8,7 +8,4 @@ use Rattle.words.proofs.Laws.{shape_from}
 use Rattle.words.proofs.shape_of.Given as goal
 
 abbrev pub invariant-loop-n : goal.invariant-loop-n
-invariant-loop-n l = (l.at ≤ length l.words) × (l.n ≤ 64) × (shape_of (parse l.words) ≡ shape_from l.n (frames_of (64 - l.n) (drop l.at l.words)))
-
-abbrev pub decreases-loop-n : goal.decreases-loop-n
-decreases-loop-n l = 64 - l.n
+invariant-loop-n l = (l.at ≤ length l.words) × (shape_of (parse l.words) ≡ shape_from l.n (frames_of (64 - l.n) (drop l.at l.words)))

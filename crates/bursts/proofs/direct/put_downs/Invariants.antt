@@ -4,8 +4,5 @@ use Rattle.out.proofs.Laws.{Still}
 use Rattle.bursts.specs.Direct.{down_frames}
 use Rattle.bursts.proofs.direct.put_downs.Given as goal
 
-abbrev pub invariant-loop-n : goal.invariant-loop-n
-invariant-loop-n l = (l.k < 8589934592) × Still l.initial.o l.at (down_frames l.room l.queue l.slot l.max l.last l.from) l.o l.put (down_frames (l.room - l.n) l.queue l.slot l.max l.last l.k)
-
-abbrev pub decreases-loop-n : goal.decreases-loop-n
-decreases-loop-n l = l.room - l.n
+abbrev pub invariant-loop : goal.invariant-loop
+invariant-loop l = (l.k < 8589934592) × Still l.initial.o l.at (down_frames l.room l.queue l.slot l.max l.last l.from) l.o l.put (down_frames (l.room - l.counter) l.queue l.slot l.max l.last l.k)

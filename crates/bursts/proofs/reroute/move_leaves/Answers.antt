@@ -1,5 +1,5 @@
 use mathlib.Core.Path.{ap}
-use Prim.Native.Nat.{ℕ, ◌-◌}
+use Prim.Native.Nat.{ℕ}
 use native.Mathlib.Omega.{arith}
 use Rattle.net.proofs.Laws.{index_lt}
 use mathlib.Core.List.{[]}
@@ -16,16 +16,7 @@ pub loop-c-init : goal.loop-c-init
 unfolding move_all
 loop-c-init c =
     let a = c.args in
-    (omega arith, c.requires.1, going_start _ _ _ _ _ (ap (λ (m : ℕ). fold (move_at m) 62 0 (said a.s [])) c.requires.0))
-
-pub offset_bounds-s-c : goal.offset_bounds-s-c
-offset_bounds-s-c c = omega arith
-
-pub bounds-s-c : goal.bounds-s-c
-bounds-s-c c = omega arith
-
-pub index-v-requires : goal.index-v-requires
-index-v-requires c = tt
+    (c.requires.1, going_start _ _ _ _ _ (ap (λ (m : ℕ). fold (move_at m) 62 0 (said a.s [])) c.requires.0))
 
 pub offset_bounds-s-v : goal.offset_bounds-s-v
 offset_bounds-s-v c =
@@ -39,58 +30,18 @@ bounds-s-v c =
     let h = index_lt (member_in c.loop-c.s c.loop-c.c).via in
     omega (arith, rw (← e) at h)
 
-pub has-requires : goal.has-requires
-has-requires c = tt
-
-pub is_down-requires : goal.is_down-requires
-is_down-requires c = tt
-
-pub overflow_cast-c : goal.overflow_cast-c
-overflow_cast-c c = omega arith
-
-pub new_relay-r-requires : goal.new_relay-r-requires
-new_relay-r-requires c = tt
-
-pub moved_to-k-requires : goal.moved_to-k-requires
-moved_to-k-requires c = tt
-
-pub offset_bounds-s-c-in-loop-c : goal.offset_bounds-s-c-in-loop-c
-offset_bounds-s-c-in-loop-c c = omega arith
-
-pub bounds-s-c-in-loop-c : goal.bounds-s-c-in-loop-c
-bounds-s-c-in-loop-c c = omega arith
-
-pub tally-silent-requires : goal.tally-silent-requires
-tally-silent-requires c = tt
-
-pub without_if-free-requires : goal.without_if-free-requires
-without_if-free-requires c = tt
-
-pub with_if-news-requires : goal.with_if-news-requires
-with_if-news-requires c = tt
-
-pub routed-end-requires : goal.routed-end-requires
-routed-end-requires c = tt
-
-pub overflow_add-c : goal.overflow_add-c
-overflow_add-c c = omega (arith, c.loop-c-test.true)
-
-pub loop-c-smaller : goal.loop-c-smaller
-loop-c-smaller c = omega (arith, c.loop-c-test.true)
-
 pub loop-c-preserved : goal.loop-c-preserved
 loop-c-preserved c =
     let r = c.new_relay-r in
     let l = c.loop-c in
-    let e = rw (c.has.ensures, c.is_down.ensures, c.index-v.ensures, l.invariant.1) at r.ensures in (
-      omega (arith, c.loop-c-test.true),
-      rw (c.without_if-free.ensures, l.invariant.1, c.moved_to-k.ensures) (able_moved r.result l.c l.s),
-      going_turn _ _ _ _ c.loop-c-test.true c.routed-end.ensures l.invariant.2
+    let e = rw (c.has.ensures, c.is_down.ensures, c.index-v.ensures, l.invariant.0) at r.ensures in (
+      rw (c.without_if-free.ensures, l.invariant.0, c.moved_to-k.ensures) (able_moved r.result l.c l.s),
+      going_turn _ _ _ _ c.loop-c-test.true c.routed-end.ensures l.invariant.1
           (λ ws. rw (c.tally-silent.ensures, c.moved_to-k.ensures, c.with_if-news.ensures) (move_turn c.args.leaves l.c l.s r.result e ws)),
     )
 
 pub shape_of-o : goal.shape_of-o
-shape_of-o c = wrote_length c.loop-c.invariant.2.wrote
+shape_of-o c = wrote_length c.loop-c.invariant.1.wrote
 
 pub returns : goal.returns
-returns c = going_end _ _ _ _ c.loop-c-test.false c.loop-c.invariant.2
+returns c = going_end _ _ _ _ c.loop-c-test.false c.loop-c.invariant.1

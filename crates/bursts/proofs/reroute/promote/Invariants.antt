@@ -1,11 +1,7 @@
 -- Assumes nothing.
-use Prim.Native.Nat.{◌≤◌, ◌-◌}
 use Rattle.bursts.specs.Reroute.{promote_at, promote_all}
 use Rattle.bursts.proofs.Saying.{Going}
 use Rattle.bursts.proofs.reroute.promote.Given as goal
 
 abbrev pub invariant-loop-i : goal.invariant-loop-i
-invariant-loop-i l = (l.i ≤ 62) × Going (promote_at l.floor) (promote_all l.initial.s) l.initial.o l.at l.i l.s l.o l.end
-
-abbrev pub decreases-loop-i : goal.decreases-loop-i
-decreases-loop-i l = 62 - l.i
+invariant-loop-i l = Going (promote_at l.floor) (promote_all l.initial.s) l.initial.o l.at l.i l.s l.o l.end

@@ -1,46 +1,17 @@
 use mathlib.Core.Path.{refl, sym, ap, ◌∙◌}
-use Prim.Native.Nat.{◌-◌}
-use native.Mathlib.Omega.{arith}
 use Rattle.bits.proofs.Loops.{fold_turn, fold_end}
 use Rattle.bursts.specs.Rows.{or_floor, least_direct}
 use Rattle.bursts.proofs.rows.least_direct.Goals as goal
 
 pub loop-i-init : goal.loop-i-init
 unfolding least_direct
-loop-i-init c = (omega arith, refl)
-
-pub offset_bounds-ms-i : goal.offset_bounds-ms-i
-offset_bounds-ms-i c = omega arith
-
-pub bounds-ms-i : goal.bounds-ms-i
-bounds-ms-i c = omega arith
-
-pub has-requires : goal.has-requires
-has-requires c = tt
-
-pub is_direct-requires : goal.is_direct-requires
-is_direct-requires c = tt
-
-pub down_level-requires : goal.down_level-requires
-down_level-requires c = tt
-
-pub least_if-lev-requires : goal.least_if-lev-requires
-least_if-lev-requires c = tt
-
-pub overflow_add-i : goal.overflow_add-i
-overflow_add-i c = omega arith
-
-pub loop-i-smaller : goal.loop-i-smaller
-loop-i-smaller c = omega arith
+loop-i-init c = refl
 
 pub loop-i-preserved : goal.loop-i-preserved
 loop-i-preserved c =
     let l = c.loop-i in
     let h = c.loop-i-test.true in
-    (omega arith, rw (c.least_if-lev.ensures, c.down_level.ensures, c.is_direct.ensures, c.has.ensures) (ap or_floor (sym (fold_turn _ 62 l.i l.lev h)) ∙ l.invariant.1))
-
-pub or_floor-requires : goal.or_floor-requires
-or_floor-requires c = tt
+    rw (c.least_if-lev.ensures, c.down_level.ensures, c.is_direct.ensures, c.has.ensures) (ap or_floor (sym (fold_turn _ 62 l.i l.lev h)) ∙ l.invariant)
 
 pub returns : goal.returns
-returns c = rw c.or_floor.ensures (ap or_floor (sym (fold_end _ _ _ _ c.loop-i-test.false)) ∙ c.loop-i.invariant.1)
+returns c = rw c.or_floor.ensures (ap or_floor (sym (fold_end _ _ _ _ c.loop-i-test.false)) ∙ c.loop-i.invariant)

@@ -1,5 +1,4 @@
 use mathlib.Core.Path.{refl, sym, ap, ◌∙◌}
-use Prim.Native.Nat.{◌-◌}
 use native.Mathlib.Omega.{arith}
 use Rattle.bits.proofs.Loops.{fold_turn, fold_end}
 use Rattle.net.proofs.Laws.{index_lt}
@@ -8,16 +7,7 @@ use Rattle.bursts.proofs.rows.least_reach.Goals as goal
 
 pub loop-i-init : goal.loop-i-init
 unfolding least_reach
-loop-i-init c = (omega arith, refl)
-
-pub offset_bounds-ms-i : goal.offset_bounds-ms-i
-offset_bounds-ms-i c = omega arith
-
-pub bounds-ms-i : goal.bounds-ms-i
-bounds-ms-i c = omega arith
-
-pub index-v-requires : goal.index-v-requires
-index-v-requires c = tt
+loop-i-init c = refl
 
 pub offset_bounds-ms-v : goal.offset_bounds-ms-v
 offset_bounds-ms-v c =
@@ -31,29 +21,11 @@ bounds-ms-v c =
     let h = index_lt (member_in c.args.s c.loop-i.i).via in
     omega (arith, rw (← e) at h)
 
-pub has-requires : goal.has-requires
-has-requires c = tt
-
-pub reach_level-requires : goal.reach_level-requires
-reach_level-requires c = tt
-
-pub least_if-lev-requires : goal.least_if-lev-requires
-least_if-lev-requires c = tt
-
-pub overflow_add-i : goal.overflow_add-i
-overflow_add-i c = omega arith
-
-pub loop-i-smaller : goal.loop-i-smaller
-loop-i-smaller c = omega arith
-
 pub loop-i-preserved : goal.loop-i-preserved
 loop-i-preserved c =
     let l = c.loop-i in
     let h = c.loop-i-test.true in
-    (omega arith, rw (c.least_if-lev.ensures, c.reach_level.ensures, c.has.ensures, c.index-v.ensures) (ap or_floor (sym (fold_turn _ 62 l.i l.lev h)) ∙ l.invariant.1))
-
-pub or_floor-requires : goal.or_floor-requires
-or_floor-requires c = tt
+    rw (c.least_if-lev.ensures, c.reach_level.ensures, c.has.ensures, c.index-v.ensures) (ap or_floor (sym (fold_turn _ 62 l.i l.lev h)) ∙ l.invariant)
 
 pub returns : goal.returns
-returns c = rw c.or_floor.ensures (ap or_floor (sym (fold_end _ _ _ _ c.loop-i-test.false)) ∙ c.loop-i.invariant.1)
+returns c = rw c.or_floor.ensures (ap or_floor (sym (fold_end _ _ _ _ c.loop-i-test.false)) ∙ c.loop-i.invariant)

@@ -23,14 +23,11 @@ module _ (l : List ℕ) (n : ℕ) where
   unfolding filled
   at_end h = rw (drop_of_length-le l h)
 
-pub loop-n-init : goal.loop-n-init
-loop-n-init c = (omega arith, omega arith)
+pub returns-then-b-eq0 : goal.returns-then-b-eq0
+returns-then-b-eq0 c = omega (arith, c.loop-i.invariant, at_zero c.args.out.now c.loop-i.i c.loop-i-test.true c.if-b-eq0.true)
 
-pub returns-then-out-n-eq0 : goal.returns-then-out-n-eq0
-returns-then-out-n-eq0 c = omega (arith, at_zero c.args.out.now c.loop-n.n (omega arith) c.if-out-n-eq0.true)
-
-pub loop-n-preserved : goal.loop-n-preserved
-loop-n-preserved c = (omega arith, omega (arith, at_byte c.args.out.now c.loop-n.n (omega arith) c.if-out-n-eq0.false))
+pub loop-i-preserved : goal.loop-i-preserved
+loop-i-preserved c = omega (arith, c.loop-i.invariant, at_byte c.args.out.now c.loop-i.i c.loop-i-test.true c.if-b-eq0.false)
 
 pub returns : goal.returns
-returns c = omega (arith, at_end c.args.out.now c.loop-n.n (omega arith))
+returns c = omega (arith, c.loop-i.invariant, at_end c.args.out.now c.loop-i.i (omega arith))

@@ -1,5 +1,4 @@
 use mathlib.Core.Path.{refl, sym}
-use Prim.Native.Nat.{◌-◌}
 use native.Mathlib.Omega.{arith}
 use Rattle.frames.specs.Control.{payload_in}
 use Rattle.frames.proofs.Entries.{hears_turn, rest_end}

@@ -5,16 +5,16 @@ pub returns-then-silent : goal.returns-then-silent
 returns-then-silent c =
     rw (← c.lost.ensures, c.if-silent.true, ← c.barring.ensures) c.barred_if.ensures
 
-pub returns-then-has_landed : goal.returns-then-has_landed
-returns-then-has_landed c =
+pub returns-then-is_some : goal.returns-then-is_some
+returns-then-is_some c =
     rw (
       c.landed.ensures,
       c.size_of.ensures,
       c.heard_member-k.ensures,
       ← c.lost.ensures,
       c.if-silent.false,
-      ← c.has_landed.ensures,
-      c.if-has_landed.true,
+      ← c.is_some.ensures,
+      c.if-is_some.true,
     )
 
 pub returns : goal.returns
@@ -23,6 +23,6 @@ returns c =
       c.heard_member-k.ensures,
       ← c.lost.ensures,
       c.if-silent.false,
-      ← c.has_landed.ensures,
-      c.if-has_landed.false,
+      ← c.is_some.ensures,
+      c.if-is_some.false,
     )

@@ -8,4 +8,4 @@ returns-in_default c = rw (← c.high8.ensures, ← c.widen8.ensures, c.in_defau
 
 pub returns : goal.returns
 unfolding piece_of
-returns c = rw (← c.high8.ensures, ← c.widen8.ensures, c.in-Is.is) c.numbered.ensures
+returns c = rw (← c.high8.ensures, ← c.widen8.ensures, c.in-Some.is) c.numbered.ensures

@@ -2,9 +2,9 @@
 use Rattle.bits.specs.Stop.{stop}
 use Rattle.frames.proofs.pieces.size_of.Goals as goal
 
-pub returns-in-Bytes : goal.returns-in-Bytes
-returns-in-Bytes c = rw c.in-Bytes.is c.stopped.ensures
+pub returns-in-Some : goal.returns-in-Some
+returns-in-Some c = rw c.in-Some.is c.stopped.ensures
 
-pub returns-in-NotYet : goal.returns-in-NotYet
+pub returns-in-None : goal.returns-in-None
 unfolding stop
-returns-in-NotYet c = rw c.in-NotYet.is
+returns-in-None c = rw c.in-None.is

@@ -1,7 +1,7 @@
 -- The loop's invariant: what is left to search is the whole search. Assumes nothing.
 use mathlib.Core.Bool.{Bool}
 use mathlib.Core.Path.{◌≡◌}
-use Prim.Native.Nat.{ℕ, ◌-◌, ◌≤◌}
+use Prim.Native.Nat.{ℕ, ◌-◌}
 use lib.Dec.{eqb}
 use Rattle.inbox.specs.declared.cell.Cell.{Cell}
 use Rattle.inbox.specs.Cells.{offset, seek, place_at}
@@ -11,7 +11,4 @@ abbrev pub starts : Cell → ℕ → ℕ → Bool
 starts cell o k = eqb (offset cell k) o
 
 abbrev pub invariant-loop-k : goal.invariant-loop-k
-invariant-loop-k l = (l.k ≤ 16) × (seek (starts l.cell l.offset) (16 - l.k) l.k ≡ place_at l.cell l.offset)
-
-abbrev pub decreases-loop-k : goal.decreases-loop-k
-decreases-loop-k l = 16 - l.k
+invariant-loop-k l = seek (starts l.cell l.offset) (16 - l.k) l.k ≡ place_at l.cell l.offset

@@ -7,8 +7,8 @@ use Rattle.inbox.proofs.cell.better_place.Goals as goal
 pub returns-then-joined-o : goal.returns-then-joined-o
 returns-then-joined-o c = simp (lt-leb _ _ c.if-joined-o.true)
 
-pub returns-then-end-wide16 : goal.returns-then-end-wide16
-returns-then-end-wide16 c =
+pub returns-then-end-from : goal.returns-then-end-from
+returns-then-end-from c =
     let a = c.args in
     simp (le-leb _ _ c.if-joined-o.false, le-ltb a.cell.joined (end_at a.cell a.k) (omega arith))
 

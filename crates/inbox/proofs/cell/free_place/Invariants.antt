@@ -1,7 +1,7 @@
 -- The loop's invariant: what is left to search is the whole search. Assumes nothing.
 use mathlib.Core.Bool.{Bool}
 use mathlib.Core.Path.{◌≡◌}
-use Prim.Native.Nat.{ℕ, ◌-◌, ◌≤◌}
+use Prim.Native.Nat.{ℕ, ◌-◌}
 use lib.Dec.{leb}
 use Rattle.inbox.specs.declared.cell.Cell.{Cell}
 use Rattle.inbox.specs.Cells.{end_at, seek, free_place}
@@ -11,7 +11,4 @@ abbrev pub ends : Cell → ℕ → Bool
 ends cell k = leb (end_at cell k) cell.joined
 
 abbrev pub invariant-loop-k : goal.invariant-loop-k
-invariant-loop-k l = (l.k ≤ 16) × (l.joined ≡ l.cell.joined) × (seek (ends l.cell) (16 - l.k) l.k ≡ free_place l.cell)
-
-abbrev pub decreases-loop-k : goal.decreases-loop-k
-decreases-loop-k l = 16 - l.k
+invariant-loop-k l = (l.joined ≡ l.cell.joined) × (seek (ends l.cell) (16 - l.k) l.k ≡ free_place l.cell)

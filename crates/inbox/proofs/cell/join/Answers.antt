@@ -12,39 +12,39 @@ use Rattle.inbox.proofs.cell.join.Goals as goal
 pub returns-then-end-joined : goal.returns-then-end-joined
 returns-then-end-joined c =
     let a = c.args in
-    let j = c.wide16-joined.ensures.0 in
-    let s = c.wide16-start.ensures.0 in
+    let j = c.from-joined.ensures in
+    let s = c.from-start.ensures in
     sym (accept_old a.cell a.bytes.now a.offset a.piece.now (omega arith))
 
 pub returns-then-piece-eq0 : goal.returns-then-piece-eq0
 returns-then-piece-eq0 c =
     let a = c.args in
-    let j = c.wide16-joined.ensures.0 in
-    let s = c.wide16-start.ensures.0 in
+    let j = c.from-joined.ensures in
+    let s = c.from-start.ensures in
     sym (accept_empty a.cell a.bytes.now a.offset a.piece.now (omega arith) c.if-piece-eq0.true)
 
 pub settle_all-requires : goal.settle_all-requires
 settle_all-requires c =
     let a = c.args in
-    let s = c.wide16-start.ensures.0 in
+    let s = c.from-start.ensures in
     let k = c.copy_in.auto.dst in
     omega arith
 
 pub returns-then-start-joined : goal.returns-then-start-joined
 returns-then-start-joined c =
     let a = c.args in
-    let j = c.wide16-joined in
-    let s = c.wide16-start in
+    let j = c.from-joined in
+    let s = c.from-start in
     let m = c.copy_in in
     let t = c.settle_all in
     t.ensures
     ∙ ap (λ (x : List ℕ). settle 2048 (held (grown_to a.cell (s.result + length a.piece.now)) x)) m.ensures
-    ∙ sym (join_step a.cell a.bytes.now a.offset a.piece.now j.result s.result j.ensures.0 s.ensures.0 (search rules) c.if-piece-eq0.false (search rules))
+    ∙ sym (join_step a.cell a.bytes.now a.offset a.piece.now j.result s.result j.ensures s.ensures (search rules) c.if-piece-eq0.false (search rules))
 
 pub returns : goal.returns
 returns c =
     let a = c.args in
-    let j = c.wide16-joined.ensures.0 in
-    let s = c.wide16-start.ensures.0 in
+    let j = c.from-joined.ensures in
+    let s = c.from-start.ensures in
     let t = c.wait in
     t.ensures ∙ sym (accept_wait a.cell a.bytes.now a.offset a.piece.now (omega arith) c.if-piece-eq0.false (omega arith))

@@ -5,10 +5,10 @@ use lib.ListN.{length}
 use Rattle.inbox.specs.Cells.{held, settle}
 use Rattle.inbox.proofs.cell.settle_all.Given as goal
 
-abbrev pub invariant-loop-c : goal.invariant-loop-c
-invariant-loop-c l =
+abbrev pub invariant-loop-k : goal.invariant-loop-k
+invariant-loop-k l =
     (l.c.joined ≤ 2048) × (length l.bytes ≡ length l.initial.bytes) × (6144 ≤ length l.initial.bytes)
     × ((n : ℕ) × (2048 ≤ n + l.c.joined) × (settle n (held l.c l.bytes) ≡ settle 2048 (held l.initial.c l.initial.bytes)))
 
-abbrev pub decreases-loop-c : goal.decreases-loop-c
-decreases-loop-c l = 2048 - l.c.joined
+abbrev pub decreases-loop-k : goal.decreases-loop-k
+decreases-loop-k l = 2048 - l.c.joined

@@ -12,28 +12,28 @@ use Rattle.inbox.proofs.cell.shows.Goals as goal
 pub returns-then-joined-ge2 : goal.returns-then-joined-ge2
 returns-then-joined-ge2 c =
     let a = c.args in
-    let j = c.wide16-joined.ensures.0 in
+    let j = c.from-joined.ensures in
     c.is_over.ensures ∙ sym (shows_two a.cell a.bytes.now a.offset a.piece.now (omega arith) (omega arith))
 
 pub returns-then-joined-start : goal.returns-then-joined-start
 returns-then-joined-start c =
     let a = c.args in
-    let j = c.wide16-joined.ensures.0 in
-    let s = c.wide16-start.ensures.0 in
+    let j = c.from-joined.ensures in
+    let s = c.from-start.ensures in
     sym (shows_wait a.cell a.bytes.now a.offset a.piece.now (omega arith) (omega arith))
 
 pub returns-then-end-joined : goal.returns-then-end-joined
 returns-then-end-joined c =
     let a = c.args in
-    let j = c.wide16-joined.ensures.0 in
-    let s = c.wide16-start.ensures.0 in
+    let j = c.from-joined.ensures in
+    let s = c.from-start.ensures in
     sym (shows_old a.cell a.bytes.now a.offset a.piece.now (omega arith) (omega arith))
 
 pub returns-then-joined-eq1 : goal.returns-then-joined-eq1
 returns-then-joined-eq1 c =
     let a = c.args in
-    let j = c.wide16-joined.ensures.0 in
-    let s = c.wide16-start.ensures.0 in
+    let j = c.from-joined.ensures in
+    let s = c.from-start.ensures in
     let x = get_or a.bytes.now 0 0 in
     c.is_over-then-joined-eq1.ensures
     ∙ ap (λ (i : ℕ). ltb 2046 (x + 256 * get_or a.piece.now (1 - i) 0)) s
@@ -44,8 +44,8 @@ returns-then-joined-eq1 c =
 pub returns-then-end-eq1 : goal.returns-then-end-eq1
 returns-then-end-eq1 c =
     let a = c.args in
-    let j = c.wide16-joined.ensures.0 in
-    let s = c.wide16-start.ensures.0 in
+    let j = c.from-joined.ensures in
+    let s = c.from-start.ensures in
     let l = c.if-joined-start.false in
     let z : 0 ≡ a.offset = omega arith in
     c.shows_next.ensures
@@ -55,8 +55,8 @@ returns-then-end-eq1 c =
 pub returns : goal.returns
 returns c =
     let a = c.args in
-    let j = c.wide16-joined.ensures.0 in
-    let s = c.wide16-start.ensures.0 in
+    let j = c.from-joined.ensures in
+    let s = c.from-start.ensures in
     let x = get_or a.piece.now 0 0 in
     let z : 1 ≡ 1 - a.offset = omega arith in
     c.is_over-2.ensures

@@ -1,36 +1,33 @@
 -- Each answer of the code is the definition's, by the tests that led to it. Assumes nothing.
-use mathlib.Core.Path.{sym, ◌∙◌}
+use mathlib.Core.Path.{refl, sym, ◌∙◌}
 use native.Mathlib.Omega.{arith}
+use Rattle.inbox.specs.Cells.{place_at, free_place}
+use Rattle.inbox.proofs.Search.{found_is, found_not}
 use Rattle.inbox.proofs.Steps.{await_longer, await_shorter, await_free, await_full}
-use borrow.Author.Rules.{rules}
 use Rattle.inbox.proofs.cell.wait.Goals as goal
 
-pub returns-then-wide8-piece : goal.returns-then-wide8-piece
-returns-then-wide8-piece c =
+pub returns-then-from-piece : goal.returns-then-from-piece
+returns-then-from-piece c =
     let a = c.args in
-    let i = c.at_offset-i in
-    let n = c.wide8.ensures.0 in
-    let s = c.store_at in
-    s.ensures ∙ sym (await_longer a.cell a.bytes.now a.offset a.piece.now i.result i.ensures (search rules) (omega arith))
+    let i = found_is _ c.in-Some.i c.in-Some.ensures in
+    let n = c.from.ensures in
+    c.store_at.ensures ∙ sym (await_longer a.cell a.bytes.now a.offset a.piece.now c.in-Some.i i.0 i.1 (omega arith))
 
-pub returns-then-i-lt16 : goal.returns-then-i-lt16
-returns-then-i-lt16 c =
+pub returns-in-Some : goal.returns-in-Some
+returns-in-Some c =
     let a = c.args in
-    let i = c.at_offset-i in
-    let n = c.wide8.ensures.0 in
-    sym (await_shorter a.cell a.bytes.now a.offset a.piece.now i.result i.ensures (search rules) (omega arith))
+    let i = found_is _ c.in-Some.i c.in-Some.ensures in
+    let n = c.from.ensures in
+    sym (await_shorter a.cell a.bytes.now a.offset a.piece.now c.in-Some.i i.0 i.1 (omega arith))
 
-pub returns-then-j-lt16 : goal.returns-then-j-lt16
-returns-then-j-lt16 c =
+pub returns-in-Some-free_place : goal.returns-in-Some-free_place
+returns-in-Some-free_place c =
     let a = c.args in
-    let i = c.at_offset-i in
-    let j = c.free_place-j in
-    let s = c.store_at-then-j-lt16 in
-    s.ensures ∙ sym (await_free a.cell a.bytes.now a.offset a.piece.now i.result j.result i.ensures (search rules) j.ensures (search rules))
+    let j = found_is _ c.in-Some-free_place.j c.in-Some-free_place.ensures in
+    c.store_at-in-Some-free_place.ensures
+    ∙ sym (await_free a.cell a.bytes.now a.offset a.piece.now (place_at a.cell a.offset) c.in-Some-free_place.j refl (found_not _ c.in_default.ensures) j.0 j.1)
 
 pub returns : goal.returns
 returns c =
     let a = c.args in
-    let i = c.at_offset-i in
-    let j = c.free_place-j in
-    sym (await_full a.cell a.bytes.now a.offset a.piece.now i.result j.result i.ensures (search rules) j.ensures (search rules))
+    sym (await_full a.cell a.bytes.now a.offset a.piece.now (place_at a.cell a.offset) (free_place a.cell) refl (found_not _ c.in_default.ensures) refl (found_not _ c.in_default-free_place.ensures))

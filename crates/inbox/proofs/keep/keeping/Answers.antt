@@ -9,8 +9,8 @@ pub returns-then-n-eq0 : goal.returns-then-n-eq0
 returns-then-n-eq0 c =
     simp (eq-eqb _ _ c.if-n-eq0.true)
 
-pub returns-then-end-wide16 : goal.returns-then-end-wide16
-returns-then-end-wide16 c =
+pub returns-then-end-from : goal.returns-then-end-from
+returns-then-end-from c =
     let a = c.args in
     simp (
       ne_eqb _ _ c.if-n-eq0.false,

@@ -8,7 +8,7 @@ use borrow.Author.Rules.{rules}
 use Rattle.outbox.proofs.leave.drop_finished.Goals as goal
 
 pub loop-i-init : goal.loop-i-init
-loop-i-init c = let a = c.args in (search rules, refl, refl, refl, c.requires.0, c.requires.1, L.msgs_begin a.s a.bytes.now a.marks.now (O.retain O.unfinished) (S.count_of a.s))
+loop-i-init c = let a = c.args in (search rules, refl, refl, refl, c.requires.0, c.requires.1, L.msgs_begin a.s.now a.bytes.now a.marks.now (O.retain O.unfinished) (S.count_of a.s.now))
 
 pub unfinished_at-requires : goal.unfinished_at-requires
 unfinished_at-requires c = let i = c.loop-i.invariant in let n = c.count_of.ensures in let f = c.loop-i-test.true in (omega arith, omega arith)
@@ -22,17 +22,17 @@ loop-i-preserved-then-unfinished_at c =
     let i = l.invariant in
     let n = c.count_of.ensures in
     let f = c.loop-i-test.true in
-    (omega arith, i.1, i.2, i.3, i.4, i.5, leaving.keep_turn O.unfinished l.t l.bytes l.marks l.i (omega arith) (sym (c.unfinished_at.ensures l.bytes (omega arith)) ∙ c.if-unfinished_at.true) ∙ i.6)
+    (omega arith, i.1, i.2, i.3, i.4, i.5, leaving.keep_turn O.unfinished l.s l.bytes l.marks l.i (omega arith) (sym (c.unfinished_at.ensures l.bytes (omega arith)) ∙ c.if-unfinished_at.true) ∙ i.6)
 
-pub drop_at-t-requires : goal.drop_at-t-requires
-drop_at-t-requires c = let i = c.loop-i.invariant in let n = c.count_of.ensures in let f = c.loop-i-test.true in (omega arith, (omega arith, omega arith))
+pub drop_at-requires : goal.drop_at-requires
+drop_at-requires c = let i = c.loop-i.invariant in let n = c.count_of.ensures in let f = c.loop-i-test.true in (omega arith, (omega arith, omega arith))
 
 pub loop-i-smaller : goal.loop-i-smaller
 loop-i-smaller c =
     let l = c.loop-i in
     let n = c.count_of.ensures in
     let f = c.loop-i-test.true in
-    let d = leaving.dropped_count O.unfinished l.t l.bytes l.marks l.i (omega arith) c.drop_at-t.ensures in omega arith
+    let d = leaving.dropped_count O.unfinished l.s l.bytes l.marks l.i (omega arith) c.drop_at.ensures in omega arith
 
 pub loop-i-preserved : goal.loop-i-preserved
 loop-i-preserved c =
@@ -40,15 +40,15 @@ loop-i-preserved c =
     let i = l.invariant in
     let n = c.count_of.ensures in
     let f = c.loop-i-test.true in
-    let k = c.drop_at-t in
-    let d = leaving.dropped_count O.unfinished l.t l.bytes l.marks l.i (omega arith) k.ensures in (
+    let k = c.drop_at in
+    let d = leaving.dropped_count O.unfinished l.s l.bytes l.marks l.i (omega arith) k.ensures in (
       omega arith,
       k.ensures.next ∙ i.1,
       k.auto.bytes ∙ i.2,
       k.auto.marks ∙ i.3,
       i.4,
       i.5,
-      leaving.drop_turn O.unfinished l.t l.bytes l.marks l.i (omega arith) k.ensures (sym (c.unfinished_at.ensures l.bytes (omega arith)) ∙ c.if-unfinished_at.false) ∙ i.6,
+      leaving.drop_turn O.unfinished l.s l.bytes l.marks l.i (omega arith) k.ensures (sym (c.unfinished_at.ensures l.bytes (omega arith)) ∙ c.if-unfinished_at.false) ∙ i.6,
     )
 
 pub shape_of-bytes : goal.shape_of-bytes
@@ -65,4 +65,4 @@ returns c =
     let n = c.count_of in
     let e = n.ensures in
     let f = c.loop-i-test.false in
-    (L.msgs_end l.t l.bytes l.marks (O.retain O.unfinished) (S.count_of l.t) l.i (omega arith) (leaving.retain_none O.unfinished) ∙ i.6, i.1)
+    (L.msgs_end l.s l.bytes l.marks (O.retain O.unfinished) (S.count_of l.s) l.i (omega arith) (leaving.retain_none O.unfinished) ∙ i.6, i.1)

@@ -8,7 +8,7 @@ use borrow.Author.Rules.{rules}
 use Rattle.outbox.proofs.leave.drop_held.Goals as goal
 
 pub loop-i-init : goal.loop-i-init
-loop-i-init c = let a = c.args in (search rules, refl, refl, refl, c.requires.0, c.requires.1, L.msgs_begin a.s a.bytes.now a.marks.now (O.retain (O.not_held a.next a.also.now)) (S.count_of a.s))
+loop-i-init c = let a = c.args in (search rules, refl, refl, refl, c.requires.0, c.requires.1, L.msgs_begin a.s.now a.bytes.now a.marks.now (O.retain (O.not_held a.next a.also.now)) (S.count_of a.s.now))
 
 pub not_held_at-requires : goal.not_held_at-requires
 not_held_at-requires c = let i = c.loop-i.invariant in let n = c.count_of.ensures in let f = c.loop-i-test.true in omega arith
@@ -23,10 +23,10 @@ loop-i-preserved-then-not_held_at c =
     let i = l.invariant in
     let n = c.count_of.ensures in
     let f = c.loop-i-test.true in
-    (omega arith, i.1, i.2, i.3, i.4, i.5, leaving.keep_turn (O.not_held a.next a.also.now) l.t l.bytes l.marks l.i (omega arith) (sym (c.not_held_at.ensures l.bytes l.marks) ∙ c.if-not_held_at.true) ∙ i.6)
+    (omega arith, i.1, i.2, i.3, i.4, i.5, leaving.keep_turn (O.not_held a.next a.also.now) l.s l.bytes l.marks l.i (omega arith) (sym (c.not_held_at.ensures l.bytes l.marks) ∙ c.if-not_held_at.true) ∙ i.6)
 
-pub drop_at-t-requires : goal.drop_at-t-requires
-drop_at-t-requires c = let i = c.loop-i.invariant in let n = c.count_of.ensures in let f = c.loop-i-test.true in (omega arith, (omega arith, omega arith))
+pub drop_at-requires : goal.drop_at-requires
+drop_at-requires c = let i = c.loop-i.invariant in let n = c.count_of.ensures in let f = c.loop-i-test.true in (omega arith, (omega arith, omega arith))
 
 pub loop-i-smaller : goal.loop-i-smaller
 loop-i-smaller c =
@@ -34,7 +34,7 @@ loop-i-smaller c =
     let l = c.loop-i in
     let n = c.count_of.ensures in
     let f = c.loop-i-test.true in
-    let d = leaving.dropped_count (O.not_held a.next a.also.now) l.t l.bytes l.marks l.i (omega arith) c.drop_at-t.ensures in omega arith
+    let d = leaving.dropped_count (O.not_held a.next a.also.now) l.s l.bytes l.marks l.i (omega arith) c.drop_at.ensures in omega arith
 
 pub loop-i-preserved : goal.loop-i-preserved
 loop-i-preserved c =
@@ -43,15 +43,15 @@ loop-i-preserved c =
     let i = l.invariant in
     let n = c.count_of.ensures in
     let f = c.loop-i-test.true in
-    let k = c.drop_at-t in
-    let d = leaving.dropped_count (O.not_held a.next a.also.now) l.t l.bytes l.marks l.i (omega arith) k.ensures in (
+    let k = c.drop_at in
+    let d = leaving.dropped_count (O.not_held a.next a.also.now) l.s l.bytes l.marks l.i (omega arith) k.ensures in (
       omega arith,
       k.ensures.next ∙ i.1,
       k.auto.bytes ∙ i.2,
       k.auto.marks ∙ i.3,
       i.4,
       i.5,
-      leaving.drop_turn (O.not_held a.next a.also.now) l.t l.bytes l.marks l.i (omega arith) k.ensures (sym (c.not_held_at.ensures l.bytes l.marks) ∙ c.if-not_held_at.false) ∙ i.6,
+      leaving.drop_turn (O.not_held a.next a.also.now) l.s l.bytes l.marks l.i (omega arith) k.ensures (sym (c.not_held_at.ensures l.bytes l.marks) ∙ c.if-not_held_at.false) ∙ i.6,
     )
 
 pub shape_of-bytes : goal.shape_of-bytes
@@ -68,4 +68,4 @@ returns c =
     let n = c.count_of in
     let e = n.ensures in
     let f = c.loop-i-test.false in
-    (L.msgs_end l.t l.bytes l.marks (O.retain (O.not_held a.next a.also.now)) (S.count_of l.t) l.i (omega arith) (leaving.retain_none (O.not_held a.next a.also.now)) ∙ i.6, i.1)
+    (L.msgs_end l.s l.bytes l.marks (O.retain (O.not_held a.next a.also.now)) (S.count_of l.s) l.i (omega arith) (leaving.retain_none (O.not_held a.next a.also.now)) ∙ i.6, i.1)

@@ -10,17 +10,16 @@ use Rattle.outbox.proofs.Places as L
 use Rattle.outbox.proofs.Acts as A
 use Rattle.outbox.proofs.Turns as T
 use Rattle.outbox.proofs.Leaving as leaving
-use borrow.Author.Rules.{rules}
 use Rattle.outbox.proofs.leave.mark_acked.Goals as goal
 
 pub loop-i-init : goal.loop-i-init
 loop-i-init c =
     let n = c.count_of-n in
     let a = c.args in
-    (search rules, n.ensures.0, n.ensures.1, c.requires, refl, λ bytes. L.msgs_begin a.s bytes a.marks.now (O.acked a.seq a.off) n.result)
+    (n.ensures.0, n.ensures.1, c.requires, refl, λ bytes. L.msgs_begin a.s bytes a.marks.now (O.acked a.seq a.off) n.result)
 
 pub ack_at-requires : goal.ack_at-requires
-ack_at-requires c = let l = c.loop-i.invariant in (omega arith, subst (λ (x : List ℕ). 16384 ≤ length x) (sym l.4) l.3)
+ack_at-requires c = let l = c.loop-i.invariant in (omega arith, subst (λ (x : List ℕ). 16384 ≤ length x) (sym l.3) l.2)
 
 pub shape_of-marks-then-s-i : goal.shape_of-marks-then-s-i
 shape_of-marks-then-s-i c =
@@ -28,8 +27,8 @@ shape_of-marks-then-s-i c =
     let l = c.loop-i in
     let i = l.invariant in
     let k = c.ack_at in
-    let r : 16384 ≤ length l.marks = subst (λ (x : List ℕ). 16384 ≤ length x) (sym i.4) i.3 in
-    T.act_length (λ x. M.ack_marks x a.off) (A.ack_length a.off) a.s [] l.marks k.new.marks c.count_of-n.result l.i (omega arith) i.2 r k.ensures ∙ ap length i.4
+    let r : 16384 ≤ length l.marks = subst (λ (x : List ℕ). 16384 ≤ length x) (sym i.3) i.2 in
+    T.act_length (λ x. M.ack_marks x a.off) (A.ack_length a.off) a.s [] l.marks k.new.marks c.count_of-n.result l.i (omega arith) i.1 r k.ensures ∙ ap length i.3
 
 pub returns-then-s-i : goal.returns-then-s-i
 returns-then-s-i c =
@@ -37,24 +36,24 @@ returns-then-s-i c =
     let l = c.loop-i in
     let i = l.invariant in
     let k = c.ack_at in
-    let r : 16384 ≤ length l.marks = subst (λ (x : List ℕ). 16384 ≤ length x) (sym i.4) i.3 in
-    λ bytes. ap (λ (x : ℕ). S.msgs a.s bytes k.new.marks x 0) (sym i.1) ∙ leaving.acked_at a.s bytes l.marks a.seq a.off c.count_of-n.result l.i (omega arith) i.2 k.new.marks r c.if-s-i.true k.ensures
-    ∙ i.5 bytes ∙ ap (λ (x : ℕ). O.acked a.seq a.off (S.msgs a.s bytes a.marks.now x 0)) i.1
+    let r : 16384 ≤ length l.marks = subst (λ (x : List ℕ). 16384 ≤ length x) (sym i.3) i.2 in
+    λ bytes. ap (λ (x : ℕ). S.msgs a.s bytes k.new.marks x 0) (sym i.0) ∙ leaving.acked_at a.s bytes l.marks a.seq a.off c.count_of-n.result l.i (omega arith) i.1 k.new.marks r c.if-s-i.true k.ensures
+    ∙ i.4 bytes ∙ ap (λ (x : ℕ). O.acked a.seq a.off (S.msgs a.s bytes a.marks.now x 0)) i.0
 
 pub loop-i-preserved : goal.loop-i-preserved
 loop-i-preserved c =
     let a = c.args in
     let l = c.loop-i in
     let i = l.invariant in
-    (omega arith, i.1, i.2, i.3, i.4, λ bytes. leaving.acked_pass a.s bytes l.marks a.seq a.off c.count_of-n.result l.i (omega arith) i.2 c.if-s-i.false ∙ i.5 bytes)
+    (i.0, i.1, i.2, i.3, λ bytes. leaving.acked_pass a.s bytes l.marks a.seq a.off c.count_of-n.result l.i (omega arith) i.1 c.if-s-i.false ∙ i.4 bytes)
 
 pub shape_of-marks : goal.shape_of-marks
-shape_of-marks c = ap length c.loop-i.invariant.4
+shape_of-marks c = ap length c.loop-i.invariant.3
 
 pub returns : goal.returns
 returns c =
     let a = c.args in
     let l = c.loop-i in
     let i = l.invariant in
-    λ bytes. ap (λ (x : ℕ). S.msgs a.s bytes l.marks x 0) (sym i.1) ∙ L.msgs_end a.s bytes l.marks (O.acked a.seq a.off) c.count_of-n.result l.i (omega arith) (leaving.acked_none a.seq a.off) ∙ i.5 bytes
-    ∙ ap (λ (x : ℕ). O.acked a.seq a.off (S.msgs a.s bytes a.marks.now x 0)) i.1
+    λ bytes. ap (λ (x : ℕ). S.msgs a.s bytes l.marks x 0) (sym i.0) ∙ L.msgs_end a.s bytes l.marks (O.acked a.seq a.off) c.count_of-n.result l.i (omega arith) (leaving.acked_none a.seq a.off) ∙ i.4 bytes
+    ∙ ap (λ (x : ℕ). O.acked a.seq a.off (S.msgs a.s bytes a.marks.now x 0)) i.0

@@ -9,25 +9,25 @@ use Rattle.outbox.specs.Outbox.{some}
 use borrow.Author.Rules.{rules}
 use Rattle.outbox.proofs.marks.any.Goals as goal
 
-pub loop-i-init : goal.loop-i-init
-loop-i-init c = (search rules, refl)
+pub loop-m-init : goal.loop-m-init
+loop-m-init c = refl
 
 pub returns-then-flies : goal.returns-then-flies
 returns-then-flies c =
     let a = c.args in
-    let l = c.loop-i in
+    let l = c.loop-m in
     let e = sym c.flies.ensures ∙ c.if-flies.true in
-    sym (ap some (ap (M.pieces l.i) (drop_here a.marks.now l.i (search rules)) ∙ P.pieces_here l.i (get_or a.marks.now l.i 0) (drop (l.i + 1) a.marks.now) e)) ∙ l.invariant.1
+    sym (ap some (ap (M.pieces l.m-index) (drop_here a.marks.now l.m-index (search rules)) ∙ P.pieces_here l.m-index (get_or a.marks.now l.m-index 0) (drop (l.m-index + 1) a.marks.now) e)) ∙ l.invariant
 
-pub loop-i-preserved : goal.loop-i-preserved
-loop-i-preserved c =
+pub loop-m-preserved : goal.loop-m-preserved
+loop-m-preserved c =
     let a = c.args in
-    let l = c.loop-i in
+    let l = c.loop-m in
     let e = sym c.flies.ensures ∙ c.if-flies.false in
-    (search rules, sym (ap some (ap (M.pieces l.i) (drop_here a.marks.now l.i (search rules)) ∙ P.pieces_on l.i (get_or a.marks.now l.i 0) (drop (l.i + 1) a.marks.now) e)) ∙ l.invariant.1)
+    (sym (ap some (ap (M.pieces l.m-index) (drop_here a.marks.now l.m-index (search rules)) ∙ P.pieces_on l.m-index (get_or a.marks.now l.m-index 0) (drop (l.m-index + 1) a.marks.now) e)) ∙ l.invariant)
 
 pub returns : goal.returns
 returns c =
     let a = c.args in
-    let l = c.loop-i in
-    sym (ap (λ (x : List ℕ). some (M.pieces l.i x)) (drop_end a.marks.now l.i (search rules)) ∙ (unfold M.pieces in refl)) ∙ l.invariant.1
+    let l = c.loop-m in
+    sym (ap (λ (x : List ℕ). some (M.pieces l.m-index x)) (drop_end a.marks.now l.m-index (search rules)) ∙ (unfold M.pieces in refl)) ∙ l.invariant

@@ -8,28 +8,28 @@ use Rattle.outbox.proofs.Said as P
 use borrow.Author.Rules.{rules}
 use Rattle.outbox.proofs.marks.in_flight.Goals as goal
 
-pub loop-i-init : goal.loop-i-init
-loop-i-init c = let a = c.args in (search rules, search rules, omega (arith, P.flight_start a.marks.now))
+pub loop-m-init : goal.loop-m-init
+loop-m-init c = let a = c.args in (search rules, omega (arith, P.flight_start a.marks.now))
 
-pub loop-i-preserved : goal.loop-i-preserved
-loop-i-preserved c =
+pub loop-m-preserved : goal.loop-m-preserved
+loop-m-preserved c =
     let a = c.args in
-    let l = c.loop-i in
+    let l = c.loop-m in
     let k = c.kind-s in
     let o = c.one-n in
-    let ms = drop (l.i + 1) a.marks.now in
-    let m = get_or a.marks.now l.i 0 in
-    let e : P.flight l.s l.i (drop l.i a.marks.now) ≡ o.result + P.flight k.result (l.i + 1) ms =
-    ap (P.flight l.s l.i) (drop_here a.marks.now l.i (search rules)) ∙ P.flight_step l.s l.i m ms
-    ∙ ap (λ (x : ℕ). M.one_of x + P.flight x (l.i + 1) ms) (sym k.ensures) ∙ ap (λ (x : ℕ). x + P.flight k.result (l.i + 1) ms) (sym o.ensures.0) in
-    let w = l.invariant.2 in
+    let ms = drop (l.m-index + 1) a.marks.now in
+    let m = get_or a.marks.now l.m-index 0 in
+    let e : P.flight l.s l.m-index (drop l.m-index a.marks.now) ≡ o.result + P.flight k.result (l.m-index + 1) ms =
+    ap (P.flight l.s l.m-index) (drop_here a.marks.now l.m-index (search rules)) ∙ P.flight_step l.s l.m-index m ms
+    ∙ ap (λ (x : ℕ). M.one_of x + P.flight x (l.m-index + 1) ms) (sym k.ensures) ∙ ap (λ (x : ℕ). x + P.flight k.result (l.m-index + 1) ms) (sym o.ensures.0) in
+    let w = l.invariant.1 in
     let h = o.ensures.1 in
-    (search rules, omega arith, omega arith)
+    (omega arith, omega arith)
 
 pub returns : goal.returns
 returns c =
     let a = c.args in
-    let l = c.loop-i in
-    let e = ap (P.flight l.s l.i) (drop_end a.marks.now l.i (search rules)) ∙ P.flight_end l.s l.i in
-    let w = l.invariant.2 in
+    let l = c.loop-m in
+    let e = ap (P.flight l.s l.m-index) (drop_end a.marks.now l.m-index (search rules)) ∙ P.flight_end l.s l.m-index in
+    let w = l.invariant.1 in
     (omega arith, omega arith)

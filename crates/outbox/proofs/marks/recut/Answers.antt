@@ -9,7 +9,7 @@ use borrow.Author.Rules.{rules}
 use Rattle.outbox.proofs.marks.recut.Goals as goal
 
 pub loop-i-init : goal.loop-i-init
-loop-i-init c = (search rules, refl, search rules, refl)
+loop-i-init c = (refl, search rules, refl)
 
 pub loop-i-preserved : goal.loop-i-preserved
 loop-i-preserved c =
@@ -18,16 +18,15 @@ loop-i-preserved c =
     let v = c.recut_mark in
     let s = c.kind-s in
     let k = c.width-k in (
-      omega arith,
-      length-set l.marks l.i v.result ∙ l.invariant.1,
+      length-set l.marks l.i v.result ∙ l.invariant.0,
       k.ensures.1,
       walk_turn (M.recut_marks a.max l.s l.k) (M.recut_marks a.max s.result k.result) l.marks l.i v.result (omega arith)
           (P.recut_step a.max l.s l.k (get_or l.marks l.i 0) v.result s.result k.result (drop (l.i + 1) l.marks) v.ensures s.ensures k.ensures.0)
-          ∙ l.invariant.3,
+          ∙ l.invariant.2,
     )
 
 pub returns : goal.returns
 returns c =
     let a = c.args in
     let l = c.loop-i in
-    walk_end (M.recut_marks a.max l.s l.k) l.marks l.i (omega arith) (P.recut_none a.max l.s l.k) ∙ l.invariant.3
+    walk_end (M.recut_marks a.max l.s l.k) l.marks l.i (omega arith) (P.recut_none a.max l.s l.k) ∙ l.invariant.2

@@ -10,14 +10,14 @@ use borrow.Author.Rules.{rules}
 use Rattle.outbox.proofs.marks.run.Goals as goal
 
 pub loop-k-init : goal.loop-k-init
-loop-k-init c = (search rules, search rules, omega arith)
+loop-k-init c = omega arith
 
 pub returns-then-marks-k-ne-ON : goal.returns-then-marks-k-ne-ON
 returns-then-marks-k-ne-ON c =
     let a = c.args in
     let l = c.loop-k in
     let e = ap M.run (drop_here a.marks.now l.k (search rules)) ∙ P.run_stops (get_or a.marks.now l.k 0) (drop (l.k + 1) a.marks.now) (ne_eqb _ _ c.if-marks-k-ne-ON.true) in
-    let w = l.invariant.2 in
+    let w = l.invariant in
     (omega arith, omega arith)
 
 pub loop-k-preserved : goal.loop-k-preserved
@@ -25,13 +25,13 @@ loop-k-preserved c =
     let a = c.args in
     let l = c.loop-k in
     let e = ap M.run (drop_here a.marks.now l.k (search rules)) ∙ P.run_on (get_or a.marks.now l.k 0) (drop (l.k + 1) a.marks.now) c.if-marks-k-ne-ON.false in
-    let w = l.invariant.2 in
-    (omega arith, omega arith, omega arith)
+    let w = l.invariant in
+    omega arith
 
 pub returns : goal.returns
 returns c =
     let a = c.args in
     let l = c.loop-k in
     let e = ap M.run (drop_end a.marks.now l.k (search rules)) ∙ P.run_none in
-    let w = l.invariant.2 in
+    let w = l.invariant in
     (omega arith, omega arith)

@@ -1,12 +1,9 @@
 -- The loop's invariant: what was counted, with what is left to count, is the whole. Assumes nothing.
 use mathlib.Core.Path.{◌≡◌}
-use Prim.Native.Nat.{◌+◌, ◌-◌, ◌≤◌}
-use lib.ListN.{length, drop}
+use Prim.Native.Nat.{◌+◌, ◌-◌}
+use lib.ListN.{drop}
 use Rattle.outbox.specs.Marks as M
 use Rattle.outbox.proofs.marks.run.Given as goal
 
 abbrev pub invariant-loop-k : goal.invariant-loop-k
-invariant-loop-k l = (l.i ≤ l.k) × (l.k ≤ length l.marks) × (l.k - l.i + M.run (drop l.k l.marks) ≡ M.run (drop l.i l.marks))
-
-abbrev pub decreases-loop-k : goal.decreases-loop-k
-decreases-loop-k l = length l.marks - l.k
+invariant-loop-k l = l.k - l.i + M.run (drop l.k l.marks) ≡ M.run (drop l.i l.marks)

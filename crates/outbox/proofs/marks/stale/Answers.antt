@@ -1,27 +1,22 @@
 use mathlib.Core.Path.{refl, ◌∙◌}
 use Prim.Native.Nat.{◌+◌}
 use native.Mathlib.Omega.{arith}
-use lib.ListN.{get_or, drop, length-set}
+use lib.ListN.{get_or, drop}
 use Rattle.outbox.specs.Marks as M
 use Rattle.outbox.proofs.Walk.{walk_turn, walk_end}
 use Rattle.outbox.proofs.Said as P
-use borrow.Author.Rules.{rules}
 use Rattle.outbox.proofs.marks.stale.Goals as goal
 
-pub loop-i-init : goal.loop-i-init
-loop-i-init c = (search rules, refl, refl)
+pub loop-m-init : goal.loop-m-init
+loop-m-init c = refl
 
-pub loop-i-preserved : goal.loop-i-preserved
-loop-i-preserved c =
-    let a = c.args in
-    let l = c.loop-i in
-    let n = c.stale_mark.result in (
-      omega arith,
-      length-set l.marks l.i n ∙ l.invariant.1,
-      walk_turn M.stale_marks M.stale_marks l.marks l.i n (omega arith) (P.stale_step (get_or l.marks l.i 0) n (drop (l.i + 1) l.marks) c.stale_mark.ensures) ∙ l.invariant.2,
-    )
+pub loop-m-preserved : goal.loop-m-preserved
+loop-m-preserved c =
+    let l = c.loop-m in
+    let n = c.stale_mark.result in
+    walk_turn M.stale_marks M.stale_marks l.marks l.m-index n (omega arith) (P.stale_step (get_or l.marks l.m-index 0) n (drop (l.m-index + 1) l.marks) c.stale_mark.ensures) ∙ l.invariant
 
 pub returns : goal.returns
 returns c =
-    let l = c.loop-i in
-    walk_end M.stale_marks l.marks l.i (omega arith) P.stale_none ∙ l.invariant.2
+    let l = c.loop-m in
+    walk_end M.stale_marks l.marks l.m-index (omega arith) P.stale_none ∙ l.invariant

@@ -1,13 +1,9 @@
 -- The loop's invariant: what is done, with what is to be done, is the whole. Assumes nothing.
 use mathlib.Core.Path.{◌≡◌}
 use mathlib.Core.List.{◌++◌}
-use Prim.Native.Nat.{◌-◌, ◌≤◌}
-use lib.ListN.{length, take, drop}
+use lib.ListN.{take, drop}
 use Rattle.outbox.specs.Marks as M
 use Rattle.outbox.proofs.marks.stale.Given as goal
 
-abbrev pub invariant-loop-i : goal.invariant-loop-i
-invariant-loop-i l = (l.i ≤ length l.initial.marks) × (length l.marks ≡ length l.initial.marks) × (take l.i l.marks ++ M.stale_marks (drop l.i l.marks) ≡ M.stale_marks l.initial.marks)
-
-abbrev pub decreases-loop-i : goal.decreases-loop-i
-decreases-loop-i l = length l.initial.marks - l.i
+abbrev pub invariant-loop-m : goal.invariant-loop-m
+invariant-loop-m l = (take l.m-index l.marks ++ M.stale_marks (drop l.m-index l.marks) ≡ M.stale_marks l.initial.marks)

@@ -1,33 +1,24 @@
-use mathlib.Core.Path.{◌≡◌, refl, ap, ◌∙◌}
+-- Assumes nothing.
+use mathlib.Core.Path.{◌≡◌, ap, ◌∙◌}
 use mathlib.Core.List.{List}
-use Prim.Native.Nat.{ℕ, ◌+◌}
+use Prim.Native.Nat.{ℕ, ◌+◌, ◌-◌}
 use native.Mathlib.Omega.{arith}
-use lib.ListN.{set, length-set}
-use Rattle.outbox.specs.Marks as M
+use lib.ListN.{length, set, take, drop, replicate, length-drop}
+use lib.Seq.{length-take-le}
+use borrow.Rule.Slice.PartMut.{put_mid}
 use Rattle.outbox.proofs.Said as P
-use lib.Seq.{paste, paste-zero}
-use borrow.Author.Rules.{rules}
 use Rattle.outbox.proofs.marks.start.Goals as goal
-
-pub loop-k-init : goal.loop-k-init
-loop-k-init c = (search rules, refl, let a = c.args in paste-zero a.marks.now a.off (M.start_marks a.n))
-
-pub loop-k-preserved : goal.loop-k-preserved
-loop-k-preserved c =
-    let a = c.args in
-    let p = c.requires in
-    let l = c.loop-k in
-    let v = c.start_mark in (
-      omega arith,
-      length-set l.marks (a.off + l.k) v.result ∙ l.invariant.1,
-      ap (λ (x : List ℕ). set x (a.off + l.k) v.result) l.invariant.2
-          ∙ ap (λ (x : ℕ). set (paste a.marks.now a.off (M.start_marks a.n) l.k) (a.off + l.k) x) v.ensures
-          ∙ P.start_turn a.marks.now a.off a.n p.0 p.1 l.k (search rules),
-    )
 
 pub returns : goal.returns
 returns c =
     let a = c.args in
-    let l = c.loop-k in
-    let e : l.k ≡ a.n = omega arith in
-    l.invariant.2 ∙ ap (λ (k : ℕ). paste a.marks.now a.off (M.start_marks a.n) k) e
+    let d = a.marks.now in
+    let p = c.requires in
+    let z : a.off + a.n - a.off ≡ a.n = omega arith in
+    let l : length (take a.n (drop a.off d)) ≡ a.n = length-take-le a.n (drop a.off d) (omega (arith, length-drop a.off d)) in
+    let w : length (take (a.off + a.n - a.off) (drop a.off d)) ≡ a.n = ap (λ (n : ℕ). length (take n (drop a.off d))) z ∙ l in
+    let r : c.fill.new.self ≡ replicate (length (take (a.off + a.n - a.off) (drop a.off d))) 0 = c.fill.ensures.after (λ y e. e) in
+    let f : c.fill.new.self ≡ replicate a.n 0 = r ∙ ap (λ (n : ℕ). replicate n 0) w in
+    ap (λ (n : ℕ). set (put_mid a.off n d c.fill.new.self) a.off 1) z
+    ∙ ap (λ (x : List ℕ). set (put_mid a.off a.n d x) a.off 1) f
+    ∙ P.begun_marks d a.off a.n p.0 p.1

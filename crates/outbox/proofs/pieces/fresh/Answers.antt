@@ -26,7 +26,7 @@ pub start-requires : goal.start-requires
 start-requires c =
     let a = c.args in
     let l = c.loop-c in
-    let n = c.least-n in
+    let n = c.min-n in
     let p = P.least_pos (length a.whole.now - l.c) a.max (omega arith) c.requires.2 in
     let q = P.least_left (length a.whole.now - l.c) a.max in
     let e = n.ensures in
@@ -40,7 +40,7 @@ pub overflow_add-c : goal.overflow_add-c
 overflow_add-c c =
     let a = c.args in
     let l = c.loop-c in
-    let n = c.least-n in
+    let n = c.min-n in
     let q = P.least_left (length a.whole.now - l.c) a.max in
     let e = n.ensures in omega arith
 
@@ -48,7 +48,7 @@ pub loop-c-smaller : goal.loop-c-smaller
 loop-c-smaller c =
     let a = c.args in
     let l = c.loop-c in
-    let n = c.least-n in
+    let n = c.min-n in
     let p = P.least_pos (length a.whole.now - l.c) a.max (omega arith) c.requires.2 in
     let e = n.ensures in omega arith
 
@@ -56,10 +56,10 @@ pub loop-c-preserved : goal.loop-c-preserved
 loop-c-preserved c =
     let a = c.args in
     let l = c.loop-c in
-    let n = c.least-n in
+    let n = c.min-n in
     let z = c.if-left-eq0.false in
     let t = c.loop-c-test in
-    P.cutting_turn a.max a.seq a.whole.now a.out.now a.w.at a.w.left a.cut a.marks.now (search rules) (omega arith) c.requires.2 c.requires.0 l.invariant n.ensures c.start.ensures c.put_piece-at.ensures
+    P.cutting_turn a.max a.seq a.whole.now a.out.now a.w.at a.w.left a.cut a.marks.now (search rules) (omega arith) c.requires.2 c.requires.0 l.invariant (n.ensures ∙ P.min_least (length a.whole.now - l.c) a.max) c.start.ensures c.put_piece-at.ensures
 
 pub returns : goal.returns
 returns c =

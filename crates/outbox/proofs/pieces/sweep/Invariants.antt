@@ -1,11 +1,6 @@
 -- The loop's invariant: what was done and what is to be done from i on is the whole. Assumes nothing.
-use Prim.Native.Nat.{◌-◌}
-use lib.ListN.{length}
 use Rattle.outbox.proofs.Passes as P
 use Rattle.outbox.proofs.pieces.sweep.Given as goal
 
 abbrev pub invariant-loop-i : goal.invariant-loop-i
 invariant-loop-i l = P.Sweeping l.mark l.seq l.whole l.initial.out l.initial.v.at l.initial.v.left l.initial.marks l.out l.marks l.v.at l.v.left l.i
-
-abbrev pub decreases-loop-i : goal.decreases-loop-i
-decreases-loop-i l = length l.initial.marks - l.i

@@ -2,7 +2,6 @@
 use mathlib.Core.Path.{◌≡◌, ap, ◌∙◌}
 use Prim.Native.Nat.{ℕ}
 use native.Mathlib.Omega.{arith}
-use lib.ListN.{get_or}
 use Rattle.words.specs.Words.{least}
 use Rattle.outbox.specs.Senders as S
 use Rattle.outbox.proofs.Passes as P
@@ -10,11 +9,9 @@ use Rattle.outbox.proofs.sender.cut_of.Goals as goal
 
 pub returns : goal.returns
 returns c =
-    let t = c.total_of-total in
-    let w = c.wide16 in
     let a = c.args in
-    let e = c.least.ensures in
-    let f : c.least.result ≡ S.cut_of a.s a.i = e ∙ ap (λ (x : ℕ). least x t.result) w.ensures ∙ ap (λ (x : ℕ). least (get_or a.s.cuts a.i 0) x) t.ensures.0 in
-    let b = P.least_right w.result t.result in
+    let t = c.total_of in
     let g = t.ensures in
-    (f, omega arith, omega arith)
+    let k = (S.message_at a.s a.i).cut in
+    let e : c.min.result ≡ S.cut_of a.s a.i = c.min.ensures ∙ P.min_least k t.result ∙ ap (λ (x : ℕ). least k x) g.0 in
+    (e, omega (arith, c.min.ensures), omega (arith, c.min.ensures))

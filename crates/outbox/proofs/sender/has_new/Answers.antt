@@ -4,11 +4,10 @@ use native.Mathlib.Omega.{arith}
 use Rattle.outbox.specs.Outbox as O
 use Rattle.outbox.specs.Senders as S
 use Rattle.outbox.proofs.Sending as W
-use borrow.Author.Rules.{rules}
 use Rattle.outbox.proofs.sender.has_new.Goals as goal
 
 pub loop-i-init : goal.loop-i-init
-loop-i-init c = let n = c.count_of-n.ensures in (search rules, n.0, n.1, λ bytes marks r. (let z : c.count_of-n.result - 0 ≡ c.count_of-n.result = omega arith in ap (λ (k : ℕ). O.any_new (S.msgs c.args.s bytes marks k 0)) z))
+loop-i-init c = let n = c.count_of-n.ensures in (n.0, n.1, λ bytes marks r. (let z : c.count_of-n.result - 0 ≡ c.count_of-n.result = omega arith in ap (λ (k : ℕ). O.any_new (S.msgs c.args.s bytes marks k 0)) z))
 
 pub returns-then-cut_of-total_of : goal.returns-then-cut_of-total_of
 returns-then-cut_of-total_of c =
@@ -19,7 +18,7 @@ returns-then-cut_of-total_of c =
     let x = c.cut_of.ensures in
     let y = c.total_of.ensures in
     let t = c.if-cut_of-total_of.true in
-    λ bytes marks r. sym (W.new_here s bytes marks r n l.i (omega arith) i.2 (omega arith)) ∙ i.3 bytes marks r ∙ ap (λ (k : ℕ). O.any_new (S.msgs s bytes marks k 0)) i.1
+    λ bytes marks r. sym (W.new_here s bytes marks r n l.i (omega arith) i.1 (omega arith)) ∙ i.2 bytes marks r ∙ ap (λ (k : ℕ). O.any_new (S.msgs s bytes marks k 0)) i.0
 
 pub loop-i-preserved : goal.loop-i-preserved
 loop-i-preserved c =
@@ -30,7 +29,7 @@ loop-i-preserved c =
     let x = c.cut_of.ensures in
     let y = c.total_of.ensures in
     let t = c.if-cut_of-total_of.false in
-    (omega arith, i.1, i.2, λ bytes marks r. sym (W.new_on s bytes marks r n l.i (omega arith) i.2 (omega arith)) ∙ i.3 bytes marks r)
+    (i.0, i.1, λ bytes marks r. sym (W.new_on s bytes marks r n l.i (omega arith) i.1 (omega arith)) ∙ i.2 bytes marks r)
 
 pub returns : goal.returns
 returns c =
@@ -38,4 +37,4 @@ returns c =
     let l = c.loop-i in
     let n = c.count_of-n.result in
     let i = l.invariant in
-    λ bytes marks r. sym (W.new_none s bytes marks r n l.i (omega arith)) ∙ i.3 bytes marks r ∙ ap (λ (k : ℕ). O.any_new (S.msgs s bytes marks k 0)) i.1
+    λ bytes marks r. sym (W.new_none s bytes marks r n l.i (omega arith)) ∙ i.2 bytes marks r ∙ ap (λ (k : ℕ). O.any_new (S.msgs s bytes marks k 0)) i.0

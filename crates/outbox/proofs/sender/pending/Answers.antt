@@ -8,7 +8,7 @@ use Rattle.bits.proofs.Lists.{cond_true, cond_false}
 use Rattle.outbox.specs.Outbox as O
 use Rattle.outbox.specs.Senders as S
 use Rattle.outbox.proofs.Sending as W
-use Rattle.outbox.specs.declared.sender.Waiting.TheVariants.{Bytes}
+use Rattle.std.specs.Prelude.{Ok}
 use borrow.Author.Rules.{rules}
 use Rattle.outbox.proofs.sender.pending.Goals as goal
 
@@ -20,7 +20,7 @@ loop-i-init c =
     let n = c.count_of-n.ensures in
     let s = c.args.s in
     let m = c.args.marks.now in
-    (search rules, n.0, n.1, search rules, search rules, λ bytes r. (let z : c.count_of-n.result - 0 ≡ c.count_of-n.result = omega arith in (let e = ap (λ (k : ℕ). O.pending_in (S.msgs s bytes m k 0)) z in omega arith)))
+    (n.0, n.1, search rules, search rules, λ bytes r. (let z : c.count_of-n.result - 0 ≡ c.count_of-n.result = omega arith in (let e = ap (λ (k : ℕ). O.pending_in (S.msgs s bytes m k 0)) z in omega arith)))
 
 pub loop-i-preserved : goal.loop-i-preserved
 loop-i-preserved c =
@@ -31,7 +31,7 @@ loop-i-preserved c =
     let i = l.invariant in
     let p = c.pending_at-sum in
     let e = p.ensures in
-    (omega arith, i.1, i.2, omega arith, i.4, λ bytes r. (let t = W.pending_step s bytes m r n l.i (omega arith) i.2 in let v = i.5 bytes r in omega arith))
+    (i.0, i.1, omega arith, i.3, λ bytes r. (let t = W.pending_step s bytes m r n l.i (omega arith) i.1 in let v = i.4 bytes r in omega arith))
 
 pub returns : goal.returns
 returns c =
@@ -42,6 +42,6 @@ returns c =
     let i = l.invariant in
     λ bytes r.
     (let t = W.pending_end s bytes m r n l.i (omega arith) in
-    let v = i.5 bytes r in
+    let v = i.4 bytes r in
     let q : l.sum ≡ O.pending_in (S.msgs s bytes m n 0) = omega arith in
-    ap Bytes (q ∙ ap (λ (k : ℕ). O.pending_in (S.msgs s bytes m k 0)) i.1) ∙ sym (cond_false (ltb (length m) 16384) _ _ (le-ltb _ _ i.4)))
+    ap Ok (q ∙ ap (λ (k : ℕ). O.pending_in (S.msgs s bytes m k 0)) i.0) ∙ sym (cond_false (ltb (length m) 16384) _ _ (le-ltb _ _ i.3)))

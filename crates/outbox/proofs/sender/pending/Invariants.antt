@@ -8,7 +8,4 @@ use Rattle.outbox.specs.Senders as S
 use Rattle.outbox.proofs.sender.pending.Given as goal
 
 abbrev pub invariant-loop-i : goal.invariant-loop-i
-invariant-loop-i l = (l.i ≤ l.n) × (l.n ≡ S.count_of l.s) × (l.n ≤ 8) × (l.sum ≤ 4096 * l.i) × (16384 ≤ length l.marks) × ((bytes : List ℕ) → 16384 ≤ length bytes → l.sum + O.pending_in (S.msgs l.s bytes l.marks (l.n - l.i) l.i) ≡ O.pending_in (S.msgs l.s bytes l.marks l.n 0))
-
-abbrev pub decreases-loop-i : goal.decreases-loop-i
-decreases-loop-i l = l.n - l.i
+invariant-loop-i l = (l.n ≡ S.count_of l.s) × (l.n ≤ 8) × (l.sum ≤ 4096 * l.i) × (16384 ≤ length l.marks) × ((bytes : List ℕ) → 16384 ≤ length bytes → l.sum + O.pending_in (S.msgs l.s bytes l.marks (l.n - l.i) l.i) ≡ O.pending_in (S.msgs l.s bytes l.marks l.n 0))

@@ -19,14 +19,14 @@ pub returns-then-marks-lt-MEMORY : goal.returns-then-marks-lt-MEMORY
 returns-then-marks-lt-MEMORY c = record {
   refusal = sym (cond_true (ltb (length c.args.marks.now) 16384) 7 0 (lt-ltb _ _ c.if-marks-lt-MEMORY.true));
   outbox = λ bytes. refl;
-  untouched = λ z. refl;
+  untouched = refl;
 }
 
 pub loop-i-init : goal.loop-i-init
 loop-i-init c =
     let n = c.count_of-n in
     let a = c.args in
-    (search rules, n.ensures.0, n.ensures.1, search rules, refl, λ bytes. L.msgs_begin a.s bytes a.marks.now (map O.stale_in) n.result)
+    (n.ensures.0, n.ensures.1, search rules, refl, λ bytes. L.msgs_begin a.s bytes a.marks.now (map O.stale_in) n.result)
 
 pub stale_at-requires : goal.stale_at-requires
 stale_at-requires c = let l = c.loop-i.invariant in (omega arith, omega arith)
@@ -37,16 +37,15 @@ loop-i-preserved c =
     let l = c.loop-i in
     let i = l.invariant in
     let t = c.stale_at in (
-      omega arith,
+      i.0,
       i.1,
       i.2,
-      i.3,
-      T.act_length M.stale_marks A.stale_length a.s [] l.marks t.new.marks c.count_of-n.result l.i (omega arith) i.2 (omega arith) t.ensures ∙ i.4,
-      λ bytes. T.stale_turn a.s bytes l.marks t.new.marks c.count_of-n.result l.i (omega arith) i.2 (omega arith) t.ensures ∙ i.5 bytes,
+      T.act_length M.stale_marks A.stale_length a.s [] l.marks t.new.marks c.count_of-n.result l.i (omega arith) i.1 (omega arith) t.ensures ∙ i.3,
+      λ bytes. T.stale_turn a.s bytes l.marks t.new.marks c.count_of-n.result l.i (omega arith) i.1 (omega arith) t.ensures ∙ i.4 bytes,
     )
 
 pub shape_of-marks : goal.shape_of-marks
-shape_of-marks c = c.loop-i.invariant.4
+shape_of-marks c = c.loop-i.invariant.3
 
 pub returns : goal.returns
 returns c =
@@ -54,10 +53,10 @@ returns c =
     let l = c.loop-i in
     let i = l.invariant in
     let n = c.count_of-n in record {
-      refusal = sym (cond_false (ltb (length a.marks.now) 16384) 7 0 (le-ltb _ _ i.3));
+      refusal = sym (cond_false (ltb (length a.marks.now) 16384) 7 0 (le-ltb _ _ i.2));
+      untouched = tt;
       outbox =
           λ bytes. ap (λ (x : List O.OutMsg). record { msgs = x; next_seq = a.s.next })
-          (ap (λ (k : ℕ). S.msgs a.s bytes l.marks k 0) (sym i.1) ∙ L.msgs_end a.s bytes l.marks (map O.stale_in) n.result l.i (omega arith) refl ∙ i.5 bytes
-          ∙ ap (λ (k : ℕ). map O.stale_in (S.msgs a.s bytes a.marks.now k 0)) i.1);
-      untouched = λ z. absurd (z refl);
+          (ap (λ (k : ℕ). S.msgs a.s bytes l.marks k 0) (sym i.0) ∙ L.msgs_end a.s bytes l.marks (map O.stale_in) n.result l.i (omega arith) refl ∙ i.4 bytes
+          ∙ ap (λ (k : ℕ). map O.stale_in (S.msgs a.s bytes a.marks.now k 0)) i.0);
     }

@@ -4,7 +4,7 @@ use mathlib.Core.Bool.{false}
 use mathlib.Core.List.{List, ◌++◌, map}
 use Prim.Native.Nat.{ℕ, ◌+◌, ◌-◌, ◌*◌}
 use native.Mathlib.Omega.{arith}
-use lib.ListN.{length, get_or, take, drop}
+use lib.ListN.{length, take, drop}
 use borrow.Rule.Slice.PartMut.{put_mid}
 use Rattle.outbox.specs.Outbox as O
 use Rattle.outbox.specs.Marks as M
@@ -43,8 +43,8 @@ returns c =
     ap (λ (x : ℕ). O.cut_up a.w.left a.max k.result x false) y ∙ ap (λ (x : ℕ). O.cut_up a.w.left a.max x (S.total_of a.s a.i) false) ek.0 in
     let fc = f.ensures.cut in
     let m = W.total_most a.s a.i in record {
-      words = wrote_as f.ensures.words (ap (λ (x : List O.Piece). sent_words (map (O.sent_piece_of (get_or a.s.seqs a.i 0) (take (2048 * a.i + t.result - 2048 * a.i) (drop (2048 * a.i) a.bytes.now))) x)) q
-          ∙ ap (λ (x : List ℕ). sent_words (map (O.sent_piece_of (get_or a.s.seqs a.i 0) x) (O.cut_up a.w.left a.max (S.cut_of a.s a.i) (S.total_of a.s a.i) false))) pt);
+      words = wrote_as f.ensures.words (ap (λ (x : List O.Piece). sent_words (map (O.sent_piece_of (S.message_at a.s a.i).seq (take (2048 * a.i + t.result - 2048 * a.i) (drop (2048 * a.i) a.bytes.now))) x)) q
+          ∙ ap (λ (x : List ℕ). sent_words (map (O.sent_piece_of (S.message_at a.s a.i).seq x) (O.cut_up a.w.left a.max (S.cut_of a.s a.i) (S.total_of a.s a.i) false))) pt);
       left = f.ensures.left ∙ ap (λ (x : List O.Piece). a.w.left - length x) q;
       cut = (fc.0 ∙ ap (λ (x : ℕ). x + O.lens (O.cut_up a.w.left a.max k.result (length (take (2048 * a.i + t.result - 2048 * a.i) (drop (2048 * a.i) a.bytes.now))) false)) ek.0 ∙ ap (λ (x : List O.Piece). S.cut_of a.s a.i + O.lens x) q, omega (arith, fc.1));
       marks = B.begun a.marks.now f.new.marks (put_mid (2048 * a.i) (2048 * a.i + 2048 - 2048 * a.i) a.marks.now f.new.marks) a.i (S.cut_of a.s a.i) f.result.cut (O.cut_up a.w.left a.max (S.cut_of a.s a.i) (S.total_of a.s a.i) false) p.0 p.1.1.0 f.auto.marks (omega (arith, fc.1)) (omega arith) refl

@@ -2,7 +2,7 @@ use mathlib.Core.Path.{◌≡◌, refl, sym, ap, ◌∙◌}
 use mathlib.Core.List.{[], map}
 use Prim.Native.Nat.{ℕ, ◌-◌, ◌≤◌, ◌<◌}
 use native.Mathlib.Omega.{arith}
-use lib.ListN.{length, get_or}
+use lib.ListN.{length}
 use lib.Dec.{eqb}
 use Rattle.outbox.specs.Outbox as O
 use Rattle.outbox.specs.Senders as S
@@ -11,7 +11,6 @@ use lib.ListN.{length-map}
 use Rattle.out.proofs.Laws.{wrote_as}
 use Rattle.outbox.specs.Bursts.{sent_words, pass_pieces}
 use Rattle.outbox.proofs.Bursting as B
-use borrow.Author.Rules.{rules}
 use Rattle.outbox.proofs.taking.sweep_all.Goals as goal
 
 pub loop-i-init : goal.loop-i-init
@@ -20,7 +19,6 @@ loop-i-init c =
     let a = c.args in
     let p = c.requires in
     let z : n.result - 0 ≡ n.result = omega arith in (
-      search rules,
       n.ensures.0,
       n.ensures.1,
       p.1.0,
@@ -43,22 +41,21 @@ loop-i-preserved c =
     let m = t.new.marks in
     let h : l.i < n = omega arith in
     let r : 16384 ≤ length l.marks = omega arith in
-    let ps = map (O.sent_piece_of (get_or a.s.seqs l.i 0) (S.part a.bytes.now l.i (S.total_of a.s l.i))) (pass_pieces a.mark l.v.left (S.part l.marks l.i (S.cut_of a.s l.i))) in (
-      omega arith,
+    let ps = map (O.sent_piece_of (S.message_at a.s l.i).seq (S.part a.bytes.now l.i (S.total_of a.s l.i))) (pass_pieces a.mark l.v.left (S.part l.marks l.i (S.cut_of a.s l.i))) in (
+      i.0,
       i.1,
       i.2,
-      i.3,
-      B.sweep_same a.mark p.1.1 a.s [] l.marks m n l.i l.v.left t.result.left h i.2 r t.ensures.left t.ensures.marks ∙ i.4,
-      B.sweep_turn a.mark p.1.1 a.s a.bytes.now l.marks m n l.i l.v.left t.result.left h i.2 r t.ensures.left t.ensures.marks ∙ i.5,
-      B.passing_turn ps i.6 (B.sweep_rest a.mark p.1.1 a.s a.bytes.now l.marks m n l.i l.v.left t.result.left h i.2 r t.ensures.left t.ensures.marks) t.ensures.words
-          (t.ensures.left ∙ ap (λ (x : ℕ). l.v.left - x) (sym (length-map (pass_pieces a.mark l.v.left (S.part l.marks l.i (S.cut_of a.s l.i))) (O.sent_piece_of (get_or a.s.seqs l.i 0) (S.part a.bytes.now l.i (S.total_of a.s l.i)))))),
+      B.sweep_same a.mark p.1.1 a.s [] l.marks m n l.i l.v.left t.result.left h i.1 r t.ensures.left t.ensures.marks ∙ i.3,
+      B.sweep_turn a.mark p.1.1 a.s a.bytes.now l.marks m n l.i l.v.left t.result.left h i.1 r t.ensures.left t.ensures.marks ∙ i.4,
+      B.passing_turn ps i.5 (B.sweep_rest a.mark p.1.1 a.s a.bytes.now l.marks m n l.i l.v.left t.result.left h i.1 r t.ensures.left t.ensures.marks) t.ensures.words
+          (t.ensures.left ∙ ap (λ (x : ℕ). l.v.left - x) (sym (length-map (pass_pieces a.mark l.v.left (S.part l.marks l.i (S.cut_of a.s l.i))) (O.sent_piece_of (S.message_at a.s l.i).seq (S.part a.bytes.now l.i (S.total_of a.s l.i)))))),
     )
 
 pub shape_of-marks : goal.shape_of-marks
-shape_of-marks c = c.loop-i.invariant.4
+shape_of-marks c = c.loop-i.invariant.3
 
 pub shape_of-out : goal.shape_of-out
-shape_of-out c = c.loop-i.invariant.6.same_out
+shape_of-out c = c.loop-i.invariant.5.same_out
 
 pub returns : goal.returns
 returns c =
@@ -68,8 +65,8 @@ returns c =
     let n = c.count_of-n.result in
     let z : n - l.i ≡ 0 = omega arith in
     let e = ap (λ (k : ℕ). O.sweep_out (eqb a.mark 2) l.v.left (S.msgs a.s a.bytes.now l.marks k l.i)) z ∙ ap (O.sweep_out (eqb a.mark 2) l.v.left) (L.msgs_none a.s a.bytes.now l.marks l.i) ∙ B.out_nil (eqb a.mark 2) l.v.left in record {
-      msgs = ap (λ (k : ℕ). S.msgs a.s a.bytes.now l.marks k 0) (sym i.1) ∙ L.msgs_end a.s a.bytes.now l.marks (O.sweep (eqb a.mark 2) l.v.left) n l.i (omega arith) (B.sweep_nil (eqb a.mark 2) l.v.left) ∙ i.5
-          ∙ ap (λ (k : ℕ). O.sweep (eqb a.mark 2) a.w.left (S.msgs a.s a.bytes.now a.marks.now k 0)) i.1;
-      words = wrote_as (B.passing_words i.6 e) (ap (λ (k : ℕ). sent_words (O.sweep_out (eqb a.mark 2) a.w.left (S.msgs a.s a.bytes.now a.marks.now k 0))) i.1);
-      left = B.passing_left i.6 e ∙ ap (λ (k : ℕ). a.w.left - length (O.sweep_out (eqb a.mark 2) a.w.left (S.msgs a.s a.bytes.now a.marks.now k 0))) i.1;
+      msgs = ap (λ (k : ℕ). S.msgs a.s a.bytes.now l.marks k 0) (sym i.0) ∙ L.msgs_end a.s a.bytes.now l.marks (O.sweep (eqb a.mark 2) l.v.left) n l.i (omega arith) (B.sweep_nil (eqb a.mark 2) l.v.left) ∙ i.4
+          ∙ ap (λ (k : ℕ). O.sweep (eqb a.mark 2) a.w.left (S.msgs a.s a.bytes.now a.marks.now k 0)) i.0;
+      words = wrote_as (B.passing_words i.5 e) (ap (λ (k : ℕ). sent_words (O.sweep_out (eqb a.mark 2) a.w.left (S.msgs a.s a.bytes.now a.marks.now k 0))) i.0);
+      left = B.passing_left i.5 e ∙ ap (λ (k : ℕ). a.w.left - length (O.sweep_out (eqb a.mark 2) a.w.left (S.msgs a.s a.bytes.now a.marks.now k 0))) i.0;
     }

@@ -1,9 +1,8 @@
 use Rattle.bits.proofs.Loops.{first_pass, first_stop, first_end}
 use mathlib.Core.Path.{sym, ◌∙◌, ap}
-use Prim.Native.Nat.{◌-◌}
 use native.Mathlib.Omega.{arith}
 use Rattle.roster.proofs.Laws.{none_left, no_slot, at_slot}
-use Rattle.roster.specs.Relays.{is_source, slot_or63}
+use Rattle.roster.specs.Relays.{slot_or63}
 use Rattle.roster.proofs.relay.relay_src_for.Goals as goal
 
 pub returns-then-slot-ge62 : goal.returns-then-slot-ge62
@@ -13,24 +12,15 @@ pub returns-then-left-eq0 : goal.returns-then-left-eq0
 returns-then-left-eq0 c = sym (none_left _ _ _ _ _ _ (sym c.without-left.ensures ∙ c.if-left-eq0.true))
 
 pub loop-a-init : goal.loop-a-init
-loop-a-init c = (omega arith, rw c.without-left.ensures (at_slot _ _ _ _ _ _ (omega arith)))
-
-pub is_source-requires : goal.is_source-requires
-is_source-requires c = omega arith
+loop-a-init c = rw c.without-left.ensures (at_slot _ _ _ _ _ _ (omega arith))
 
 pub returns-then-is_source : goal.returns-then-is_source
 returns-then-is_source c =
-    ap slot_or63 (sym (first_stop _ _ _ c.loop-a-test.true (sym c.is_source.ensures ∙ c.if-is_source.true))) ∙ c.loop-a.invariant.1
-
-pub overflow_add-a : goal.overflow_add-a
-overflow_add-a c = omega arith
-
-pub loop-a-smaller : goal.loop-a-smaller
-loop-a-smaller c = omega arith
+    ap slot_or63 (sym (first_stop _ _ _ c.loop-a-test.true (sym c.is_source.ensures ∙ c.if-is_source.true))) ∙ c.loop-a.invariant
 
 pub loop-a-preserved : goal.loop-a-preserved
 loop-a-preserved c =
-    (omega arith, ap slot_or63 (sym (first_pass _ _ _ c.loop-a-test.true (sym c.is_source.ensures ∙ c.if-is_source.false))) ∙ c.loop-a.invariant.1)
+    ap slot_or63 (sym (first_pass _ _ _ c.loop-a-test.true (sym c.is_source.ensures ∙ c.if-is_source.false))) ∙ c.loop-a.invariant
 
 pub returns : goal.returns
-returns c = ap slot_or63 (sym (first_end _ _ _ c.loop-a-test.false)) ∙ c.loop-a.invariant.1
+returns c = ap slot_or63 (sym (first_end _ _ _ c.loop-a-test.false)) ∙ c.loop-a.invariant

@@ -1,22 +1,24 @@
--- Assumes nothing.
-use mathlib.Core.Path.{sym, ◌∙◌}
-use borrow.Author.Tests.{eq-eqb, ne_eqb}
-use Rattle.bits.proofs.Lists.{cond_true, cond_false}
+use Rattle.std.proofs.Common.{◌≡◌, ℕ, ◌/◌, ne_eqb, arith}
 use Rattle.script.specs.Actions.{action_of}
 use Rattle.script.proofs.action.action_of.Goals as goal
 
-pub returns-then-kind-eq7 : goal.returns-then-kind-eq7
+pub returns-in-7 : goal.returns-in-7
 unfolding action_of
-returns-then-kind-eq7 c = c.command_of.ensures ∙ sym (cond_true _ _ _ (eq-eqb _ _ c.if-kind-eq7.true))
+returns-in-7 c = simp c.in-7.is c.command_of.ensures
 
-pub returns-then-kind-eq14 : goal.returns-then-kind-eq14
+pub returns-in-14 : goal.returns-in-14
 unfolding action_of
-returns-then-kind-eq14 c = sym (cond_false _ _ _ (ne_eqb _ _ c.if-kind-eq7.false) ∙ cond_true _ _ _ (eq-eqb _ _ c.if-kind-eq14.true))
+returns-in-14 c = simp c.in-14.is
 
-pub returns-then-kind-eq15 : goal.returns-then-kind-eq15
+pub returns-in-15 : goal.returns-in-15
 unfolding action_of
-returns-then-kind-eq15 c = c.level_word.ensures ∙ sym (cond_false _ _ _ (ne_eqb _ _ c.if-kind-eq7.false) ∙ cond_false _ _ _ (ne_eqb _ _ c.if-kind-eq14.false) ∙ cond_true _ _ _ (eq-eqb _ _ c.if-kind-eq15.true))
+returns-in-15 c = simp c.in-15.is c.level_word.ensures
 
-pub returns : goal.returns
+pub returns-in_default : goal.returns-in_default
 unfolding action_of
-returns c = c.other_word.ensures ∙ sym (cond_false _ _ _ (ne_eqb _ _ c.if-kind-eq7.false) ∙ cond_false _ _ _ (ne_eqb _ _ c.if-kind-eq14.false) ∙ cond_false _ _ _ (ne_eqb _ _ c.if-kind-eq15.false))
+returns-in_default c =
+    let k : ℕ = c.args.w / 268435456 in
+    let seven : ¬ (k ≡ 7) = omega arith in
+    let fourteen : ¬ (k ≡ 14) = omega arith in
+    let fifteen : ¬ (k ≡ 15) = omega arith in
+    simp (ne_eqb _ _ seven, ne_eqb _ _ fourteen, ne_eqb _ _ fifteen) c.other_word.ensures

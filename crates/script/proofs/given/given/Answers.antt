@@ -2,4 +2,4 @@
 use Rattle.script.proofs.given.given.Goals as goal
 
 pub returns : goal.returns
-returns c = rw c.settings-g.ensures
+returns c = rw c.settings.ensures

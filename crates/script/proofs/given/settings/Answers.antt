@@ -1,4 +1,3 @@
--- Assumes nothing.
 use Rattle.script.proofs.Settings.{settings_is}
 use Rattle.script.proofs.given.settings.Goals as goal
 
@@ -6,17 +5,17 @@ pub returns : goal.returns
 returns c =
     settings_is
     c.args.p.now
-    c.f64_at.ensures
-    c.f64_at-2.ensures
-    c.f64_at-3.ensures
-    c.f64_at-4.ensures
-    c.f64_at-5.ensures
-    c.f64_at-6.ensures
-    c.f64_at-7.ensures
-    c.durations-four.ensures
-    c.thresholds-th.ensures
-    c.f32_at.ensures
-    c.f32_at-2.ensures
+    c.at.ensures
+    c.at-2.ensures
+    c.at-3.ensures
+    c.at-4.ensures
+    c.at-5.ensures
+    c.at-6.ensures
+    c.at-7.ensures
+    c.durations.ensures
+    c.thresholds.ensures
+    c.at-8.ensures
+    c.at-9.ensures
     c.u32_at.ensures
-    c.f64_at-8.ensures
-    c.f64_at-9.ensures
+    c.at-10.ensures
+    c.at-11.ensures

@@ -1,8 +1,8 @@
 -- Assumes nothing.
 use Rattle.shore.proofs.pack.time_of.Goals as goal
 
-pub returns-in-Never : goal.returns-in-Never
-returns-in-Never c = rw c.in-Never.is
+pub returns-in-None : goal.returns-in-None
+returns-in-None c = rw c.in-None.is
 
-pub returns-in-At : goal.returns-in-At
-returns-in-At c = rw c.in-At.is
+pub returns-in-Some : goal.returns-in-Some
+returns-in-Some c = rw c.in-Some.is

@@ -1,7 +1,10 @@
 -- Assumes nothing.
+use Rattle.shore.proofs.Arrays.{if_refused}
 use Rattle.shore.proofs.Faithful.{sender_back}
 use Rattle.shore.proofs.sending.shore_sender_post.Goals as goal
 
 pub returns : goal.returns
 returns c =
-    rw (c.left_of.ensures, sender_back c.post.result.sender, ← c.sender_of-s.ensures) c.post.ensures
+    let p = c.post-answer in
+    rw (c.left_of.ensures, sender_back p.new.s, c.number_in.ensures, ← c.sender_of-s.ensures)
+    (record { refusal = p.ensures.refusal; outbox = p.ensures.outbox; untouched = if_refused p.result p.ensures.untouched })

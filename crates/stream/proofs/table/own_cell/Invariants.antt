@@ -2,7 +2,7 @@
 use mathlib.Core.Path.{◌≡◌}
 use mathlib.Core.Bool.{Bool}
 use mathlib.Core.List.{List}
-use Prim.Native.Nat.{ℕ, ◌-◌, ◌≤◌}
+use Prim.Native.Nat.{ℕ, ◌-◌}
 use lib.ListN.{get_or}
 use Rattle.bits.specs.Loop.{first}
 use Rattle.stream.specs.Table.{is_own, own_cell}
@@ -13,7 +13,4 @@ test owners busy landed owner c = is_own busy landed c (get_or owners c 0) owner
 
 abbrev pub invariant-loop-c : goal.invariant-loop-c
 invariant-loop-c l =
-    (l.c ≤ l.n) × (first (test l.owners l.busy l.landed l.owner) (l.n - l.c) l.c ≡ own_cell l.owners l.busy l.landed l.n l.owner)
-
-abbrev pub decreases-loop-c : goal.decreases-loop-c
-decreases-loop-c l = l.n - l.c
+    first (test l.owners l.busy l.landed l.owner) (l.n - l.c) l.c ≡ own_cell l.owners l.busy l.landed l.n l.owner

@@ -1,10 +1,14 @@
 -- Assumes nothing.
+use mathlib.Core.Logic.{⊎_elim}
 use native.Mathlib.Omega.{arith}
+use borrow.Author.Tests.{lt-ltb, le-ltb}
+use Rattle.bits.proofs.Lists.{lt_or_le}
 use Rattle.stream.proofs.Marks.{mark_low, mark_high}
 use Rattle.stream.proofs.window.mark.Goals as goal
 
-pub returns-then-d-lt64 : goal.returns-then-d-lt64
-returns-then-d-lt64 c = rw c.with.ensures (mark_low _ _ _ _ _ _ (omega arith) c.if-d-lt64.true)
-
 pub returns : goal.returns
-returns c = rw c.with-2.ensures (mark_high _ _ _ _ _ _ (omega arith) c.if-d-lt64.false)
+returns c =
+    ⊎_elim
+    (λ h. rw (c.with-low.ensures.low, c.with-low.ensures.high, lt-ltb c.args.d 64 h) (mark_low _ _ _ _ _ _ (omega arith) h))
+    (λ h. rw (c.with-low.ensures.low, c.with-low.ensures.high, le-ltb c.args.d 64 h) (mark_high _ _ _ _ _ _ (omega arith) h))
+    (lt_or_le c.args.d 64)

@@ -9,6 +9,3 @@ use Rattle.text.proofs.number.write_digits.Given as goal
 
 abbrev pub invariant-loop-i : goal.invariant-loop-i
 invariant-loop-i l = (length l.out ≡ length l.initial.out) × (l.i ≤ l.k) × (last_digits l.base l.i l.rest ++ slice l.i l.k l.out ≡ last_digits l.base l.k l.n) × (drop l.k l.out ≡ drop l.k l.initial.out)
-
-abbrev pub decreases-loop-i : goal.decreases-loop-i
-decreases-loop-i l = l.i

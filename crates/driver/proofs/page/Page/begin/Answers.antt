@@ -1,0 +1,6 @@
+use Rattle.driver.specs.Lines.{begun}
+use Rattle.driver.proofs.page.Page.begin.Goals as goal
+
+pub returns : goal.returns
+unfolding begun
+returns c = rw c.room-self.ensures

@@ -1,8 +1,0 @@
--- Assumes nothing.
-use Rattle.frames.proofs.pieces.with_if.Goals as goal
-
-pub returns-then-yes : goal.returns-then-yes
-returns-then-yes c = rw c.if-yes.true c.with.ensures
-
-pub returns-else-yes : goal.returns-else-yes
-returns-else-yes c = rw c.if-yes.false

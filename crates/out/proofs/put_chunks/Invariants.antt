@@ -1,0 +1,13 @@
+-- `out::put_chunks` meets its contract. The invariant: the words of the bytes that are left are still to be written. Assumes nothing.
+use mathlib.Core.Path.{◌≡◌}
+use lib.ListN.{take}
+use Rattle.std.specs.Slice.Iter.{chunks_rest, chunks_size}
+use Rattle.out.specs.Encode.{chunk_words, chunk_size}
+use Rattle.out.proofs.Laws.{Still}
+use Rattle.out.proofs.put_chunks.Given as goal
+
+abbrev pub invariant-loop-chunk : goal.invariant-loop-chunk
+invariant-loop-chunk l = record {
+  size : chunks_size l.chunk-iterator ≡ chunk_size l.size;
+  still : Still l.initial.out l.at (chunk_words l.kind l.size (take l.n l.rows)) l.out l.end (chunk_words l.kind l.size (chunks_rest l.chunk-iterator));
+}

@@ -1,9 +1,0 @@
--- By cases. Assumes nothing.
-use borrow.Author.Tests.{eq-eqb, ne_eqb}
-use Rattle.outbox.proofs.marks.start_mark.Goals as goal
-
-pub returns-then-k-eq0 : goal.returns-then-k-eq0
-returns-then-k-eq0 c = simp (eq-eqb _ _ c.if-k-eq0.true)
-
-pub returns-else-k-eq0 : goal.returns-else-k-eq0
-returns-else-k-eq0 c = simp (ne_eqb _ _ c.if-k-eq0.false)

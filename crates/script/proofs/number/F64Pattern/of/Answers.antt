@@ -1,0 +1,10 @@
+use Rattle.std.proofs.Common.{refl}
+use Rattle.std.specs.Float.{binary64}
+use Rattle.script.proofs.Numbers.{float_none, float_some}
+use Rattle.script.proofs.number.F64Pattern.of.Goals as goal
+
+pub returns-then-nan_bits : goal.returns-then-nan_bits
+returns-then-nan_bits c = float_none binary64 refl c.nan_bits.ensures c.if-nan_bits.true
+
+pub returns : goal.returns
+returns c = float_some binary64 refl c.nan_bits.ensures c.if-nan_bits.false

@@ -1,8 +1,0 @@
--- Assumes nothing.
-use mathlib.Core.Path.{refl}
-use lib.Ieee.{nan_bits}
-use Rattle.script.proofs.number.is_nan64.Goals as goal
-
-pub returns : goal.returns
-unfolding nan_bits
-returns c = refl

@@ -1,0 +1,9 @@
+-- What is left grows shorter by a part each turn.
+use Rattle.std.proofs.Common.{◌≤◌, length}
+use Rattle.turncheck.proofs.sendings.first_fault.Given as goal
+
+abbrev pub invariant-loop-rest : goal.invariant-loop-rest
+invariant-loop-rest l = length l.rest ≤ length l.words
+
+abbrev pub decreases-loop-rest : goal.decreases-loop-rest
+decreases-loop-rest l = length l.rest
