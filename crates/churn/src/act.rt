@@ -2,7 +2,8 @@
 use crate::burst;
 use crate::chance::{Call, Drawn};
 use net::Station;
-use station::{Answer, Answered};
+use refusal::Refusal;
+use station::Answered;
 use std::alloc::{AllocError, Global};
 
 // Seconds: a call every 4.32 of them.
@@ -37,7 +38,7 @@ impl Port {
         })
     }
 
-    pub fn call(&mut self, d: Drawn, now: f64) -> Result<Answer, AllocError> {
+    pub fn call(&mut self, d: Drawn, now: f64) -> Result<Result<usize, Refusal>, AllocError> {
         let s = self.station;
         let r = match d.call {
             Call::SignOff => station::sign_off(s, (d.a % 64) as u8),
@@ -87,22 +88,20 @@ impl Port {
 
     // A landed message is read and its cell given back; an answer of 0 words.
     fn emptied(&mut self, cell: usize) -> Answered {
-        let mut no: u8 = 0;
-        let _message = station::read(self.station, &self.store, cell, &mut no);
-        if no != 0 {
-            return Answered {
+        match station::read(self.station, &self.store, cell) {
+            Ok(_) => station::free(self.station, cell),
+            Err(r) => Answered {
                 station: self.station,
-                answer: Answer::Refused(no),
-            };
+                answer: Err(r),
+            },
         }
-        station::free(self.station, cell)
     }
 }
 
 // The slot that the call freed.
-pub fn freed(d: Drawn, a: Answer) -> Option<usize> {
+pub fn freed(d: Drawn, a: Result<usize, Refusal>) -> Option<usize> {
     match (d.call, a) {
-        (Call::SignOff, Answer::Words(_)) => Some((d.a % 64) as usize),
+        (Call::SignOff, Ok(_)) => Some((d.a % 64) as usize),
         _ => None,
     }
 }

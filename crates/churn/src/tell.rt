@@ -1,7 +1,7 @@
 // What the day had, in words.
 use crate::chance::Call;
 use crate::holds::Fault;
-use station::Answer;
+use refusal::Refusal;
 use std::fmt;
 
 // Calls not refused, by kind, and the refused ones; events 1 and 2, the polls, the most boats at once; what first did not hold, and after which call.
@@ -27,8 +27,8 @@ fn one_more(count: &mut u32) {
 
 impl Tally {
     // A call and its answer.
-    pub fn count(&mut self, call: Call, answer: Answer, out: &[u32]) {
-        let Answer::Words(n) = answer else {
+    pub fn count(&mut self, call: Call, answer: Result<usize, Refusal>, out: &[u32]) {
+        let Ok(n) = answer else {
             one_more(&mut self.refused);
             return;
         };

@@ -1,11 +1,10 @@
 -- What the commands leave of the program's values.
-use Rattle.std.specs.Prelude.{ℕ, cond, List, ◌==◌}
+use Rattle.std.specs.Prelude.{ℕ, cond, List, ◌==◌, Result, Ok, Err}
 use Rattle.words.specs.Words.{payload_at}
 use Rattle.script.specs.declared.action.Control.{Control}
 use Rattle.script.specs.Actions.{number}
 use Rattle.script.specs.Settings.{lent_cells}
-use Rattle.station.specs.declared.Answer.{Answer}
-use Rattle.station.specs.declared.Answer.TheVariants.{Refused, Words}
+use Rattle.refusal.specs.declared.Refusal.{Refusal}
 
 abbrev pub with_cells : Control → ℕ → Control
 with_cells c n = record c { cells = n }
@@ -14,6 +13,6 @@ with_cells c n = record c { cells = n }
 abbrev pub kept_by : Control → List ℕ → Control
 kept_by c words = cond (number c.command == 8) (with_cells c (lent_cells (payload_at words 255))) c
 
-abbrev pub settled_by : Control → List ℕ → Answer → Control
-settled_by c words (Refused n) = c
-settled_by c words (Words n) = kept_by c words
+abbrev pub settled_by : Control → List ℕ → Result ℕ Refusal → Control
+settled_by c words (Ok n) = kept_by c words
+settled_by c words (Err r) = c

@@ -1,11 +1,11 @@
 -- What the programs print: the bytes of each line, and where lines stand in the text that is gathered.
-use Rattle.std.specs.Prelude.{ℕ, ◌/◌, ◌%◌, Bool, false, cond, List, [], ◌∷◌, ◌++◌, length, take, nat_lt}
+use Rattle.std.specs.Prelude.{ℕ, ◌/◌, ◌%◌, Bool, false, cond, List, [], ◌∷◌, ◌++◌, length, take, nat_lt, Result, Ok, Err}
 use Rattle.std.proofs.lemmas.List.Edits.{sets}
 use Rattle.out.specs.Encode.{after}
 use Rattle.text.specs.Digits.{digits_of}
-use Rattle.station.specs.declared.Answer.{Answer}
+use Rattle.refusal.specs.declared.Refusal.{Refusal}
+use Rattle.refusal.specs.Numbers.{number_of}
 use Rattle.driver.specs.declared.page.Page.{Page}
-use Rattle.station.specs.declared.Answer.TheVariants.{Refused, Words}
 
 -- ---- lines, each with its end
 
@@ -31,9 +31,9 @@ abbrev pub message_line : List ℕ → List ℕ
 message_line m = (82 ∷ []) ++ (32 ∷ []) ++ byte_pairs m ++ (10 ∷ [])
 
 -- a refusal, or the words of a call
-abbrev pub answer_lines : List ℕ → Answer → List (List ℕ)
-answer_lines out (Refused n) = word_line n ∷ []
-answer_lines out (Words n) = word_lines (take n out)
+abbrev pub answer_lines : List ℕ → Result ℕ Refusal → List (List ℕ)
+answer_lines out (Ok n) = word_lines (take n out)
+answer_lines out (Err r) = word_line (number_of r) ∷ []
 
 -- the words of a reception, and in `drive` its mask, high half first
 abbrev pub heard_lines : Bool → List ℕ → ℕ → ℕ → List (List ℕ)
@@ -41,9 +41,9 @@ heard_lines drive out n mask =
     word_lines (take n out) ++ cond drive (mask_line (mask / 4294967296) ∷ mask_line (mask % 4294967296) ∷ []) []
 
 -- a reception's answer
-abbrev pub heard_by : Bool → List ℕ → ℕ → Answer → List (List ℕ)
-heard_by drive out mask (Refused n) = word_line n ∷ []
-heard_by drive out mask (Words n) = heard_lines drive out n mask
+abbrev pub heard_by : Bool → List ℕ → ℕ → Result ℕ Refusal → List (List ℕ)
+heard_by drive out mask (Ok n) = heard_lines drive out n mask
+heard_by drive out mask (Err r) = word_line (number_of r) ∷ []
 
 -- ---- the text that is gathered
 

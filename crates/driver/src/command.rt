@@ -6,10 +6,11 @@ ghost use Rattle.driver.specs.Commands.{kept_by, settled_by};
 use super::memory::Memory;
 use super::page::Page;
 use net::Station;
+use refusal::Refusal;
 use script::action::{Command, Control};
 use script::number::Pattern;
 use script::{action, given, number};
-use station::{Answer, Answered, Heard};
+use station::{Answered, Heard};
 use words::Item;
 
 // How many bytes of the store the cells are, of those that there are.
@@ -28,13 +29,10 @@ fn store_of(cells: usize, have: usize) -> usize
 // A landed message.
 #[inline(never)]
 pub fn read(s: &Station, c: Control, w: u32, store: &[u8], page: &mut Page) {
-    let mut no: u8 = 0;
     let z = store_of(c.cells, store.len());
-    let m = station::read(*s, &store[..z], action::rest_of(w) as usize, &mut no);
-    if no == 0 {
-        page.message(m);
-    } else {
-        page.word(no as u32);
+    match station::read(*s, &store[..z], action::rest_of(w) as usize) {
+        Ok(m) => page.message(m),
+        Err(r) => page.refusal(r),
     }
 }
 
@@ -70,7 +68,7 @@ fn flags_of(words: &[u32], command: Command) -> Option<u32> {
 fn malformed(s: &Station) -> Answered {
     Answered {
         station: *s,
-        answer: Answer::Refused(3),
+        answer: Err(Refusal::Words),
     }
 }
 
@@ -220,14 +218,14 @@ pub fn fill(s: &Station, w: u32, queue: &mut [u8; 126976]) -> Answered {
     let mut u = *s;
     for _ in 0..rest / 4096 {
         let r = station::post(u, slot, &[0; 2046], queue);
-        if matches!(r.answer, Answer::Refused(_)) {
+        if r.answer.is_err() {
             return r;
         }
         u = reported(r.station, slot);
     }
     Answered {
         station: u,
-        answer: Answer::Words(0),
+        answer: Ok(0),
     }
 }
 
@@ -280,11 +278,11 @@ fn kept(c: Control, words: &[u32]) -> Control
 }
 
 // What is held once an admission or a start was answered: the command is closed.
-pub fn settled(c: Control, words: &[u32], a: Answer) -> Control
+pub fn settled(c: Control, words: &[u32], a: Result<usize, Refusal>) -> Control
     ensures { result ≡ closed (settled_by c words.now a) }
 {
     match a {
-        Answer::Refused(_) => action::closed(c),
-        Answer::Words(_) => action::closed(kept(c, words)),
+        Ok(_) => action::closed(kept(c, words)),
+        Err(_) => action::closed(c),
     }
 }

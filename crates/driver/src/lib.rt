@@ -4,9 +4,9 @@
 use memory::{Memory, Words};
 use net::Station;
 use page::Page;
+use refusal::Refusal;
 use script::action;
 use script::action::{Action, Command, Control};
-use station::Answer;
 use std::io::{Stdin, Stdout};
 
 mod command;
@@ -113,13 +113,13 @@ impl Session {
         }
     }
 
-    fn received(&mut self, mask: u64, a: Answer) {
+    fn received(&mut self, mask: u64, a: Result<usize, Refusal>) {
         let drive = self.control.drive;
         self.page.heard(drive, &self.memory.out, mask, a);
         self.control = action::closed(self.control);
     }
 
-    fn posted(&mut self, a: Answer) {
+    fn posted(&mut self, a: Result<usize, Refusal>) {
         self.page.answer(&self.memory.out, a);
         self.control = action::closed(self.control);
     }
@@ -197,8 +197,8 @@ pub fn run(from: Stdin, to: Stdout, drive: bool, panel: bool) {
         },
     };
     match r.answer {
-        Answer::Refused(n) => s.page.word(n as u32),
-        Answer::Words(_) => s.read_all(r.station, from),
+        Ok(_) => s.read_all(r.station, from),
+        Err(no) => s.page.refusal(no),
     }
     s.page.flush();
 }

@@ -1,9 +1,10 @@
 // The text that the programs print: result words, masks, messages, and what `dump` and `panel` say.
 ghost use Rattle.std.specs.Prelude.{◌≡◌, true, false, [], ◌∷◌, ◌++◌, take};
+ghost use Rattle.refusal.specs.Numbers.{number_of};
 ghost use Rattle.text.specs.Digits.{digits_of};
 ghost use Rattle.driver.specs.Lines.{word_line, word_lines, mask_line, byte_pairs, message_line, answer_lines, heard_lines, heard_by, begun, written, lines_on};
 
-use station::Answer;
+use refusal::Refusal;
 use std::fmt;
 use std::io::Stdout;
 
@@ -70,13 +71,20 @@ impl Page {
         }
     }
 
+    // A refusal's number.
+    pub fn refusal(&mut self, r: Refusal)
+        ensures { self.new ≡ lines_on self.old (word_line (number_of r) ∷ []) }
+    {
+        self.word(u32::from(u8::from(r)));
+    }
+
     // A refusal, or the words of a call.
-    pub fn answer(&mut self, out: &[u32; 8192], a: Answer)
+    pub fn answer(&mut self, out: &[u32; 8192], a: Result<usize, Refusal>)
         ensures { self.new ≡ lines_on self.old (answer_lines out.now a) }
     {
         match a {
-            Answer::Refused(n) => self.word(n as u32),
-            Answer::Words(n) => self.words(first(out, n)),
+            Ok(n) => self.words(first(out, n)),
+            Err(r) => self.refusal(r),
         }
     }
 
@@ -103,12 +111,12 @@ impl Page {
     }
 
     // A reception's answer.
-    pub fn heard(&mut self, drive: bool, out: &[u32; 8192], mask: u64, a: Answer)
+    pub fn heard(&mut self, drive: bool, out: &[u32; 8192], mask: u64, a: Result<usize, Refusal>)
         ensures { self.new ≡ lines_on self.old (heard_by drive out.now mask a) }
     {
         match a {
-            Answer::Refused(n) => self.word(n as u32),
-            Answer::Words(n) => self.reception(drive, out, n, mask),
+            Ok(n) => self.reception(drive, out, n, mask),
+            Err(r) => self.refusal(r),
         }
     }
 

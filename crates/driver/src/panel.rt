@@ -6,8 +6,8 @@ use level::Level;
 use net::Station;
 use script::number::Pattern;
 use script::{action, number};
+use station::show;
 use station::show::Entry;
-use station::{Lowest, show};
 use std::fmt;
 use std::fmt::Write;
 
@@ -109,8 +109,8 @@ fn hears(page: &mut Page, s: &Station, r: u8, x: u8) -> fmt::Result {
 // The lowest of the last 32 levels at which the boat in a slot was received.
 fn worst(page: &mut Page, s: &Station, slot: u8) -> fmt::Result {
     match station::worst(*s, slot) {
-        Lowest::Refused(n) => write!(page, "{n:08X}"),
-        Lowest::Is(x) => {
+        Err(r) => write!(page, "{:08X}", u8::from(r)),
+        Ok(x) => {
             write!(page, "slot {slot}: worst of the last 32 levels: ")?;
             put_level(page, x)
         }

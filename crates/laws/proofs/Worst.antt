@@ -1,5 +1,5 @@
 -- The call answers the lowest of the last 32 readings: each call's updates are what its definition makes of the rings. Assumes nothing.
-use Rattle.std.specs.Prelude.{Option, Some, None, is_some}
+use Rattle.std.specs.Prelude.{Option, Some, None, is_some, Ok}
 use mathlib.Core.Path.{◌≡◌, refl, sym, ap, ap₂, ◌∙◌, subst}
 use mathlib.Core.Bool.{Bool, true, false, not, cond, ◌&&◌, ◌||◌}
 use mathlib.Core.List.{List, [], ◌∷◌, ◌++◌}
@@ -62,7 +62,6 @@ use Rattle.config.specs.Checks.{settings_of}
 use Rattle.station.specs.Entries.{Outcome, done, refused, unless, check1, admit_refusal, admitted, admit_of, receive_by, receive_refusal, receive_of, next_refusal, next_of, post_refusal, post_of, sent_of, close_refusal, close_of, read_refusal, cell_refusal, free_of}
 use Rattle.signoff.specs.SignOff.{bereft_of, bereave_at, bereave_all, leave, struck_off, vacant, sign_off}
 use Rattle.station.specs.SignOff.{sign_off_refusal, sign_off_of}
-use Rattle.station.specs.declared.Lowest.TheVariants.{Refused, Is}
 use Rattle.station.specs.Worst.{worst_of, refusal_in, decibels_of}
 use Rattle.dues.specs.Dues.{dues_refusal}
 use Rattle.promise.specs.Promise.{lent_to, Net, of_burst, Call, admission, reception, decision, sending, closing, reading, freeing, charging, signing, asking, posting, result, outcome, step, after, started}
@@ -441,11 +440,11 @@ calls_follow (c ∷ cs) n = follow n.station.recent (cond (eqb (outcome c n).ref
 
 -- ---- the theorem
 
-answer_is : (s : Station) (slot : ℕ) → is_member s.used slot ≡ true → worst_of s slot ≡ Is (least_of (readings (get_or s.recent slot no_recent)))
+answer_is : (s : Station) (slot : ℕ) → is_member s.used slot ≡ true → worst_of s slot ≡ Ok (least_of (readings (get_or s.recent slot no_recent)))
 unfolding worst_of worst sign_off_refusal
 answer_is s slot here =
     let l = member_lt s.used slot here in
-    rw (le-ltb 61 slot (omega arith), here) (ap (λ (y : ℕ). Is (least_of (readings (get_or s.recent y no_recent)))) (index_is slot l))
+    rw (le-ltb 61 slot (omega arith), here) (ap (λ (y : ℕ). Ok (least_of (readings (get_or s.recent y no_recent)))) (index_is slot l))
 
 pub worst_of_last : WorstOfLast
 worst_of_last s g store e cs slot here =
@@ -453,8 +452,8 @@ worst_of_last s g store e cs slot here =
     let h : Holds n.station.recent (λ i. []) = subst (λ (t : Station). Holds t.recent (λ i. [])) (sym (started_is s g store e)) (new_holds (settings_of g) _) in
     let k : Holds (after cs n).station.recent (λ i. readings_of i (updates_of cs n) []) =
     subst (λ (rs : List Recent). Holds rs (λ i. readings_of i (updates_of cs n) [])) (sym (calls_follow cs n)) (updates_hold (updates_of cs n) n.station.recent (λ i. []) h) in
-    let is : worst_of (after cs n).station slot ≡ Is (least_of (last_of cs n slot)) =
-    answer_is (after cs n).station slot here ∙ ap (λ (xs : List Float). Is (least_of xs)) (k.last slot (member_lt (after cs n).station.used slot here)) in
+    let is : worst_of (after cs n).station slot ≡ Ok (least_of (last_of cs n slot)) =
+    answer_is (after cs n).station slot here ∙ ap (λ (xs : List Float). Ok (least_of xs)) (k.last slot (member_lt (after cs n).station.used slot here)) in
     record {
       answer = is;
       number = ap decibels_of is;

@@ -1,5 +1,6 @@
 -- The definitions run from a start on: boat B in slot 1, relayed by A in slot 0, is heard once, 32 and 33 times, the lowest falling out, at -0 and +0; its window is
 -- emptied by promotion, by a children entry of 63, and by the sign-off of its relay. By computation; assumes nothing.
+use Rattle.std.specs.Prelude.{Result, Ok, Err}
 use mathlib.Core.Path.{◌≡◌, refl}
 use mathlib.Core.Bool.{true, false}
 use mathlib.Core.List.{List, [], ◌∷◌, ◌++◌}
@@ -9,6 +10,7 @@ use lib.Ieee.{Float, fin, size, units, round, sum, add, mul, lt, le, eq, of_int,
 use Rattle.bits.specs.Loop.{first, fold, every, any}
 use Rattle.bits.specs.Mask.{has_bit, with_bit, without_bit, both_of, either_of, minus_of, lowest_bit, lowest_free, slots_of}
 use Rattle.bits.specs.Stop.{stop}
+use Rattle.level.specs.declared.Level.{Level}
 use Rattle.level.specs.declared.Level.TheVariants.{Unheard, Decibels}
 use Rattle.level.specs.Levels.{level_below}
 use Rattle.level.specs.Order.{total_lt}
@@ -33,8 +35,8 @@ use Rattle.frames.specs.Control.{each_entry, kid_entry, kids_frame}
 use Rattle.frames.specs.Frames.{control_by, read_frame, frame_step, read_frames}
 use Rattle.rx.specs.Ending.{idle_end, reply_end}
 use Rattle.rx.specs.Reception.{ncs_rx}
-use Rattle.station.specs.declared.Lowest.{Lowest}
-use Rattle.station.specs.declared.Lowest.TheVariants.{Refused, Is}
+use Rattle.refusal.specs.declared.Refusal.{Refusal}
+use Rattle.refusal.specs.declared.Refusal.TheVariants as why
 use Rattle.station.specs.Entries.{admit_refusal, admit_of, receive_refusal, receive_of, next_refusal, next_of, sent_of}
 use Rattle.signoff.specs.SignOff.{bereave_at, bereave_all, clear_at, clear_all, unhear_at, unhear_all, sign_off}
 use Rattle.station.specs.SignOff.{sign_off_refusal, sign_off_of}
@@ -71,29 +73,29 @@ kids q = reception (burst_words (record { head = record { code = 0; hi = 0; extr
 abbrev promotes : List Call
 promotes = next ∷ sending nil ∷ next ∷ []
 
-abbrev of_b : List Call → Lowest
+abbrev of_b : List Call → Result Level Refusal
 of_b cs = worst_of (after (both ++ cs) from).station 1
 
 pub record WorstRun : Type 0 where
-  pub nobody : worst_of (after both from).station 2 ≡ Refused 21
-  pub no_slot : worst_of (after both from).station 62 ≡ Refused 8
-  pub none : of_b [] ≡ Is Unheard
-  pub one : of_b (idle low ∷ []) ≡ Is (Decibels low)
-  pub not_smoothed : of_b (idle high ∷ idle low ∷ []) ≡ Is (Decibels low)
-  pub oldest : of_b (idle low ∷ again 31 high) ≡ Is (Decibels low)
-  pub falls_out : of_b (idle low ∷ again 32 high) ≡ Is (Decibels high)
-  pub zeros : of_b (idle minus ∷ idle nil ∷ []) ≡ Is (Decibels minus)
-  pub zeros_back : of_b (idle nil ∷ idle minus ∷ []) ≡ Is (Decibels minus)
+  pub nobody : worst_of (after both from).station 2 ≡ Err why.NoMember
+  pub no_slot : worst_of (after both from).station 62 ≡ Err why.Slot
+  pub none : of_b [] ≡ Ok Unheard
+  pub one : of_b (idle low ∷ []) ≡ Ok (Decibels low)
+  pub not_smoothed : of_b (idle high ∷ idle low ∷ []) ≡ Ok (Decibels low)
+  pub oldest : of_b (idle low ∷ again 31 high) ≡ Ok (Decibels low)
+  pub falls_out : of_b (idle low ∷ again 32 high) ≡ Ok (Decibels high)
+  pub zeros : of_b (idle minus ∷ idle nil ∷ []) ≡ Ok (Decibels minus)
+  pub zeros_back : of_b (idle nil ∷ idle minus ∷ []) ≡ Ok (Decibels minus)
   -- promoted: the up level is the directly heard one, and the window is empty
   pub promoted : (member_at (after (both ++ (idle high ∷ promotes)) from).station 1).via ≡ 63
-  pub promotion : of_b (idle high ∷ promotes) ≡ Is Unheard
+  pub promotion : of_b (idle high ∷ promotes) ≡ Ok Unheard
   -- a children entry with a level, and one of 63
-  pub named : of_b (kids 34 ∷ []) ≡ Is (Decibels (field_db 34))
-  pub unheard : of_b (idle low ∷ kids 63 ∷ []) ≡ Is Unheard
-  pub afterwards : of_b (idle low ∷ kids 63 ∷ idle high ∷ []) ≡ Is (Decibels high)
-  pub relay_gone : of_b (idle low ∷ signing 0 ∷ []) ≡ Is Unheard
-  pub gone : of_b (idle low ∷ signing 1 ∷ []) ≡ Refused 21
-  pub next_holder : of_b (idle low ∷ signing 1 ∷ admission (0 ∷ 0 ∷ 0 ∷ 0 ∷ 2 ∷ []) 0 nil 8192 ∷ []) ≡ Is Unheard
+  pub named : of_b (kids 34 ∷ []) ≡ Ok (Decibels (field_db 34))
+  pub unheard : of_b (idle low ∷ kids 63 ∷ []) ≡ Ok Unheard
+  pub afterwards : of_b (idle low ∷ kids 63 ∷ idle high ∷ []) ≡ Ok (Decibels high)
+  pub relay_gone : of_b (idle low ∷ signing 0 ∷ []) ≡ Ok Unheard
+  pub gone : of_b (idle low ∷ signing 1 ∷ []) ≡ Err why.NoMember
+  pub next_holder : of_b (idle low ∷ signing 1 ∷ admission (0 ∷ 0 ∷ 0 ∷ 0 ∷ 2 ∷ []) 0 nil 8192 ∷ []) ≡ Ok Unheard
 
 pub worst_run : WorstRun
 unfolding size units round sum add mul lt le eq of_int of_bits first fold every any has_bit with_bit without_bit both_of either_of minus_of lowest_bit lowest_free slots_of stop level_below total_lt least_from back_from readings worst digit char trim_start trim_end unpacked shifted field_db snr_from_q word_ok payload_ok unpack payload frame_of item_at frames_of head_ok parse pack frames_words chunks_of tally heard_at best_high relay_src_for turn_over is_member new_station on_tx_done seat_of find_call leads_to poll_burst acks_burst beacon_rows beacon_payload beyond beacon_of tell_all list_sent rx_list_burst tried_of source_for promote_at promote_all move_at move_all reroute_of mask_where rows_on least_reach least_direct poll_stage directed_to is_due list_for draw_stage reroute_stage round_end act_of window_stage again_stage missed_stage due_of ncs_next each_entry kid_entry kids_frame control_by read_frame frame_step read_frames idle_end reply_end ncs_rx admit_refusal admit_of receive_refusal receive_of next_refusal next_of sent_of bereave_at bereave_all clear_at clear_all unhear_at unhear_all sign_off sign_off_refusal sign_off_of worst_of result step after

@@ -1,7 +1,7 @@
 -- The worst of the last thirty-two (U13 of document 02). The station keeps each boat's last levels in a ring. Here the readings are a list made from the calls
 -- and the definitions: which reception, frame or entry updated whose up level, with what. `WorstOfLast`, the last definition, says that the call answers the
 -- lowest of those since the window was last emptied, the last 32 at most, after any calls from a start.
-use Rattle.std.specs.Prelude.{ℕ, zero, suc, ◌+◌, ◌/◌, ◌%◌, ◌≡◌, Bool, true, false, not, cond, ◌&&◌, ◌||◌, List, [], ◌∷◌, ◌++◌, eqb, ltb, leb, Float, length, get_or, take}
+use Rattle.std.specs.Prelude.{ℕ, zero, suc, ◌+◌, ◌/◌, ◌%◌, ◌≡◌, Bool, true, false, not, cond, ◌&&◌, ◌||◌, List, [], ◌∷◌, ◌++◌, eqb, ltb, leb, Float, length, get_or, take, Ok}
 use Rattle.std.specs.Float.Ieee.{lt}
 use Rattle.bits.specs.Mask.{has_bit, without_bit}
 use Rattle.level.specs.declared.Level.{Level}
@@ -37,7 +37,6 @@ use Rattle.frames.specs.Frames.{frame_step, read_frames}
 use Rattle.rx.specs.Ending.{is_reply, busy_wait}
 use Rattle.rx.specs.Reception.{air_of, first_reading}
 use Rattle.config.specs.declared.Given.{Given}
-use Rattle.station.specs.declared.Lowest.TheVariants.{Is}
 use Rattle.station.specs.Entries.{start_refusal}
 use Rattle.station.specs.Worst.{worst_of, decibels_of}
 use Rattle.promise.specs.Promise.{lent_to, Net, of_burst, Call, admission, reception, decision, sending, closing, reading, freeing, charging, signing, asking, outcome, step, after, started, posting}
@@ -204,7 +203,7 @@ last_of cs n slot = take 32 (readings_of slot (updates_of cs n) [])
 
 -- the call answers their lowest, which is one of them, none being below it; unheard where there are none
 pub record Worst (n : Net) (cs : List Call) (slot : ℕ) : Type 0 where
-  pub answer : worst_of (after cs n).station slot ≡ Is (least_of (last_of cs n slot))
+  pub answer : worst_of (after cs n).station slot ≡ Ok (least_of (last_of cs n slot))
   pub number : decibels_of (worst_of (after cs n).station slot) ≡ decibels_in (least_of (last_of cs n slot))
   pub finite : Finite (last_of cs n slot)
   pub lowest : Lowest (least_of (last_of cs n slot)) (last_of cs n slot)

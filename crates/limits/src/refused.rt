@@ -32,8 +32,7 @@ pub fn store(trial: &mut Trial) -> Result<(), AllocError> {
     trial.answer("reception, two cells over 12,799 bytes", r.answer)?;
     let r = station::receive(s, &burst, 0.0, 1.0, &mut two, &mut trial.out);
     trial.answer("reception, two cells over 12,800 bytes", r.answer)?;
-    let mut no: u8 = 0;
-    let _m = station::read(s, &less, 0, &mut no);
+    let no = refusal::number_in(&station::read(s, &less, 0));
     trial.number(
         "reading, two cells over 12,799 bytes, sent back with",
         u64::from(no),

@@ -1,5 +1,5 @@
 // What the cases are tried with, and the lines that tell what came of them.
-use station::Answer;
+use refusal::Refusal;
 use std::alloc::{AllocError, Global};
 use std::fmt;
 
@@ -24,19 +24,19 @@ impl Trial {
         writeln!(self.text, "{what}: {number}")
     }
 
-    pub fn answer(&mut self, what: &str, answer: Answer) -> Result<(), AllocError> {
+    pub fn answer(&mut self, what: &str, answer: Result<usize, Refusal>) -> Result<(), AllocError> {
         writeln!(self.text, "{what}: {}", Told(answer))
     }
 }
 
 #[derive(Clone, Copy)]
-struct Told(Answer);
+struct Told(Result<usize, Refusal>);
 
 impl fmt::Display for Told {
     fn fmt<W: fmt::Write>(&self, f: &mut fmt::Formatter<W>) -> fmt::Result {
         match self.0 {
-            Answer::Refused(number) => write!(f, "sent back with: {number}"),
-            Answer::Words(words) => write!(f, "taken, words written: {words}"),
+            Ok(words) => write!(f, "taken, words written: {words}"),
+            Err(r) => write!(f, "sent back with: {}", u8::from(r)),
         }
     }
 }

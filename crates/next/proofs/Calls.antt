@@ -1,6 +1,8 @@
 -- The calls of a function one after the other: what each says and leaves, put together. Assumes nothing.
-use Rattle.std.proofs.Common.{◌≡◌, ℕ, ◌<◌, Bool, true, false, cond, not, ◌&&◌, ◌||◌, eqb, ltb, List, [], get_or, set, sym, refl, ap, ◌∙◌, arith, eq-eqb, ne_eqb, Option, Some, None}
+use Rattle.std.proofs.Common.{◌≡◌, ℕ, ◌+◌, Bool, true, false, cond, not, ◌&&◌, ◌||◌, eqb, ltb, List, [], get_or, set, sym, refl, ap, ◌∙◌, eq-eqb, ne_eqb, Option, Some, None}
 use lib.Ieee.{Float, lt}
+use Rattle.bits.specs.Mask.{without_bit}
+use Rattle.bits.specs.Stop.{stop}
 use Rattle.bits.proofs.Lists.{cond_true, cond_false}
 use Rattle.out.specs.Encode.{Wrote}
 use Rattle.out.proofs.Laws.{then, wrote_none}
@@ -10,21 +12,20 @@ use Rattle.net.specs.declared.Station.{Station}
 use Rattle.net.specs.declared.Round.{Round}
 use Rattle.net.specs.declared.Totals.{Totals}
 use Rattle.net.specs.declared.Wait.{Wait}
-use Rattle.net.specs.State.{index_of, with_members, with_wait, with_round, with_totals, with_list, with_rxsent}
+use Rattle.net.specs.State.{index_of, with_members, with_wait, with_round, with_totals, with_list, with_rxsent, with_polls}
 use Rattle.net.specs.declared.Turn.TheVariants.{Sending}
 use Rattle.net.specs.Net.{is_member, is_idle, wait_of, Said, said, Did}
-use Rattle.bursts.specs.Bursts.{acks_burst, beacon_of, rx_list_burst}
-use Rattle.bursts.specs.Direct.{directed_to, direct_burst, slot_or255}
-use Rattle.bursts.specs.Reroute.{reroute_of}
-use Rattle.bursts.proofs.Directing.{directed_lt}
+use Rattle.bursts.specs.Bursts.{poll_burst, acks_burst, beacon_of, rx_list_burst}
+use Rattle.bursts.specs.Direct.{directed_to, direct_burst}
+use Rattle.bursts.specs.Reroute.{reroute_of, source_for}
 use Rattle.bursts.proofs.Saying.{did_then, did_as}
 use Rattle.next.specs.declared.Due.{Due}
 use Rattle.next.specs.declared.Act.{Act}
 use Rattle.next.specs.declared.Act.TheVariants as act
 use Rattle.next.specs.declared.Late.{Late}
 use Rattle.next.specs.Next.{due_of, drawn, ncs_next}
-use Rattle.next.specs.Code.Decision.{said_after, late_of, late_words, late_member, late_source, late_wait, late_totals, late_round, late_station, late_says, act_in, is_said, is_draw, spoken_of, rerouted_then, rerouting_of, list_then, round_then, ended_of, stage_by, front_of, poll_wait, poll_totals, poll_list, poll_source, poll_words, poll_if, direct_to, direct_if, word_then, next_straight}
-use Rattle.next.proofs.Stages.{said_nil, poll_is, next_is}
+use Rattle.next.specs.Code.Decision.{said_after, late_of, late_words, late_member, late_source, late_wait, late_totals, late_round, late_station, late_says, act_in, is_said, is_draw, spoken_of, rerouted_then, rerouting_of, list_then, round_then, ended_of, stage_by, front_of, poll_wait, word_or, word_for, word_then, next_straight}
+use Rattle.next.proofs.Stages.{said_nil, next_is}
 
 -- nothing is written
 pub did_none : (s : Station) (l : List ℕ) (i : ℕ) → Did (said s []) s l i l i
@@ -127,36 +128,25 @@ pub stage_by_did : (a : Act) (s : Station) (now : Float) (t : Station) (m : List
     → Did (spoken_of a s now) t l i m j → Did (ended_of a t now) r m j n k → Did (stage_by a s now) r l i n k
 stage_by_did a s now t m j p q = did_as (did_on (λ u. ended_of a u now) p q) (stage_by_is a s now)
 
--- no word is sent
-pub direct_none : (to : ℕ) (s : Station) (queue : List ℕ) → to ≡ 255 → said s [] ≡ direct_if to s queue
-direct_none to s queue e = rw (eq-eqb to 255 e)
+-- nobody is polled
+pub none_did : (x : Act) (t : Station) (queue : List ℕ) {f : Option ℕ} {l : List ℕ} {i : ℕ} → f ≡ front_of t.wait t.round.list x → f ≡ None → Did (word_then x t queue) t l i l i
+none_did x t queue {f} {l} {i} e n = did_as (did_none t l i) (ap (λ (g : Option ℕ). word_for g t queue) (sym n ∙ e))
 
--- it is sent, to a slot
-pub direct_some : (to : ℕ) (s : Station) (queue : List ℕ) → (to ≡ 255 → ⊥) → direct_burst s queue to ≡ direct_if to s queue
-direct_some to s queue n = rw (ne_eqb to 255 n)
-
-slot_or : (f : Option ℕ) → ((i : ℕ) → f ≡ Some i → i < 62) → (slot_or255 f ≡ 255 → ⊥) → slot_or255 f < 62
-slot_or None h n = absurd (n refl)
-slot_or (Some i) h n = omega (arith, h i refl)
-
-pub direct_lt : (a : Act) (s : Station) (to : ℕ) → to ≡ direct_to a s → (to ≡ 255 → ⊥) → to < 62
-direct_lt a s to e n = by (eqb (front_of s.wait s.round.list a) 255) e
-  where
-    slot : ℕ
-    slot = front_of s.wait s.round.list a
-
-    by : (b : Bool) → to ≡ cond b 255 (slot_or255 (directed_to s slot)) → to < 62
-    by true q = absurd (n q)
-    by false q = rw q (slot_or (directed_to s slot) (λ i h. directed_lt s slot i h) (λ h. n (q ∙ h)))
+-- word goes out before the poll of a slot
+pub direct_did : (x : Act) (t : Station) (queue : List ℕ) (slot to : ℕ) {r : Station} {l m : List ℕ} {i j : ℕ}
+    → Some slot ≡ front_of t.wait t.round.list x → Some to ≡ directed_to t slot
+    → Did (direct_burst t queue to) r l i m j → Did (word_then x t queue) r l i m j
+direct_did x t queue slot to e d p =
+    did_as p (ap (λ (g : Option ℕ). word_or g slot t queue) d ∙ ap (λ (g : Option ℕ). word_for g t queue) e)
 
 -- the poll, with what each of its calls gives
-pub poll_did : (x : Act) (d : Station) {slot source i list : ℕ} {here : Bool} {v : Wait} {u : Totals} {l m : List ℕ} {j k : ℕ}
-    → slot ≡ front_of d.wait d.round.list x → source ≡ poll_source d slot → i ≡ index_of slot → here ≡ is_member d.used slot
-    → Wrote l j (poll_words d.settings here (get_or d.members i no_member) slot source) m k
-    → v ≡ poll_wait d.wait slot source → u ≡ poll_totals d.totals slot → list ≡ poll_list d.round.list slot
-    → Did (poll_if x d) (with_round (with_totals (with_wait d v) u) (with_list d.round list)) l j m k
-poll_did x d f e i h w a b c =
-    did_as (record { station = rw (c, b, a, e, f); wrote = rw (h, i, e, f) at w }) (poll_is d x)
+pub poll_did : (x : Act) (t : Station) (queue : List ℕ) {slot source i polls list : ℕ} {here : Bool} {v : Wait} {l m : List ℕ} {j k : ℕ}
+    → Some slot ≡ front_of t.wait t.round.list x → None ≡ directed_to t slot → source ≡ source_for t slot → i ≡ index_of slot → here ≡ is_member t.used slot
+    → Wrote l j (poll_burst t.settings here (get_or t.members i no_member) slot source false) m k
+    → v ≡ poll_wait t.wait slot source → polls ≡ stop (t.totals.polls + 1) → list ≡ without_bit t.round.list slot
+    → Did (word_then x t queue) (with_round (with_totals (with_wait t v) (with_polls t.totals polls)) (with_list t.round list)) l j m k
+poll_did x t queue {slot} {source} e d f i h w a b c =
+    did_as (record { station = rw (c, b, a, f); wrote = rw (h, i, f) at w }) (ap (λ (g : Option ℕ). word_or g slot t queue) d ∙ ap (λ (g : Option ℕ). word_for g t queue) e)
 
 -- the station with the parts that the first stages leave
 abbrev pub laid : Station → ℕ → Member → ℕ → Member → Wait → Totals → Round → Station
@@ -194,14 +184,13 @@ module _ (s : Station) (ok : Bool) (now : Float) {d : Due} {l : Late} {a : ℕ} 
   act_is : x ≡ act_in late_in.quiet (late_station s late_in now).round s.used now
   act_is = rw (p.act, p.round, late_is)
 
-  pub next_said : (queue : List ℕ) (t : Station) (o₂ : List ℕ) (i₂ to : ℕ) (d : Station) (o₃ : List ℕ) (i₃ : ℕ) {q : Station} {o o₁ o₄ : List ℕ} {i i₁ i₄ : ℕ}
+  pub next_said : (queue : List ℕ) (t : Station) (o₂ : List ℕ) (i₂ : ℕ) {q : Station} {o o₁ o₃ : List ℕ} {i i₁ i₃ : ℕ}
       → Wrote o i (late_words l s.round.closeleft s.settings (get_or s.members a no_member) here) o₁ i₁
-      → Did (poll_if x d) q o₃ i₃ o₄ i₄ → to ≡ direct_to x t → Did (direct_if to t queue) d o₂ i₂ o₃ i₃ → Did (stage_by x (laid s a k b c v u r) now) t o₁ i₁ o₂ i₂
-      → Did (cond ok (said (ncs_next s now queue).station (ncs_next s now queue).words) (said s [])) q o i o₄ i₄
+      → Did (stage_by x (laid s a k b c v u r) now) t o₁ i₁ o₂ i₂ → Did (word_then x t queue) q o₂ i₂ o₃ i₃
+      → Did (cond ok (said (ncs_next s now queue).station (ncs_next s now queue).words) (said s [])) q o i o₃ i₃
   unfolding next_straight
-  next_said queue t o₂ i₂ to d o₃ i₃ w f et n e =
+  next_said queue t o₂ i₂ w e m =
       let g = did_as e (ap (λ (y : Station). stage_by x y now) laid_is) in
-      let m : Did (word_then x t queue) _ o₂ i₂ _ _ = did_on (poll_if x) (did_as n (ap (λ (j : ℕ). direct_if j t queue) et)) f in
       let z = did_on (λ y. word_then x y queue) g m in
       let y = rw act_is at z in
       let whole : Did (next_straight s ok now queue) _ _ _ _ _ = record { station = y.station; wrote = then (rw words_are at w) y.wrote } in

@@ -1,27 +1,25 @@
 -- One look over the slots in use: to whom word goes before a poll, and whose traffic the polled slot is to forward. Assumes nothing.
-use Rattle.std.proofs.Common.{◌≡◌, ℕ, ◌+◌, ◌-◌, ◌^◌, ◌<◌, ◌≤◌, Bool, true, false, cond, not, ◌&&◌, eqb, ltb, List, get_or, sym, refl, ap, ◌∙◌, ap₂, ⊎_elim, arith, eq-eqb, ne_eqb, eqb-true, Option, Some, None}
+use Rattle.std.proofs.Common.{◌≡◌, ℕ, ◌+◌, ◌-◌, ◌^◌, ◌<◌, ◌≤◌, Bool, true, false, cond, ◌&&◌, ltb, get_or, sym, refl, ap, ◌∙◌, ⊎_elim, arith, eq-eqb, ne_eqb, eqb-true, Option, Some, None}
 use lib.Count.{count_leading_zeros, leading_length}
-use borrow.Author.Tests.{not-true, not-false}
+use borrow.Author.Tests.{not-false}
 use Rattle.bits.specs.Loop.{first, fold}
 use Rattle.bits.specs.Mask.{has_bit, with_bit, without_bit, lowest_bit}
-use Rattle.bits.proofs.Lists.{cond_true, cond_false, and_true, eq_or_not, lt_or_le}
+use Rattle.bits.proofs.Lists.{cond_true, cond_false, eq_or_not, lt_or_le}
 use Rattle.bits.proofs.Laws.{has_none, has_past}
 use Rattle.bits.proofs.Loops.{fold_turn, fold_keeps_below, first_at, first_none, first_lt, first_found, first_before, first_nothing, first_ext}
 use Rattle.roster.specs.Relays.{slot_or63, is_source, relay_src_for}
 use Rattle.queue.specs.Queues.{empty_queue}
 use Rattle.net.specs.declared.Station.{Station}
-use Rattle.net.specs.Net.{is_member, is_idle}
-use Rattle.net.proofs.Laws.{index_is, member_lt, member_is, member_none}
+use Rattle.net.proofs.Laws.{index_is, member_is, member_none}
 use Rattle.bursts.specs.Rows.{member_in, least_of, mark_if, mask_where}
-use Rattle.bursts.specs.Direct.{has_word, leaf_of, leaf_word, directed_to, direct_burst, slot_or255}
+use Rattle.bursts.specs.Direct.{has_word, leaf_of, leaf_word, directed_to}
 use Rattle.bursts.specs.Reroute.{able_of, needs_at, needs_of, tried_of, source_for}
 use Rattle.bursts.proofs.Levels.{least_le}
 use Rattle.bursts.proofs.Masks.{mask_where_lem, mask_past}
-use Rattle.bursts.proofs.Directing.{directed_self, directed_leaf}
-use Rattle.next.specs.declared.Act.{Act}
+use Rattle.bursts.proofs.Directing.{directed_leaf}
 use Rattle.next.specs.declared.Seen.{Seen}
-use Rattle.next.specs.Code.Decision.{Ends, front_of, poll_source, none_seen, look_at, word_at, to_of, asks_for, direct_slot, direct_if}
-use Rattle.next.proofs.Stages.{lowest_none, direct_busy, same_cond}
+use Rattle.next.specs.Code.Decision.{Ends, none_seen, look_at, word_at, to_of, asks_for}
+use Rattle.next.proofs.Stages.{same_cond}
 
 -- ### The end
 
@@ -33,12 +31,11 @@ least_past : (k j : ℕ) (b : Bool) → ltb k 62 ≡ b → cond b k 62 ≤ j →
 least_past k j true e h l = h
 least_past k j false e h l = absurd (omega arith)
 
-pub ends_at : (used slot end : ℕ) → used < 2 ^ 64 → (slot ≡ 255 → ⊥) → end ≡ least_of (64 - count_leading_zeros 64 used) 62 → Ends used slot end
-ends_at used slot end fits n e =
+pub ends_at : (used end : ℕ) → used < 2 ^ 64 → end ≡ least_of (64 - count_leading_zeros 64 used) 62 → Ends used end
+ends_at used end fits e =
     record {
       most = rw e (least_le (64 - count_leading_zeros 64 used) 62);
-      none = λ q. absurd (n q);
-      past = λ z j h l. no_digit used j fits (least_past (64 - count_leading_zeros 64 used) j (ltb (64 - count_leading_zeros 64 used) 62) refl (rw e at h) l);
+      past = λ j h l. no_digit used j fits (least_past (64 - count_leading_zeros 64 used) j (ltb (64 - count_leading_zeros 64 used) 62) refl (rw e at h) l);
     }
 
 -- ### The look
@@ -52,13 +49,12 @@ pass_by p n i m h =
 pub record Looking (s : Station) (slot end : ℕ) (x : Seen) (j : ℕ) : Type 0 where
   pub below : j ≤ end
   pub most : end ≤ 62
-  pub start : j ≡ 0 → x ≡ none_seen
   pub asking : fold (mark_if (needs_at s)) (62 - j) j x.needs ≡ needs_of s
   pub told : fold (mark_if (word_at s slot)) (62 - j) j x.word ≡ mask_where (word_at s slot)
 
 pub looking_start : (s : Station) (slot end : ℕ) → end ≤ 62 → Looking s slot end none_seen 0
 unfolding mask_where
-looking_start s slot end h = record { below = omega arith; most = h; start = λ e. refl; asking = refl; told = refl }
+looking_start s slot end h = record { below = omega arith; most = h; asking = refl; told = refl }
 
 pub looking_turn : {s : Station} {slot end j : ℕ} {x y : Seen} → j < end → Looking s slot end x j
     → y ≡ look_at x s.used j (member_in s j) (get_or s.queues j empty_queue) s.round.number slot → Looking s slot end y (j + 1)
@@ -67,7 +63,6 @@ looking_turn {s} {slot} {end} {j} {x} {y} h a e =
     record {
       below = omega arith;
       most = a.most;
-      start = λ z. absurd (omega arith);
       asking =
           ap (λ (z : Seen). fold (mark_if (needs_at s)) (62 - (j + 1)) (j + 1) z.needs) e
           ∙ sym (fold_turn (mark_if (needs_at s)) 62 j x.needs l)
@@ -78,22 +73,20 @@ looking_turn {s} {slot} {end} {j} {x} {y} h a e =
           ∙ a.told;
     }
 
--- what it found; nothing, where nobody is polled
+-- what it found
 pub record Saw (s : Station) (slot : ℕ) (x : Seen) : Type 0 where
-  pub none : slot ≡ 255 → x ≡ none_seen
-  pub asking : (slot ≡ 255 → ⊥) → x.needs ≡ needs_of s
-  pub told : (slot ≡ 255 → ⊥) → x.word ≡ mask_where (word_at s slot)
+  pub asking : x.needs ≡ needs_of s
+  pub told : x.word ≡ mask_where (word_at s slot)
 
-pub looked : {s : Station} {slot end j : ℕ} {x : Seen} → Ends s.used slot end → end ≤ j → Looking s slot end x j → Saw s slot x
+pub looked : {s : Station} {slot end j : ℕ} {x : Seen} → Ends s.used end → end ≤ j → Looking s slot end x j → Saw s slot x
 looked {s} {slot} {end} {j} {x} n h a =
     record {
-      none = λ e. a.start (omega (arith, n.none e, a.below));
-      asking = λ e. sym (pass_by (needs_at s) (62 - j) j x.needs (λ k l q. rw (free e k l q))) ∙ a.asking;
-      told = λ e. sym (pass_by (word_at s slot) (62 - j) j x.word (λ k l q. rw (free e k l q))) ∙ a.told;
+      asking = sym (pass_by (needs_at s) (62 - j) j x.needs (λ k l q. rw (free k l q))) ∙ a.asking;
+      told = sym (pass_by (word_at s slot) (62 - j) j x.word (λ k l q. rw (free k l q))) ∙ a.told;
     }
   where
-    free : (slot ≡ 255 → ⊥) → (k : ℕ) → j ≤ k → k < j + (62 - j) → has_bit s.used k ≡ false
-    free e k l q = n.past e k (omega arith) (omega (arith, a.below, a.most))
+    free : (k : ℕ) → j ≤ k → k < j + (62 - j) → has_bit s.used k ≡ false
+    free k l q = n.past k (omega arith) (omega (arith, a.below, a.most))
 
 -- ### Word
 
@@ -139,23 +132,13 @@ module _ (s : Station) (slot : ℕ) where
       first_short (has_bit m) (λ j l. mask_past (word_at s slot) j l) (first (leaf_word s slot) 62 0)
       (first_ext (has_bit m) (leaf_word s slot) 62 0 (λ j l q. mask_where_lem (word_at s slot) j (omega arith) ∙ leaf_same e j (omega arith)))
 
-  to_by : (b : Bool) → has_word s slot ≡ b → to_of (mask_where (word_at s slot)) slot ≡ slot_or255 (directed_to s slot)
-  to_by true e =
-      cond_true _ _ _ (self_bit ∙ e)
-      ∙ directed_self s slot (omega (arith, member_lt s.used slot (and_true (is_member s.used slot) _ e).0)) e
-  to_by false e =
-      cond_false _ _ _ (self_bit ∙ e)
-      ∙ ap slot_or255 (lowest_is e ∙ sym (directed_leaf s slot e))
+  to_by : (b : Bool) → has_word s slot ≡ b → to_of (mask_where (word_at s slot)) slot ≡ directed_to s slot
+  unfolding directed_to
+  to_by true e = cond_true _ _ _ (self_bit ∙ e) ∙ sym (cond_true _ _ _ e)
+  to_by false e = cond_false _ _ _ (self_bit ∙ e) ∙ lowest_is e ∙ sym (directed_leaf s slot e)
 
-to_none : to_of 0 255 ≡ 255
-to_none = cond_false _ _ _ (has_none 255) ∙ ap slot_or255 lowest_none
-
-pub to_is : {s : Station} {slot : ℕ} {x : Seen} {to : ℕ} → Saw s slot x → to ≡ to_of x.word slot → to ≡ direct_slot s slot
-to_is {s} {slot} {x} {to} w f =
-    ⊎_elim
-    (λ e. f ∙ ap₂ to_of (ap (λ (y : Seen). y.word) (w.none e)) e ∙ to_none ∙ sym (ap (direct_slot s) e))
-    (λ e. f ∙ ap (λ (m : ℕ). to_of m slot) (w.told e) ∙ to_by s slot (has_word s slot) refl ∙ sym (cond_false (eqb slot 255) 255 _ (ne_eqb slot 255 e)))
-    (eq_or_not slot 255)
+pub to_is : {s : Station} {slot : ℕ} {x : Seen} {f : Option ℕ} → Saw s slot x → f ≡ to_of x.word slot → f ≡ directed_to s slot
+to_is {s} {slot} w e = e ∙ ap (λ (m : ℕ). to_of m slot) w.told ∙ to_by s slot (has_word s slot) refl
 
 -- ### Whose traffic
 
@@ -166,53 +149,11 @@ source_none s slot e =
     same_cond (ltb slot 62)
     (ap slot_or63 (first_none (is_source s.hears (without_bit (needs_of s) slot) (able_of s) (tried_of s) slot s.settings.relaysnr) 62 (λ j l. rw (e, has_none j))))
 
-asks_not : (needs slot : ℕ) → asks_for needs slot ≡ false → (slot ≡ 255 → ⊥) → without_bit needs slot ≡ 0
-asks_not needs slot e n =
-    let f : not (eqb (without_bit needs slot) 0) ≡ false = rw (ne_eqb slot 255 n) at e in
-    eqb-true (without_bit needs slot) 0 (not-false _ f)
+asks_not : (needs slot : ℕ) → asks_for needs slot ≡ false → without_bit needs slot ≡ 0
+asks_not needs slot e = eqb-true (without_bit needs slot) 0 (not-false _ e)
 
-asks_some : (needs slot : ℕ) → asks_for needs slot ≡ true → eqb slot 255 ≡ false
-asks_some needs slot e = not-true (eqb slot 255) (and_true _ _ e).0
-
--- ### The poll behind it
-
-module _ (x : Act) (t d : Station) (queue : List ℕ) (next to slot : ℕ) {v : Seen} (w : Saw t next v) (f : next ≡ front_of t.wait t.round.list x)
-    (b : d ≡ (direct_if to t queue).station) (u : slot ≡ cond (eqb to 255) next 255) where
-  unsent : to ≡ 255 → d ≡ t
-  unsent e = b ∙ rw (eq-eqb to 255 e)
-
-  busy : (to ≡ 255 → ⊥) → is_idle d.wait.turn ≡ false
-  busy n =
-      let e : d ≡ (direct_burst t queue to).station = b ∙ rw (ne_eqb to 255 n) in
-      ap (λ (y : Station). is_idle y.wait.turn) e ∙ direct_busy t queue to
-
-  none_next : (to ≡ 255 → ⊥) → front_of d.wait d.round.list x ≡ 255
-  none_next n = rw (busy n)
-
-  pub slot_is : slot ≡ front_of d.wait d.round.list x
-  slot_is =
-      ⊎_elim
-      (λ e. u ∙ cond_true (eqb to 255) next 255 (eq-eqb to 255 e) ∙ f ∙ ap (λ (y : Station). front_of y.wait y.round.list x) (sym (unsent e)))
-      (λ e. u ∙ cond_false (eqb to 255) next 255 (ne_eqb to 255 e) ∙ sym (none_next e))
-      (eq_or_not to 255)
-
-  still : (slot ≡ 255 → ⊥) → to ≡ 255
-  still n = ⊎_elim (λ e. e) (λ e. absurd (n (u ∙ cond_false (eqb to 255) next 255 (ne_eqb to 255 e)))) (eq_or_not to 255)
-
-  asked : (slot ≡ 255 → ⊥) → v.needs ≡ needs_of d
-  asked n =
-      let e = still n in
-      let q : slot ≡ next = u ∙ cond_true (eqb to 255) next 255 (eq-eqb to 255 e) in
-      w.asking (λ z. n (q ∙ z)) ∙ ap needs_of (sym (unsent e))
-
-  -- a relayer is looked for, or nobody needs one
-  pub source_is : {source : ℕ} (a : Bool) → asks_for v.needs slot ≡ a → source ≡ cond a (source_for d slot) 63 → source ≡ poll_source d slot
-  source_is true e q = q ∙ sym (cond_false (eqb slot 255) 63 (source_for d slot) (asks_some v.needs slot e))
-  source_is false e q =
-      q
-      ∙ ⊎_elim
-      (λ z. sym (cond_true (eqb slot 255) 63 (source_for d slot) (eq-eqb slot 255 z)))
-      (λ z. sym
-      (cond_false (eqb slot 255) 63 (source_for d slot) (ne_eqb slot 255 z)
-      ∙ source_none d slot (ap (λ (m : ℕ). without_bit m slot) (sym (asked z)) ∙ asks_not v.needs slot e z)))
-      (eq_or_not slot 255)
+-- a relayer is looked for, or nobody needs one
+pub source_is : {s : Station} {slot : ℕ} {x : Seen} {source : ℕ} (a : Bool) → Saw s slot x → asks_for x.needs slot ≡ a → source ≡ cond a (source_for s slot) 63 → source ≡ source_for s slot
+source_is true w e q = q
+source_is {s} {slot} {x} false w e q =
+    q ∙ sym (source_none s slot (ap (λ (m : ℕ). without_bit m slot) (sym w.asking) ∙ asks_not x.needs slot e))

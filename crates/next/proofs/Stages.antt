@@ -1,10 +1,10 @@
 -- The code goes in one line through the station, with what is due as numbers; here that comes to the stages of `ncs_next`. Assumes nothing.
-use Rattle.std.proofs.Common.{◌≡◌, ℕ, zero, suc, ◌-◌, ◌%◌, ◌<◌, Bool, true, false, cond, not, ◌&&◌, ◌||◌, eqb, ltb, List, [], refl, ap, ◌∙◌, append_assoc, append-nil, arith, lt-ltb, ne_eqb, eqb-true, Option, Some, None}
-use mathlib.Core.Bool.{and-false, or-true}
+use Rattle.std.proofs.Common.{◌≡◌, ℕ, zero, suc, ◌-◌, Bool, true, false, cond, not, ◌&&◌, ◌||◌, eqb, ltb, List, [], refl, ap, ◌∙◌, append_assoc, append-nil, arith, lt-ltb, ne_eqb, eqb-true, Option, Some, None}
+use mathlib.Core.Bool.{or-true}
 use lib.Ieee.{Float, lt, le}
 use Rattle.bits.specs.Mask.{has_bit, lowest_bit}
 use Rattle.bits.proofs.Lists.{cond_true, cond_false}
-use Rattle.bits.proofs.Loops.{first_lt, first_none}
+use Rattle.bits.proofs.Loops.{first_none}
 use Rattle.bits.proofs.Laws.{has_none}
 use Rattle.wire.specs.Kinds.{k_close}
 use Rattle.roster.specs.declared.Member.{Member}
@@ -21,15 +21,14 @@ use Rattle.net.specs.State.{member_at, with_member, with_counted, tallied, with_
 use Rattle.net.specs.Net.{plus, is_member, idle_wait, is_idle, Said, said, members_in}
 use Rattle.net.proofs.Laws.{member_again}
 use Rattle.bursts.specs.Bursts.{tiny_words, acks_burst, beacon_of, rx_list_burst, list_sent}
-use Rattle.bursts.specs.Direct.{directed_to, direct_burst, slot_or255}
+use Rattle.bursts.specs.Direct.{directed_to}
 use Rattle.bursts.specs.Reroute.{reroute_of}
-use Rattle.bursts.proofs.Directing.{directed_lt}
 use Rattle.next.specs.declared.Due.{Due}
 use Rattle.next.specs.declared.Due.TheVariants.{Free, Quiet, Close, Again, Missed}
 use Rattle.next.specs.declared.Act.{Act}
 use Rattle.next.specs.declared.Act.TheVariants as act
-use Rattle.next.specs.Next.{silent, spoke, after, poll_by, poll_front, directed_by, word_by, poll_stage, drawn, draw_stage, rerouted_stage, reroute_stage, list_stage, round_end, brought_forward, act_of, act_by, act_stage, window_stage, close_stage, again_stage, missed_event, turn_over_in, missed_stage, due_turn, due_of, by_due, ncs_next}
-use Rattle.next.specs.Code.Decision.{said_of, said_after, no_late, late_reply, late_by, late_of, late_members, late_station, late_says, late_then, forward_to, rerouted_then, rerouting_of, list_then, round_then, stage_by, may_poll, front_by, front_of, poll_slot, poll_if, direct_slot, direct_if, poll_after, word_then, poll_then, rest_of, next_straight}
+use Rattle.next.specs.Next.{silent, spoke, after, directed_by, word_by, poll_stage, drawn, draw_stage, rerouted_stage, reroute_stage, list_stage, round_end, brought_forward, act_of, act_by, act_stage, window_stage, close_stage, again_stage, missed_event, turn_over_in, missed_stage, due_turn, due_of, by_due, ncs_next}
+use Rattle.next.specs.Code.Decision.{said_of, said_after, no_late, late_reply, late_by, late_of, late_members, late_station, late_says, late_then, forward_to, rerouted_then, rerouting_of, list_then, round_then, stage_by, may_poll, front_of, word_or, word_for, word_then, poll_then, rest_of, next_straight}
 use Rattle.next.proofs.Keeps.{acks_busy, reroute_wait, list_busy, unsent}
 
 -- ### Tests
@@ -48,77 +47,37 @@ same_cond false e = refl
 
 -- ### The poll
 
-poll_found : (s : Station) (f : Option ℕ) → ((slot : ℕ) → f ≡ Some slot → slot < 64) → poll_slot s (front_by f) ≡ said_of (poll_by f s)
-poll_found s None h = refl
-poll_found s (Some slot) h =
-    let l : slot < 64 = h slot refl in
-    let e : slot % 256 ≡ slot = omega arith in
-    let n : eqb slot 255 ≡ false = ne_eqb slot 255 (λ q. omega arith) in
-    rw (e, n)
-
-poll_by_lem : (s : Station) (idle may : Bool)
-    → poll_slot s (cond (not idle || not may) 255 (front_by (lowest_bit s.round.list))) ≡ cond (idle && may) (said_of (poll_front s)) (said s [])
-unfolding lowest_bit
-poll_by_lem s true true = poll_found s (lowest_bit s.round.list) (λ slot e. first_lt (has_bit s.round.list) 64 slot e)
-poll_by_lem s true false = refl
-poll_by_lem s false may = refl
-
-pub poll_is : (s : Station) (a : Act) → poll_slot s (front_of s.wait s.round.list a) ≡ poll_if a s
-poll_is s a = poll_by_lem s (is_idle s.wait.turn) (may_poll a)
-
 pub said_nil : (x : Said) → said_after x.words (said x.station []) ≡ x
 said_nil x = ap (said x.station) (append-nil x.words)
 
 -- ### Word back, and then the poll
 
--- after a burst nobody is polled
-poll_busy : (s : Station) (a : Act) → is_idle s.wait.turn ≡ false → poll_if a s ≡ said s []
-poll_busy s a e = cond_false _ _ _ (false_and _ (may_poll a) e)
-
-poll_idle : (s : Station) (a : Act) → is_idle s.wait.turn ≡ true → may_poll a ≡ true → poll_if a s ≡ said_of (poll_front s)
-poll_idle s a e f = cond_true _ _ _ (ap (λ (b : Bool). is_idle s.wait.turn && b) f ∙ true_and _ e)
-
-pub direct_busy : (s : Station) (queue : List ℕ) (slot : ℕ) → is_idle (direct_burst s queue slot).station.wait.turn ≡ false
-unfolding direct_burst
-direct_busy s queue slot = refl
-
 module _ (s : Station) (a : Act) (queue : List ℕ) where
   -- nobody is polled next
-  word_none : front_of s.wait s.round.list a ≡ 255 → word_then a s queue ≡ poll_if a s
+  word_none : front_of s.wait s.round.list a ≡ None → word_then a s queue ≡ said s []
   word_none e = rw e
 
-  word_at : (f : Option ℕ) → ((i : ℕ) → f ≡ Some i → i < 62) → poll_if a s ≡ said_of (poll_front s)
-      → poll_after a (direct_if (slot_or255 f) s queue) ≡ said_of (word_by f s queue)
-  word_at None h p = p
-  word_at (Some i) h p =
-      let l : i < 62 = h i refl in
-      let e : i % 256 ≡ i = omega arith in
-      let n : eqb i 255 ≡ false = ne_eqb i 255 (λ q. omega arith) in
-      let x = direct_burst s queue i in
-      rw (e, n) (ap (said_after x.words) (poll_busy x.station a (direct_busy s queue i)) ∙ said_nil x)
+  word_to : (f : Option ℕ) (slot : ℕ) → lowest_bit s.round.list ≡ Some slot → word_or f slot s queue ≡ said_of (word_by f s queue)
+  word_to None slot e = rw e
+  word_to (Some i) slot e = refl
 
-  word_front : (f : Option ℕ) → ((slot : ℕ) → f ≡ Some slot → slot < 64) → poll_if a s ≡ said_of (poll_front s)
-      → poll_after a (direct_if (direct_slot s (front_by f)) s queue) ≡ said_of (word_by (directed_by f s) s queue)
-  word_front None h p = p
-  word_front (Some slot) h p =
-      let l : slot < 64 = h slot refl in
-      let e : slot % 256 ≡ slot = omega arith in
-      let n : eqb slot 255 ≡ false = ne_eqb slot 255 (λ q. omega arith) in
-      rw (e, n) (word_at (directed_to s slot) (λ i q. directed_lt s slot i q) p)
+  word_front : (f : Option ℕ) → lowest_bit s.round.list ≡ f → word_for f s queue ≡ said_of (word_by (directed_by f s) s queue)
+  word_front None e = rw e
+  word_front (Some slot) e = word_to (directed_to s slot) slot e
 
   word_idle : is_idle s.wait.turn ≡ true → may_poll a ≡ true → word_then a s queue ≡ said_of (poll_stage s queue)
-  unfolding poll_stage lowest_bit
+  unfolding poll_stage
   word_idle e f =
-      let h : front_of s.wait s.round.list a ≡ front_by (lowest_bit s.round.list) = rw (e, f) in
-      rw h (word_front (lowest_bit s.round.list) (λ slot q. first_lt (has_bit s.round.list) 64 slot q) (poll_idle s a e f))
+      let h : front_of s.wait s.round.list a ≡ lowest_bit s.round.list = rw (e, f) in
+      ap (λ (g : Option ℕ). word_for g s queue) h ∙ word_front (lowest_bit s.round.list) refl
 
+  -- after a burst nobody is
   word_busy : is_idle s.wait.turn ≡ false → word_then a s queue ≡ said s []
-  word_busy e = word_none (rw e) ∙ poll_busy s a e
+  word_busy e = word_none (rw e)
 
   word_never : may_poll a ≡ false → word_then a s queue ≡ said s []
   word_never f =
       word_none (cond_true _ _ _ (ap (λ (b : Bool). not (is_idle s.wait.turn) || not b) f ∙ or-true (not (is_idle s.wait.turn))))
-      ∙ cond_false _ _ _ (ap (λ (b : Bool). is_idle s.wait.turn && b) f ∙ and-false (is_idle s.wait.turn))
 
 pub lowest_none : lowest_bit 0 ≡ None
 unfolding lowest_bit
@@ -127,9 +86,8 @@ lowest_none = first_none (has_bit 0) 64 (λ j h. has_none j)
 -- nor where the list is empty
 word_empty : (s : Station) (a : Act) (queue : List ℕ) → s.round.list ≡ 0 → word_then a s queue ≡ said s []
 word_empty s a queue e =
-    let n : front_by (lowest_bit s.round.list) ≡ 255 = ap (λ (m : ℕ). front_by (lowest_bit m)) e ∙ ap front_by lowest_none in
-    word_none s a queue (ap (cond (not (is_idle s.wait.turn) || not (may_poll a)) 255) n ∙ same_cond (not (is_idle s.wait.turn) || not (may_poll a)) refl)
-    ∙ same_cond (is_idle s.wait.turn && may_poll a) (ap (λ (f : Option ℕ). said_of (poll_by f s)) (ap lowest_bit e ∙ lowest_none))
+    let n : lowest_bit s.round.list ≡ None = ap lowest_bit e ∙ lowest_none in
+    word_none s a queue (ap (cond (not (is_idle s.wait.turn) || not (may_poll a)) None) n ∙ same_cond (not (is_idle s.wait.turn) || not (may_poll a)) refl)
 
 then_none : (a : Act) (x : Said) (queue : List ℕ) → word_then a x.station queue ≡ said x.station [] → poll_then a x queue ≡ x
 then_none a x queue e = ap (said_after x.words) e ∙ said_nil x

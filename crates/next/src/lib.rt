@@ -1,14 +1,14 @@
 // The next decision (ncs_next of ncs.rs), stage by stage in the source's order.
 #![tactic(auto)]
 
-ghost use Rattle.std.specs.Prelude.{◌≡◌, ◌+◌, ◌%◌, ◌^◌, false, [], if◌then◌else◌, nat_eq};
+ghost use Rattle.std.specs.Prelude.{◌≡◌, ◌+◌, ◌%◌, ◌^◌, false, [], if◌then◌else◌};
 ghost use Rattle.bits.specs.Loop.{any};
 ghost use Rattle.out.specs.Encode.{Wrote};
 ghost use Rattle.net.specs.State.{with_number};
 ghost use Rattle.net.specs.Net.{Did, said};
 ghost use Rattle.bursts.specs.Reroute.{source_for};
 ghost use Rattle.next.specs.Next.{overdue_of, due_by, due_of, drawn, ncs_next};
-ghost use Rattle.next.specs.Code.Decision.{no_late, late_reply, late_of, late_words, late_member, late_source, late_wait, late_totals, close_round, forward_to, late_round, act_in, is_said, is_draw, spoken_of, rerouting_of, round_then, list_in, list_due, told_in, eventful_at, eventful_in, list_round, no_list_yet, may_poll, front_of, Ends, none_seen, look_at, to_of, asks_for, poll_wait, poll_totals, poll_list, poll_words};
+ghost use Rattle.next.specs.Code.Decision.{no_late, late_reply, late_of, late_words, late_member, late_source, late_wait, late_totals, close_round, forward_to, late_round, act_in, is_said, is_draw, spoken_of, rerouting_of, round_then, list_in, list_due, told_in, eventful_at, eventful_in, list_round, no_list_yet, may_poll, front_of, Ends, none_seen, look_at, to_of, asks_for, poll_wait};
 
 use bursts::{direct, reroute};
 use net::{Reply, Round, Settings, Station, Totals, Turn, Wait};
@@ -61,36 +61,36 @@ pub fn ncs_next(
         s = round_end(s, time, o, at);
     }
     let now = s.wait;
-    let next = front(now, s.round.list, act);
-    let number = s.round.number;
-    let end = end_of(s.used, next);
-    let mut seen = none_seen();
-    for j in 0..end {
-        let p = s.members[j];
-        let f = s.queues[j];
-        seen = look(seen, s.used, j, p, f, number, next);
+    if let Some(slot) = front(now, s.round.list, act) {
+        let number = s.round.number;
+        let end = end_of(s.used);
+        let mut seen = none_seen();
+        for j in 0..end {
+            let p = s.members[j];
+            let f = s.queues[j];
+            seen = look(seen, s.used, j, p, f, number, slot);
+        }
+        if let Some(to) = to_of(seen.word, slot) {
+            s = direct::direct_burst(s, to, queue, o, at);
+        } else {
+            let mut source: u8 = wire::ALL;
+            if asks(seen.needs, slot) {
+                source = source_for(s, slot);
+            }
+            let h = s.settings;
+            let e = net::index(slot);
+            let n = s.members[e];
+            let here = net::is_member(s.used, slot);
+            *at = bursts::poll_burst(h, here, n, slot, source, false, o, *at);
+            let x = s.wait;
+            let y = poll_wait(x, slot, source);
+            s.wait = y;
+            let polls = bits::one_more(s.totals.polls);
+            s.totals.polls = polls;
+            let list = bits::without(s.round.list, slot as usize);
+            s.round.list = list;
+        }
     }
-    let to = to_of(seen.word, next);
-    if to != 255 {
-        s = direct::direct_burst(s, to, queue, o, at);
-    }
-    let slot = unless_sent(next, to);
-    let mut source: u8 = wire::ALL;
-    if asks(seen.needs, slot) {
-        source = source_for(s, slot);
-    }
-    let h = s.settings;
-    let e = net::index(slot);
-    let n = s.members[e];
-    *at = put_poll(h, net::is_member(s.used, slot), n, slot, source, o, *at);
-    let x = s.wait;
-    let y = poll_wait(x, slot, source);
-    s.wait = y;
-    let z = s.totals;
-    let d = poll_totals(z, slot);
-    s.totals = d;
-    let list = poll_list(s.round.list, slot);
-    s.round.list = list;
     s
 }
 
@@ -544,17 +544,15 @@ fn may_poll(a: Act) -> bool
     matches!(a, Act::Draw | Act::Poll)
 }
 
-// The slot to be polled, where nothing is being sent or waited for; 255 for none.
-fn front(w: Wait, list: u64, a: Act) -> u8
+// The slot to be polled, where nothing is being sent or waited for.
+fn front(w: Wait, list: u64, a: Act) -> Option<u8>
     ensures { result ≡ front_of w list a }
 {
     if !net::is_idle(w) | !may_poll(a) {
-        return 255;
+        return None;
     }
-    match bits::lowest(list) {
-        Some(slot) => (slot % 256) as u8,
-        None => 255,
-    }
+    let slot = bits::lowest(list)?;
+    Some(slot as u8)
 }
 
 // What one look over the members finds for the poll of a slot: who needs a relayer, and whom word goes to before it.
@@ -570,13 +568,10 @@ fn none_seen() -> Seen
     Seen { needs: 0, word: 0 }
 }
 
-// One past the highest slot in use; 0 where nobody is polled.
-fn end_of(used: u64, slot: u8) -> usize
-    ensures { Ends used slot result }
+// One past the highest slot in use.
+fn end_of(used: u64) -> usize
+    ensures { Ends used result }
 {
-    if slot == 255 {
-        return 0;
-    }
     least(64 - u64::leading_zeros(used) as usize, 62)
 }
 
@@ -593,31 +588,22 @@ fn look(seen: Seen, used: u64, j: usize, m: Member, q: Queue, number: u32, slot:
     }
 }
 
-// To whom word goes before the poll of the slot: itself, or the first boat relayed by it; 255 for none.
-fn to_of(word: u64, slot: u8) -> u8
+// To whom word goes before the poll of the slot: itself, or the first boat relayed by it.
+fn to_of(word: u64, slot: u8) -> Option<u8>
     ensures { result ≡ to_of word slot }
 {
     if bits::has(word, slot as usize) {
-        return slot;
+        return Some(slot);
     }
-    match bits::lowest(word) {
-        Some(i) => (i % 256) as u8,
-        None => 255,
-    }
-}
-
-// After word to somebody nobody is polled.
-fn unless_sent(slot: u8, to: u8) -> u8
-    ensures { result ≡ (if nat_eq to 255 then slot else 255) }
-{
-    if to == 255 { slot } else { 255 }
+    let i = bits::lowest(word)?;
+    Some(i as u8)
 }
 
 // Others than the polled slot need a relayer.
 fn asks(needs: u64, slot: u8) -> bool
     ensures { result ≡ asks_for needs slot }
 {
-    (slot != 255) & (bits::without(needs, slot as usize) != 0)
+    bits::without(needs, slot as usize) != 0
 }
 
 // Whose traffic the polled slot is best placed to forward; 63 for none.
@@ -638,9 +624,6 @@ fn source_for(s: Station, slot: u8) -> u8
 fn poll_wait(w: Wait, slot: u8, relayfor: u8) -> Wait
     ensures { result ≡ poll_wait w slot relayfor }
 {
-    if slot == 255 {
-        return w;
-    }
     let deadline = w.deadline;
     let r = Reply {
         slot: slot,
@@ -649,40 +632,4 @@ fn poll_wait(w: Wait, slot: u8, relayfor: u8) -> Wait
         turnbursts: 0,
     };
     net::waiting(r, deadline)
-}
-
-fn poll_totals(t: Totals, slot: u8) -> Totals
-    ensures { result ≡ poll_totals t slot }
-{
-    let mut k = t;
-    if slot != 255 {
-        k.polls = bits::one_more(t.polls);
-    }
-    k
-}
-
-fn poll_list(list: u64, slot: u8) -> u64
-    ensures { result ≡ poll_list list slot }
-{
-    if slot == 255 {
-        return list;
-    }
-    bits::without(list, slot as usize)
-}
-
-fn put_poll(
-    g: Settings,
-    here: bool,
-    m: Member,
-    slot: u8,
-    relayfor: u8,
-    o: &mut [u32],
-    at: usize,
-) -> usize
-    ensures { Wrote o.old at (poll_words g here m slot relayfor) o.new result }
-{
-    if slot == 255 {
-        return at;
-    }
-    bursts::poll_burst(g, here, m, slot, relayfor, false, o, at)
 }

@@ -1,7 +1,8 @@
 -- What a host gives at the start, and what each exported call gives back: the entry point's own answer, with the station as a block.
 use Rattle.std.specs.Prelude.{ℕ, ◌≡◌, Bool, List, replicate, Result, Ok, Err}
 use Rattle.refusal.specs.declared.Refusal.{Refusal}
-use Rattle.refusal.specs.Numbers as refusals
+use Rattle.refusal.specs.Numbers.{number_of, number_in}
+use Rattle.level.specs.declared.Level.{Level}
 use Rattle.level.specs.declared.Level.TheVariants.{Unheard}
 use Rattle.config.specs.declared.Given.{Given}
 use Rattle.stream.specs.Window.{bitmap_of}
@@ -9,13 +10,10 @@ use Rattle.net.specs.declared.Station.{Station}
 use Rattle.net.specs.State.{member_at, queue_at}
 use Rattle.dues.specs.declared.Bill.{Bill}
 use Rattle.logs.specs.Turns as turns
-use Rattle.station.specs.declared.Answer.{Answer}
 use Rattle.station.specs.declared.Answered.{Answered}
 use Rattle.station.specs.declared.Heard.{Heard}
-use Rattle.station.specs.declared.Lowest.{Lowest}
-use Rattle.station.specs.declared.Lowest.TheVariants.{Refused, Is}
 use Rattle.station.specs.declared.show.Entry.{Entry}
-use Rattle.station.specs.Entries.{Outcome, number_in, words_in, answered, unless}
+use Rattle.station.specs.Entries.{Outcome, words_in, answered, unless}
 use Rattle.shore.specs.declared.answer.Plan.{Plan}
 use Rattle.shore.specs.declared.answer.Done.{Done}
 use Rattle.shore.specs.declared.answer.Poorest.{Poorest}
@@ -29,7 +27,7 @@ abbrev pub given_of : Plan → Given
 given_of p = record { settings = settings_of p.settings; call = p.call; times = p.times; payloads = p.payloads }
 
 -- the station as a block, the refusal's number (0 for none), how many words were written
-abbrev pub done_of : Station → Answer → ℕ → Done
+abbrev pub done_of : Station → Result ℕ Refusal → ℕ → Done
 done_of s a mask = record { block = block_of s; words = words_in a; mask = mask; refusal = number_in a }
 
 abbrev pub told : Answered → Done
@@ -38,9 +36,9 @@ told x = done_of x.station x.answer 0
 abbrev pub told_heard : Heard → Done
 told_heard x = done_of x.station x.answer x.mask
 
-abbrev pub poorest_of : Lowest → Poorest
-poorest_of (Refused n) = record { level = reading_of Unheard; refusal = n }
-poorest_of (Is l) = record { level = reading_of l; refusal = 0 }
+abbrev pub poorest_of : Result Level Refusal → Poorest
+poorest_of (Ok l) = record { level = reading_of l; refusal = 0 }
+poorest_of (Err r) = record { level = reading_of Unheard; refusal = number_of r }
 
 abbrev pub shown_of : Entry → Shown
 shown_of e =
@@ -53,13 +51,13 @@ counts_of s slot =
 
 abbrev pub month_of : Result Bill Refusal → Month
 month_of (Ok b) = record { takings = b.takings; charges = b.charges; credits = b.credits; refusal = 0 }
-month_of (Err r) = record { takings = 0; charges = replicate 62 0; credits = replicate 62 0; refusal = refusals.number_of r }
+month_of (Err r) = record { takings = 0; charges = replicate 62 0; credits = replicate 62 0; refusal = number_of r }
 
 abbrev pub checked_of : Result Bool Refusal → Checked
-checked_of v = record { refusal = refusals.number_in v; accepted = flag_of (turns.is_accepted v) }
+checked_of v = record { refusal = number_in v; accepted = flag_of (turns.is_accepted v) }
 
--- The block of a station is read back as that block, and so a refused call gives back the very block that it was given: n is the call's refusal, o what it
+-- The block of a station is read back as that block, and so a refused call gives back the very block that it was given: r is the call's refusal, o what it
 -- would have done. (A block that no call gave may come back in the form that calls give: a flag of 7 as 1.)
 abbrev pub RefusedKeeps : Type 0
-RefusedKeeps = (s : Station) (n room : ℕ) (lent : List ℕ) (o : Outcome) → (n ≡ 0 → ⊥)
-    → told (answered (unless n (station_of (block_of s)) lent o) room) ≡ record { block = block_of s; words = 0; mask = 0; refusal = n }
+RefusedKeeps = (s : Station) (r : Refusal) (room : ℕ) (lent : List ℕ) (o : Outcome)
+    → told (answered (unless (number_of r) (station_of (block_of s)) lent o) room) ≡ record { block = block_of s; words = 0; mask = 0; refusal = number_of r }

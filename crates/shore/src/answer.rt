@@ -1,4 +1,5 @@
 // What a host gives at the start, and what each call gives back, in numbers and arrays.
+// C reads the structs: a refusal, a flag and a level are numbers in them.
 ghost use Rattle.std.specs.Prelude.{◌≡◌};
 ghost use Rattle.net.specs.State.{queue_at};
 ghost use Rattle.shore.specs.Calls.{given_of, done_of, told, told_heard, poorest_of, shown_of, month_of, checked_of, counts_of};
@@ -12,7 +13,7 @@ use net::Station;
 use queue::Queue;
 use refusal::Refusal;
 use station::show::Entry;
-use station::{Answer, Answered, Heard, Lowest};
+use station::{Answered, Heard};
 use stream::window;
 
 // config::Given: the call of the net as five packed bytes, how long a burst of n frames of data takes at a level (at 64 * level + n - 1), the
@@ -45,7 +46,7 @@ pub struct Part {
     pub refusal: u8,
 }
 
-// station::Lowest.
+// The lowest of a boat's levels, or why there is none.
 #[repr(C)]
 #[derive(Clone, Copy)]
 pub struct Poorest {
@@ -118,22 +119,22 @@ pub fn given_of(p: Plan) -> Given
     }
 }
 
-fn done_of(s: Station, a: Answer, mask: u64) -> Done
+fn done_of(s: Station, a: Result<usize, Refusal>, mask: u64) -> Done
     ensures { result ≡ done_of s a mask }
 {
     let block = pack::block_of(s);
     match a {
-        Answer::Refused(n) => Done {
-            block: block,
-            words: 0,
-            mask: mask,
-            refusal: n,
-        },
-        Answer::Words(n) => Done {
+        Ok(n) => Done {
             block: block,
             words: n,
             mask: mask,
             refusal: 0,
+        },
+        Err(r) => Done {
+            block: block,
+            words: 0,
+            mask: mask,
+            refusal: u8::from(r),
         },
     }
 }
@@ -154,17 +155,17 @@ pub fn told_heard(x: Heard) -> Done
     done_of(s, a, x.mask)
 }
 
-pub fn poorest_of(x: Lowest) -> Poorest
+pub fn poorest_of(x: Result<Level, Refusal>) -> Poorest
     ensures { result ≡ poorest_of x }
 {
     match x {
-        Lowest::Refused(n) => Poorest {
-            level: pack::reading_of(Level::Unheard),
-            refusal: n,
-        },
-        Lowest::Is(l) => Poorest {
+        Ok(l) => Poorest {
             level: pack::reading_of(l),
             refusal: 0,
+        },
+        Err(r) => Poorest {
+            level: pack::reading_of(Level::Unheard),
+            refusal: u8::from(r),
         },
     }
 }

@@ -1,5 +1,6 @@
 // The station in numbers and arrays alone, laid out as C lays out the same structs: a host holds a Block and looks into none of it. Every
 // byte in it is safe: a flag is a byte, false where it is 0. Structs of the station that are numbers and arrays already stand in it as they are.
+// C has no Option and no enum with fields: such a value is a number that says whether it is there, and what it holds.
 use inbox::cell::Cell;
 use net::Totals;
 use recent::Recent;

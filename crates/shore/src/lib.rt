@@ -92,19 +92,17 @@ pub fn shore_read(b: Block, store: &[u8], cell: usize) -> Part
         × (take result.length (drop result.offset store.now) ≡ reading_of (station_of b) store.now cell) }
 {
     let s = unpack::station_of(b);
-    let mut no: u8 = 0;
-    let n = station::read(s, store, cell, &mut no).len();
-    if no != 0 {
-        return Part {
+    match station::read(s, store, cell) {
+        Ok(m) => Part {
+            offset: 6400 * cell + 2,
+            length: m.len(),
+            refusal: 0,
+        },
+        Err(r) => Part {
             offset: 0,
             length: 0,
-            refusal: no,
-        };
-    }
-    Part {
-        offset: 6400 * cell + 2,
-        length: n,
-        refusal: 0,
+            refusal: u8::from(r),
+        },
     }
 }
 

@@ -1,4 +1,4 @@
-// From the station to the block.
+// From the station to the block. An array is in a variable before it is part of a literal, as the check asks.
 ghost use Rattle.std.specs.Prelude.{◌≡◌, map};
 ghost use Rattle.shore.specs.Blocks.{reading_of, time_of, await_made, await_by, setup_of, course_of, boat_of, line_of, block_of};
 
@@ -42,7 +42,7 @@ fn await_made(turn: u8, r: Reply, d: Option<f64>) -> Await
     ensures { result ≡ await_made turn r d }
 {
     Await {
-        turn: turn,
+        turn,
         slot: r.slot,
         relayfor: r.relayfor,
         tries: r.tries,
@@ -54,18 +54,16 @@ fn await_made(turn: u8, r: Reply, d: Option<f64>) -> Await
 fn await_of(w: Wait) -> Await
     ensures { result ≡ await_by w.turn w.deadline }
 {
-    let turn = w.turn;
-    let d = w.deadline;
     let none = Reply {
         slot: 0,
         relayfor: 0,
         tries: 0,
         turnbursts: 0,
     };
-    match turn {
-        Turn::Idle => await_made(0, none, d),
-        Turn::Sending => await_made(1, none, d),
-        Turn::Waiting(r) => await_made(2, r, d),
+    match w.turn {
+        Turn::Idle => await_made(0, none, w.deadline),
+        Turn::Sending => await_made(1, none, w.deadline),
+        Turn::Waiting(r) => await_made(2, r, w.deadline),
     }
 }
 
@@ -86,20 +84,20 @@ pub fn setup_of(g: Settings) -> Setup
         beaconevery: g.beaconevery,
         quickbeacon: g.quickbeacon,
         idleroundgap: g.idleroundgap,
-        durations: durations,
-        thresholds: thresholds,
+        durations,
+        thresholds,
         margin: g.margin,
         relaysnr: g.relaysnr,
         misslimit: g.misslimit,
         beaconlevel: g.beaconlevel,
         windowslots: g.windowslots,
-        call: call,
-        name: name,
-        prime: g.prime as u8,
+        call,
+        name,
+        prime: u8::from(g.prime),
         lead: g.lead,
         latency: g.latency,
-        rooms: rooms,
-        payloads: payloads,
+        rooms,
+        payloads,
     }
 }
 
@@ -117,10 +115,10 @@ fn course_of(r: Round) -> Course
         number: r.number,
         rxsent: r.rxsent,
         closeleft: r.closeleft,
-        closed: r.closed as u8,
-        traffic: r.traffic as u8,
-        rxdirty: r.rxdirty as u8,
-        activity: r.activity as u8,
+        closed: u8::from(r.closed),
+        traffic: u8::from(r.traffic),
+        rxdirty: u8::from(r.rxdirty),
+        activity: u8::from(r.activity),
     }
 }
 
@@ -128,17 +126,12 @@ fn boat_of(m: Member) -> Boat
     ensures { result ≡ boat_of m }
 {
     let call = m.call;
-    let snrup = m.snrup;
-    let snrdown = m.snrdown;
-    let direct = m.direct;
-    let lastheard = m.lastheard;
-    let up = m.up;
     Boat {
-        call: call,
+        call,
         via: m.via,
-        hascaps: m.hascaps as u8,
+        hascaps: u8::from(m.hascaps),
         caps: m.caps,
-        hasversion: m.hasversion as u8,
+        hasversion: u8::from(m.hasversion),
         version: m.version,
         burst: m.burst,
         toldbits: m.toldbits,
@@ -147,11 +140,11 @@ fn boat_of(m: Member) -> Boat
         toldnext: m.toldnext,
         marknext: m.marknext,
         bytesin: m.bytesin,
-        snrup: reading_of(snrup),
-        snrdown: reading_of(snrdown),
-        direct: reading_of(direct),
-        lastheard: time_of(lastheard),
-        up: up,
+        snrup: reading_of(m.snrup),
+        snrdown: reading_of(m.snrdown),
+        direct: reading_of(m.direct),
+        lastheard: time_of(m.lastheard),
+        up: m.up,
         tried: m.tried,
     }
 }
@@ -164,38 +157,18 @@ fn line_of(q: Queue) -> Line
         kept: q.kept,
         reported: q.reported,
         round: q.round,
-        sent: q.sent as u8,
+        sent: u8::from(q.sent),
     }
 }
 
-fn boats_of(members: [Member; 62]) -> [Boat; 62]
-    ensures { result ≡ map boat_of members }
+// What f gives of each element. [T; N]::map would move the elements through an IntoIter of Options: more copies than this loop.
+pub(super) fn each<A: Copy, B: Copy, F: Fn(A) -> B>(xs: &[A; 62], f: F) -> [B; 62]
+    requires { F.IsAlwaysCallable f }
+    ensures { (g : A → B) → ((x : A) (y : B) → F.post f x y → y ≡ g x) → result ≡ map g xs.now }
 {
-    let first = members[0];
-    let filler = boat_of(first);
-    let mut out = [filler; 62];
-    let mut i: usize = 0;
-    while i < 62 {
-        let x = members[i];
-        let y = boat_of(x);
-        out[i] = y;
-        i += 1;
-    }
-    out
-}
-
-fn lines_of(queues: [Queue; 62]) -> [Line; 62]
-    ensures { result ≡ map line_of queues }
-{
-    let first = queues[0];
-    let filler = line_of(first);
-    let mut out = [filler; 62];
-    let mut i: usize = 0;
-    while i < 62 {
-        let x = queues[i];
-        let y = line_of(x);
-        out[i] = y;
-        i += 1;
+    let mut out = [f(xs[0]); 62];
+    for i in 0..62 {
+        out[i] = f(xs[i]);
     }
     out
 }
@@ -203,30 +176,26 @@ fn lines_of(queues: [Queue; 62]) -> [Line; 62]
 pub fn block_of(s: Station) -> Block
     ensures { result ≡ block_of s }
 {
-    let settings = s.settings;
-    let wait = s.wait;
-    let round = s.round;
-    let totals = s.totals;
-    let members = s.members;
     let recent = s.recent;
-    let queues = s.queues;
     let hears = s.hears;
     let owners = s.owners;
     let cells = s.cells;
+    let members = each(&s.members, boat_of);
+    let queues = each(&s.queues, line_of);
     Block {
-        settings: setup_of(settings),
-        wait: await_of(wait),
-        round: course_of(round),
-        totals: totals,
+        settings: setup_of(s.settings),
+        wait: await_of(s.wait),
+        round: course_of(s.round),
+        totals: s.totals,
         used: s.used,
         busy: s.busy,
         landed: s.landed,
         count: s.count,
-        members: boats_of(members),
-        recent: recent,
-        queues: lines_of(queues),
-        hears: hears,
-        owners: owners,
-        cells: cells,
+        members,
+        recent,
+        queues,
+        hears,
+        owners,
+        cells,
     }
 }

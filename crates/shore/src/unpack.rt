@@ -1,8 +1,9 @@
-// From the block to the station: every block gives one.
+// From the block to the station: every block gives one. An array is in a variable before it is part of a literal, as the check asks.
 ghost use Rattle.std.specs.Prelude.{◌≡◌, map};
 ghost use Rattle.shore.specs.Blocks.{level_of, clock_of, turn_of, wait_of, settings_of, round_of, member_of, queue_of, station_of};
 
 use super::block::{Await, Block, Boat, Course, Line, Reading, Setup, Time};
+use super::pack::each;
 use level::Level;
 use net::{Reply, Round, Settings, Station, Turn, Wait};
 use queue::Queue;
@@ -47,11 +48,9 @@ fn turn_of(w: Await) -> Turn
 fn wait_of(w: Await) -> Wait
     ensures { result ≡ wait_of w }
 {
-    let turn = turn_of(w);
-    let d = w.deadline;
     Wait {
-        turn: turn,
-        deadline: clock_of(d),
+        turn: turn_of(w),
+        deadline: clock_of(w.deadline),
     }
 }
 
@@ -72,20 +71,20 @@ pub fn settings_of(g: Setup) -> Settings
         beaconevery: g.beaconevery,
         quickbeacon: g.quickbeacon,
         idleroundgap: g.idleroundgap,
-        durations: durations,
-        thresholds: thresholds,
+        durations,
+        thresholds,
         margin: g.margin,
         relaysnr: g.relaysnr,
         misslimit: g.misslimit,
         beaconlevel: g.beaconlevel,
         windowslots: g.windowslots,
-        call: call,
-        name: name,
+        call,
+        name,
         prime: g.prime != 0,
         lead: g.lead,
         latency: g.latency,
-        rooms: rooms,
-        payloads: payloads,
+        rooms,
+        payloads,
     }
 }
 
@@ -114,13 +113,8 @@ fn member_of(m: Boat) -> Member
     ensures { result ≡ member_of m }
 {
     let call = m.call;
-    let snrup = m.snrup;
-    let snrdown = m.snrdown;
-    let direct = m.direct;
-    let lastheard = m.lastheard;
-    let up = m.up;
     Member {
-        call: call,
+        call,
         via: m.via,
         hascaps: m.hascaps != 0,
         caps: m.caps,
@@ -133,11 +127,11 @@ fn member_of(m: Boat) -> Member
         toldnext: m.toldnext,
         marknext: m.marknext,
         bytesin: m.bytesin,
-        snrup: level_of(snrup),
-        snrdown: level_of(snrdown),
-        direct: level_of(direct),
-        lastheard: clock_of(lastheard),
-        up: up,
+        snrup: level_of(m.snrup),
+        snrdown: level_of(m.snrdown),
+        direct: level_of(m.direct),
+        lastheard: clock_of(m.lastheard),
+        up: m.up,
         tried: m.tried,
     }
 }
@@ -154,65 +148,29 @@ fn queue_of(q: Line) -> Queue
     }
 }
 
-fn members_of(boats: [Boat; 62]) -> [Member; 62]
-    ensures { result ≡ map member_of boats }
-{
-    let first = boats[0];
-    let filler = member_of(first);
-    let mut out = [filler; 62];
-    let mut i: usize = 0;
-    while i < 62 {
-        let x = boats[i];
-        let y = member_of(x);
-        out[i] = y;
-        i += 1;
-    }
-    out
-}
-
-fn queues_of(lines: [Line; 62]) -> [Queue; 62]
-    ensures { result ≡ map queue_of lines }
-{
-    let first = lines[0];
-    let filler = queue_of(first);
-    let mut out = [filler; 62];
-    let mut i: usize = 0;
-    while i < 62 {
-        let x = lines[i];
-        let y = queue_of(x);
-        out[i] = y;
-        i += 1;
-    }
-    out
-}
-
 pub fn station_of(s: Block) -> Station
     ensures { result ≡ station_of s }
 {
-    let settings = s.settings;
-    let wait = s.wait;
-    let round = s.round;
-    let totals = s.totals;
-    let members = s.members;
     let recent = s.recent;
-    let queues = s.queues;
     let hears = s.hears;
     let owners = s.owners;
     let cells = s.cells;
+    let members = each(&s.members, member_of);
+    let queues = each(&s.queues, queue_of);
     Station {
-        settings: settings_of(settings),
-        wait: wait_of(wait),
-        round: round_of(round),
-        totals: totals,
+        settings: settings_of(s.settings),
+        wait: wait_of(s.wait),
+        round: round_of(s.round),
+        totals: s.totals,
         used: s.used,
         busy: s.busy,
         landed: s.landed,
         count: s.count,
-        members: members_of(members),
-        recent: recent,
-        queues: queues_of(queues),
-        hears: hears,
-        owners: owners,
-        cells: cells,
+        members,
+        recent,
+        queues,
+        hears,
+        owners,
+        cells,
     }
 }

@@ -1,5 +1,5 @@
 -- What a call answers, by its refusal. Knows nothing of the code. Assumes nothing.
-use Rattle.std.specs.Prelude.{Some, None}
+use Rattle.std.specs.Prelude.{Some, None, Result, Ok, Err}
 use mathlib.Core.Path.{◌≡◌, refl, sym, ap, ◌∙◌}
 use mathlib.Core.Bool.{Bool, true, false, cond, ◌||◌}
 use mathlib.Core.List.{List, []}
@@ -10,6 +10,9 @@ use borrow.Author.Tests.{leb-false, ltb-false, eqb-true, le-ltb, ne_eqb}
 use lib.Ieee.{Float}
 use lib.ListN.{length, drop}
 use lib.Seq.{sets}
+use Rattle.refusal.specs.declared.Refusal.{Refusal}
+use Rattle.refusal.specs.Numbers.{number_of, number_in}
+use Rattle.refusal.proofs.Numbers.{is_number}
 use Rattle.level.specs.Spans.{up_to, within}
 use Rattle.words.specs.Words.{Burst, Parsed, malformed, parsed, parse, shape_of}
 use Rattle.words.proofs.Walk.{opened, frames_count}
@@ -24,41 +27,47 @@ use Rattle.queue.specs.Queues.{space_refusal}
 use Rattle.net.specs.State.{with_round, queue_at, with_queue, table_of, with_table}
 use Rattle.net.proofs.Laws.{queue_again}
 use Rattle.net.specs.Net.{is_member, Said, said, Did}
-use Rattle.station.specs.declared.Answer.TheVariants.{Refused, Words}
 use Rattle.rx.specs.Reception.{RxDid, rx_by, rx_of, unheard}
 use Rattle.station.specs.declared.Answered.{Answered}
+use Rattle.station.specs.Refusals.{refusal_of}
+use Rattle.station.proofs.Numbers.{refusal_again}
 use Rattle.station.specs.Entries.{answered, unless, done, refused, read_refusal, post_refusal, cell_refusal, receive_refusal, receive_check, frames_or65, check1, check2, check3, receive_by, receive_of, heard_of}
 
 -- a call that is refused by n unless n is 0: the parts of its answer go by the same test
 pub answered_unless : (n : ℕ) (s t : Station) (store store' words : List ℕ) (room : ℕ)
     → answered (unless n s store (done t store' words)) room
-    ≡ record { station = cond (eqb n 0) t s; answer = cond (eqb n 0) (Words (after room 0 (length words))) (Refused n) }
+    ≡ record { station = cond (eqb n 0) t s; answer = cond (eqb n 0) (Ok (after room 0 (length words))) (Err (refusal_of n)) }
 answered_unless n s t store store' words room = go (eqb n 0) refl
   where
     go : (b : Bool) → eqb n 0 ≡ b
         → answered (cond b (done t store' words) (refused n s store)) room
-        ≡ record { station = cond b t s; answer = cond b (Words (after room 0 (length words))) (Refused n) }
+        ≡ record { station = cond b t s; answer = cond b (Ok (after room 0 (length words))) (Err (refusal_of n)) }
     go true e = refl
     go false e = rw e
 
 -- where it is refused, and where not
-pub refused_as : (m n : ℕ) (s t : Station) (store store' : List ℕ) → m ≡ n → eqb m 0 ≡ false
-    → record { station = s; answer = Refused m } ≡ answered (unless n s store (done t store' [])) 0
-refused_as m n s t store store' e f = rw e (let g = rw e at f in rw g refl ∙ sym (answered_unless n s t store store' [] 0))
+pub refused_as : {A : Type 0} {no : Result A Refusal} {r : Refusal} (n : ℕ) (s t : Station) (store store' : List ℕ) → no ≡ Err r → number_in no ≡ n
+    → record { station = s; answer = Err r } ≡ answered (unless n s store (done t store' [])) 0
+refused_as {r} n s t store store' e f =
+    let g : number_of r ≡ n = ap number_in (sym e) ∙ f in
+    rw (← g) (rw (is_number r, refusal_again r) refl ∙ sym (answered_unless (number_of r) s t store store' [] 0))
 
-pub done_as : (n : ℕ) (s t : Station) (store store' : List ℕ) → n ≡ 0
-    → record { station = t; answer = Words 0 } ≡ answered (unless n s store (done t store' [])) 0
+pub done_as : {A : Type 0} {no : Result A Refusal} {x : A} (n : ℕ) (s t : Station) (store store' : List ℕ) → no ≡ Ok x → number_in no ≡ n
+    → record { station = t; answer = Ok 0 } ≡ answered (unless n s store (done t store' [])) 0
 unfolding after
-done_as n s t store store' e = rw e
+done_as n s t store store' e f = let g : 0 ≡ n = ap number_in (sym e) ∙ f in rw (← g)
+
+pub refused_by : {A : Type 0} (n : ℕ) (r : Refusal) (x : A) → number_of r ≡ n → Err r ≡ cond (eqb n 0) (Ok x) (Err (refusal_of n))
+refused_by n r x e = rw (← e) (rw (is_number r, refusal_again r))
 
 -- a part of the station that is written or not, by the refusal
 pub round_if : (n : ℕ) (s : Station) (r : Round)
-    → ◌≡◌ {A = Answered} (record { station = with_round s (cond (eqb n 0) r s.round); answer = cond (eqb n 0) (Words 0) (Refused n) })
-    (record { station = cond (eqb n 0) (with_round s r) s; answer = cond (eqb n 0) (Words 0) (Refused n) })
+    → ◌≡◌ {A = Answered} (record { station = with_round s (cond (eqb n 0) r s.round); answer = cond (eqb n 0) (Ok 0) (Err (refusal_of n)) })
+    (record { station = cond (eqb n 0) (with_round s r) s; answer = cond (eqb n 0) (Ok 0) (Err (refusal_of n)) })
 round_if n s r = go (eqb n 0)
   where
-    go : (b : Bool) → ◌≡◌ {A = Answered} (record { station = with_round s (cond b r s.round); answer = cond b (Words 0) (Refused n) })
-        (record { station = cond b (with_round s r) s; answer = cond b (Words 0) (Refused n) })
+    go : (b : Bool) → ◌≡◌ {A = Answered} (record { station = with_round s (cond b r s.round); answer = cond b (Ok 0) (Err (refusal_of n)) })
+        (record { station = cond b (with_round s r) s; answer = cond b (Ok 0) (Err (refusal_of n)) })
     go true = refl
     go false = refl
 
@@ -67,12 +76,12 @@ freed_by b s cell =
     record { settings = s.settings; wait = s.wait; round = s.round; totals = s.totals; used = s.used; busy = cond b (without_bit s.busy cell) s.busy; landed = cond b (without_bit s.landed cell) s.landed; count = s.count; members = s.members; recent = s.recent; queues = s.queues; hears = s.hears; owners = s.owners; cells = s.cells }
 
 pub freed_if : (n : ℕ) (s : Station) (cell : ℕ)
-    → ◌≡◌ {A = Answered} (record { station = freed_by (eqb n 0) s cell; answer = cond (eqb n 0) (Words 0) (Refused n) })
-    (record { station = cond (eqb n 0) (with_table s (freed_table (table_of s) cell)) s; answer = cond (eqb n 0) (Words 0) (Refused n) })
+    → ◌≡◌ {A = Answered} (record { station = freed_by (eqb n 0) s cell; answer = cond (eqb n 0) (Ok 0) (Err (refusal_of n)) })
+    (record { station = cond (eqb n 0) (with_table s (freed_table (table_of s) cell)) s; answer = cond (eqb n 0) (Ok 0) (Err (refusal_of n)) })
 freed_if n s cell = go (eqb n 0)
   where
-    go : (b : Bool) → ◌≡◌ {A = Answered} (record { station = freed_by b s cell; answer = cond b (Words 0) (Refused n) })
-        (record { station = cond b (with_table s (freed_table (table_of s) cell)) s; answer = cond b (Words 0) (Refused n) })
+    go : (b : Bool) → ◌≡◌ {A = Answered} (record { station = freed_by b s cell; answer = cond b (Ok 0) (Err (refusal_of n)) })
+        (record { station = cond b (with_table s (freed_table (table_of s) cell)) s; answer = cond b (Ok 0) (Err (refusal_of n)) })
     go true = refl
     go false = refl
 
@@ -95,25 +104,25 @@ read_in size count landed cell e = go (ltb (size / 6400) count) (leb count cell 
 -- ---- calls that write words: t and the words are what the call does where it is not refused
 
 pub refused_with : (m n : ℕ) (s : Station) (d : Said) (l : List ℕ) (room : ℕ) → m ≡ n → eqb m 0 ≡ false
-    → (record { station = s; answer = Refused m } ≡ answered (unless n s [] (done d.station [] d.words)) room)
+    → (record { station = s; answer = Err (refusal_of m) } ≡ answered (unless n s [] (done d.station [] d.words)) room)
     × (l ≡ sets l 0 (unless n s [] (done d.station [] d.words)).words)
 refused_with m n s d l room e f =
     let g : eqb n 0 ≡ false = ap (λ (x : ℕ). eqb x 0) (sym e) ∙ f in
     (rw e (rw (g, g)), rw g)
 
 pub done_with : (n : ℕ) (s : Station) (d : Said) {x : Said} {r : Station} {l m : List ℕ} {j : ℕ} → n ≡ 0 → x ≡ d → Did x r l 0 m j
-    → (record { station = r; answer = Words j } ≡ answered (unless n s [] (done d.station [] d.words)) (length l))
+    → (record { station = r; answer = Ok j } ≡ answered (unless n s [] (done d.station [] d.words)) (length l))
     × (m ≡ sets l 0 (unless n s [] (done d.station [] d.words)).words)
 done_with n s d e i y =
     rw e (rw (y.station, y.wrote.end, i), y.wrote.out ∙ rw i)
 
 pub next_with : (n : ℕ) (s : Station) (d : Said) {r : Station} {l m : List ℕ} {j : ℕ} → Did (cond (eqb n 0) d (said s [])) r l 0 m j
-    → (record { station = r; answer = cond (eqb n 0) (Words j) (Refused n) } ≡ answered (unless n s [] (done d.station [] d.words)) (length l))
+    → (record { station = r; answer = cond (eqb n 0) (Ok j) (Err (refusal_of n)) } ≡ answered (unless n s [] (done d.station [] d.words)) (length l))
     × (m ≡ sets l 0 (unless n s [] (done d.station [] d.words)).words)
 next_with n s d {r} {l} {m} {j} = go (eqb n 0) refl
   where
     go : (b : Bool) → eqb n 0 ≡ b → Did (cond b d (said s [])) r l 0 m j
-        → (record { station = r; answer = cond b (Words j) (Refused n) } ≡ answered (cond b (done d.station [] d.words) (refused n s [])) (length l))
+        → (record { station = r; answer = cond b (Ok j) (Err (refusal_of n)) } ≡ answered (cond b (done d.station [] d.words) (refused n s [])) (length l))
         × (m ≡ sets l 0 (cond b (done d.station [] d.words) (refused n s [])).words)
     go true e x = (rw (x.station, x.wrote.end), x.wrote.out)
     go false e x = (rw (x.station, e), x.wrote.out)
@@ -135,14 +144,14 @@ malformed_refused room size count now snr e = go (ltb room 8192) (ltb (size / 64
 pub receive_with : (n : ℕ) (p : Parsed Burst) (s : Station) (snr now : Float) (store : List ℕ) {r : Station} {t l m : List ℕ} {j k : ℕ}
     → (p ≡ malformed → n ≡ 0 → ⊥)
     → RxDid (cond (eqb n 0) (rx_by p s snr now store) (unheard s store)) r t l m j k
-    → (record { station = r; answer = cond (eqb n 0) (Words j) (Refused n); mask = k } ≡ heard_of (unless n s store (receive_by p s snr now store)) (length l))
+    → (record { station = r; answer = cond (eqb n 0) (Ok j) (Err (refusal_of n)); mask = k } ≡ heard_of (unless n s store (receive_by p s snr now store)) (length l))
     × (t ≡ (unless n s store (receive_by p s snr now store)).store)
     × (m ≡ sets l 0 (unless n s store (receive_by p s snr now store)).words)
 receive_with n p s snr now store {r} {t} {l} {m} {j} {k} never = go (eqb n 0) refl p refl
   where
     go : (b : Bool) → eqb n 0 ≡ b → (q : Parsed Burst) → p ≡ q
         → RxDid (cond b (rx_by q s snr now store) (unheard s store)) r t l m j k
-        → (record { station = r; answer = cond b (Words j) (Refused n); mask = k } ≡ heard_of (cond b (receive_by q s snr now store) (refused n s store)) (length l))
+        → (record { station = r; answer = cond b (Ok j) (Err (refusal_of n)); mask = k } ≡ heard_of (cond b (receive_by q s snr now store) (refused n s store)) (length l))
         × (t ≡ (cond b (receive_by q s snr now store) (refused n s store)).store)
         × (m ≡ sets l 0 (cond b (receive_by q s snr now store) (refused n s store)).words)
     go true e malformed f x = absurd (never f (eqb-true n 0 e))
@@ -208,7 +217,7 @@ module _ (room size count : ℕ) (now snr : Float) (ws : List ℕ) (n num : ℕ)
 pub receive_all : (s : Station) (ws : List ℕ) (snr now : Float) (store l : List ℕ) (n num : ℕ) {r : Station} {t m : List ℕ} {j k : ℕ}
     → n ≡ frames_or65 (shape_of (parse ws)) → num ≡ receive_check (length l) (length store) s.count now snr (ltb 64 n)
     → RxDid (rx_of (eqb num 0) ws s snr now store) r t l m j k
-    → (record { station = r; answer = cond (eqb num 0) (Words j) (Refused num); mask = k } ≡ heard_of (receive_of s ws snr now store (length l)) (length l))
+    → (record { station = r; answer = cond (eqb num 0) (Ok j) (Err (refusal_of num)); mask = k } ≡ heard_of (receive_of s ws snr now store (length l)) (length l))
     × (t ≡ (receive_of s ws snr now store (length l)).store)
     × (m ≡ sets l 0 (receive_of s ws snr now store (length l)).words)
 unfolding receive_of
@@ -243,14 +252,14 @@ post_ok size used slot q n e =
     by false false false d f g ea eb ed eg z = absurd (omega arith)
 
 pub post_if : (n : ℕ) (s : Station) (slot : ℕ) (q : Queue)
-    → ◌≡◌ {A = Answered} (record { station = with_queue s slot (cond (eqb n 0) q (queue_at s slot)); answer = cond (eqb n 0) (Words 0) (Refused n) })
-    (record { station = cond (eqb n 0) (with_queue s slot q) s; answer = cond (eqb n 0) (Words 0) (Refused n) })
+    → ◌≡◌ {A = Answered} (record { station = with_queue s slot (cond (eqb n 0) q (queue_at s slot)); answer = cond (eqb n 0) (Ok 0) (Err (refusal_of n)) })
+    (record { station = cond (eqb n 0) (with_queue s slot q) s; answer = cond (eqb n 0) (Ok 0) (Err (refusal_of n)) })
 post_if n s slot q = go (eqb n 0)
   where
-    go : (b : Bool) → ◌≡◌ {A = Answered} (record { station = with_queue s slot (cond b q (queue_at s slot)); answer = cond b (Words 0) (Refused n) })
-        (record { station = cond b (with_queue s slot q) s; answer = cond b (Words 0) (Refused n) })
+    go : (b : Bool) → ◌≡◌ {A = Answered} (record { station = with_queue s slot (cond b q (queue_at s slot)); answer = cond b (Ok 0) (Err (refusal_of n)) })
+        (record { station = cond b (with_queue s slot q) s; answer = cond b (Ok 0) (Err (refusal_of n)) })
     go true = refl
-    go false = ap (λ (t : Station). record { station = t; answer = Refused n }) (queue_again s slot)
+    go false = ap (λ (t : Station). record { station = t; answer = Err (refusal_of n) }) (queue_again s slot)
 
 -- the queue that it leaves
 pub post_yes : (n : ℕ) (s t : Station) (queue put : List ℕ) → n ≡ 0 → put ≡ (unless n s queue (done t put [])).store

@@ -1,6 +1,7 @@
 -- The entry points, whole: document 01's checks in its order (4, 7, 1, 2, 3, 5, 6, 8, 9, then 21, 22, 23), and what a call that none of them refuses does.
 -- A refusal is its number, and 0 is none; a refused call gives its number alone, and station, store and output keep every value.
-use Rattle.std.specs.Prelude.{ℕ, ◌+◌, ◌/◌, Bool, true, cond, ◌||◌, List, [], eqb, ltb, leb, length, Float, Option, Some, None}
+use Rattle.std.specs.Prelude.{ℕ, ◌+◌, ◌/◌, Bool, true, cond, ◌||◌, List, [], eqb, ltb, leb, length, Float, Option, Some, None, Result, Ok, Err}
+use Rattle.refusal.specs.declared.Refusal.{Refusal}
 use Rattle.bits.specs.Mask.{has_bit}
 use Rattle.level.specs.Spans.{up_to, within}
 use Rattle.wire.specs.Call.{unpack_call}
@@ -14,10 +15,9 @@ use Rattle.net.specs.declared.Station.{Station}
 use Rattle.net.specs.State.{queue_at, with_queue, with_round, with_closing, table_of, with_table}
 use Rattle.net.specs.Net.{is_member, new_station, on_tx_done, Said}
 use Rattle.out.specs.Encode.{after}
-use Rattle.station.specs.declared.Answer.{Answer}
-use Rattle.station.specs.declared.Answer.TheVariants.{Refused, Words}
 use Rattle.station.specs.declared.Answered.{Answered}
 use Rattle.station.specs.declared.Heard.{Heard}
+use Rattle.station.specs.Refusals.{refusal_of}
 use Rattle.admit.specs.Admission.{seat_of, is_full, via_for, admit_by}
 use Rattle.next.specs.Next.{ncs_next}
 use Rattle.rx.specs.Reception.{Received, ncs_rx}
@@ -38,18 +38,14 @@ refused n s store = record { refusal = n; station = s; store = store; words = []
 abbrev pub done : Station → List ℕ → List ℕ → Outcome
 done s store words = record { refusal = 0; station = s; store = store; words = words; mask = 0 }
 
--- What an answer says, by its cases: document 01's number that sends the call back, 0 for none, and how many words were written.
-abbrev pub number_in : Answer → ℕ
-number_in (Refused n) = n
-number_in (Words n) = 0
-
-abbrev pub words_in : Answer → ℕ
-words_in (Refused n) = 0
-words_in (Words n) = n
+-- How many words an answer says that were written.
+abbrev pub words_in : Result ℕ Refusal → ℕ
+words_in (Ok n) = n
+words_in (Err r) = 0
 
 -- how many words a call says that it wrote: all of them where they fit, and 8,192 are room for all (`AllFit` of laws)
-abbrev pub answer_of : Outcome → ℕ → Answer
-answer_of x room = cond (eqb x.refusal 0) (Words (after room 0 (length x.words))) (Refused x.refusal)
+abbrev pub answer_of : Outcome → ℕ → Result ℕ Refusal
+answer_of x room = cond (eqb x.refusal 0) (Ok (after room 0 (length x.words))) (Err (refusal_of x.refusal))
 
 abbrev pub answered : Outcome → ℕ → Answered
 answered x room = record { station = x.station; answer = answer_of x room }

@@ -1,4 +1,5 @@
 pub mod Entries
+pub mod Refusals
 pub mod Shows
 pub mod SignOff
 pub mod Worst

@@ -1,10 +1,11 @@
 // The entry points: the checks in document 01's order, then what the station does. A refusal leaves all as it was.
 #![tactic(auto)]
 
-ghost use Rattle.std.specs.Prelude.{cond, true, ◌+◌, ◌/◌, ◌≤◌, eqb, ◌≡◌, length};
+ghost use Rattle.std.specs.Prelude.{IfOk, cond, true, ◌+◌, ◌/◌, ◌≤◌, eqb, ◌≡◌, length};
+ghost use Rattle.refusal.specs.Numbers.{number_in};
 ghost use Rattle.bits.specs.Mask.{without_bit};
 ghost use Rattle.stream.specs.Table.{cell_count};
-ghost use Rattle.queue.specs.Queues.{posted_to};
+ghost use Rattle.queue.specs.Queues.{posted_to, space_refusal};
 ghost use Rattle.net.specs.State.{with_closing};
 ghost use Rattle.std.proofs.lemmas.List.Edits.{sets};
 ghost use Rattle.words.specs.Words.{parse, shape_of};
@@ -18,53 +19,37 @@ use config::Given;
 use level::Level;
 use net::Station;
 use queue::Queue;
+use refusal::Refusal;
 
 pub mod show;
 
-// A refusal's number, or how many words were written.
-#[derive(Clone, Copy)]
-pub enum Answer {
-    Refused(u8),
-    Words(usize),
-}
-
-// The station beside the answer: an enum cannot hold it.
+// The station beside the answer, why the call is refused or how many words were written: a refused call gives the station back too.
 #[derive(Clone, Copy)]
 pub struct Answered {
     pub station: Station,
-    pub answer: Answer,
+    pub answer: Result<usize, Refusal>,
 }
 
 // The same with the pieces of a reception that were not kept.
 #[derive(Clone, Copy)]
 pub struct Heard {
     pub station: Station,
-    pub answer: Answer,
+    pub answer: Result<usize, Refusal>,
     pub mask: u64,
-}
-
-// What a call answers: its refusal, or how many words it wrote.
-fn answer_of(no: u8, n: usize) -> Answer
-    ensures { result ≡ cond (eqb no 0) (Answer.Words n) (Answer.Refused no) }
-{
-    if no == 0 {
-        return Answer::Words(n);
-    }
-    Answer::Refused(no)
 }
 
 // ---- start
 
-fn start_refusal(g: Given, store: usize) -> u8
-    ensures { result ≡ start_refusal g store }
+fn start_refusal(g: Given, store: usize) -> Result<(), Refusal>
+    ensures { number_in result ≡ start_refusal g store }
 {
     if store < 6400 {
-        return 7;
+        return Err(Refusal::SmallMemory);
     }
     if !config::settings_ok(g) {
-        return 5;
+        return Err(Refusal::Setting);
     }
-    0
+    Ok(())
 }
 
 fn cells_of(store: usize) -> usize
@@ -78,51 +63,52 @@ fn cells_of(store: usize) -> usize
 pub fn start(s: Station, g: Given, lent: &[u8]) -> Answered
     ensures { result ≡ answered (start_of s g lent.now) 0 }
 {
-    let no = start_refusal(g, lent.len());
-    if no != 0 {
-        return Answered {
+    match start_refusal(g, lent.len()) {
+        Err(r) => Answered {
             station: s,
-            answer: Answer::Refused(no),
-        };
-    }
-    let t = net::new(config::settings_of(g), cells_of(lent.len()));
-    Answered {
-        station: t,
-        answer: Answer::Words(0),
+            answer: Err(r),
+        },
+        Ok(()) => {
+            let t = net::new(config::settings_of(g), cells_of(lent.len()));
+            Answered {
+                station: t,
+                answer: Ok(0),
+            }
+        }
     }
 }
 
 // ---- direct admission
 
-fn relay_refusal(used: u64, relay: u8, rest: u8) -> u8
-    ensures { result ≡ check_relay used relay rest }
+fn relay_refusal(used: u64, relay: u8, rest: Result<(), Refusal>) -> Result<(), Refusal>
+    ensures { number_in result ≡ check_relay used relay (number_in rest) }
 {
     if relay == wire::ALL {
         return rest;
     }
     if 61 < relay {
-        return 8;
+        return Err(Refusal::Slot);
     }
     if net::is_member(used, relay) {
         return rest;
     }
-    21
+    Err(Refusal::NoMember)
 }
 
-fn full_refusal(full: bool) -> u8
-    ensures { result ≡ cond full 23 0 }
+fn full_refusal(full: bool) -> Result<(), Refusal>
+    ensures { number_in result ≡ cond full 23 0 }
 {
-    if full { 23 } else { 0 }
+    if full { Err(Refusal::Full) } else { Ok(()) }
 }
 
-fn admit_refusal(room: usize, time: f64, used: u64, relay: u8, full: bool) -> u8
-    ensures { result ≡ admit_refusal room time used relay full }
+fn admit_refusal(room: usize, time: f64, used: u64, relay: u8, full: bool) -> Result<(), Refusal>
+    ensures { number_in result ≡ admit_refusal room time used relay full }
 {
     if room < 8192 {
-        return 4;
+        return Err(Refusal::SmallOut);
     }
     if !level::clock_ok(time) {
-        return 1;
+        return Err(Refusal::Clock);
     }
     relay_refusal(used, relay, full_refusal(full))
 }
@@ -143,7 +129,7 @@ pub fn admit(mut s: Station, packed: [u8; 5], relay: u8, time: f64, o: &mut [u32
     let found = admit::seat_of(s, call);
     let no = admit_refusal(o.len(), time, s.used, relay, admit::is_full(found));
     let via = admit::via_for(s, found, relay);
-    let seat = seat_if(found, no == 0);
+    let seat = seat_if(found, no.is_ok());
     let fresh = admit::is_free(seat);
     let slot = admit::slot_of(seat);
     let i = net::index(slot);
@@ -162,7 +148,7 @@ pub fn admit(mut s: Station, packed: [u8; 5], relay: u8, time: f64, o: &mut [u32
     let at = admit::events_if(o, 0, fresh, slot, via);
     Answered {
         station: s,
-        answer: answer_of(no, at),
+        answer: no.and(Ok(at)),
     }
 }
 
@@ -178,25 +164,32 @@ fn frames_in(words: &[u32]) -> usize
     }
 }
 
-fn receive_refusal(room: usize, lent: usize, count: usize, time: f64, snr: f32, bad: bool) -> u8
-    ensures { result ≡ receive_check room lent count time snr bad }
+fn receive_refusal(
+    room: usize,
+    lent: usize,
+    count: usize,
+    time: f64,
+    snr: f32,
+    bad: bool,
+) -> Result<(), Refusal>
+    ensures { number_in result ≡ receive_check room lent count time snr bad }
 {
     if room < 8192 {
-        return 4;
+        return Err(Refusal::SmallOut);
     }
     if lent / 6400 < count {
-        return 7;
+        return Err(Refusal::SmallMemory);
     }
     if !level::clock_ok(time) {
-        return 1;
+        return Err(Refusal::Clock);
     }
     if !level::level_ok(snr) {
-        return 2;
+        return Err(Refusal::Level);
     }
     if bad {
-        return 3;
+        return Err(Refusal::Words);
     }
-    0
+    Ok(())
 }
 
 // A burst received at snr. Where the call is refused, there is no frame to read, and the burst is nobody's.
@@ -216,30 +209,35 @@ pub fn receive(
     let no = receive_refusal(o.len(), lent.len(), s.count, time, snr, 64 < n);
     let mut at: usize = 0;
     let mut mask: u64 = 0;
-    let t = rx::ncs_rx(s, no == 0, words, n, snr, time, lent, o, &mut at, &mut mask);
+    let ok = no.is_ok();
+    let t = rx::ncs_rx(s, ok, words, n, snr, time, lent, o, &mut at, &mut mask);
     Heard {
         station: t,
-        answer: answer_of(no, at),
+        answer: no.and(Ok(at)),
         mask: mask,
     }
 }
 
 // ---- next decision, end of a sending, closing
 
-fn clock_refusal(time: f64) -> u8
-    ensures { result ≡ check1 time 0 }
+fn clock_refusal(time: f64) -> Result<(), Refusal>
+    ensures { number_in result ≡ check1 time 0 }
 {
-    if level::clock_ok(time) { 0 } else { 1 }
+    if level::clock_ok(time) {
+        Ok(())
+    } else {
+        Err(Refusal::Clock)
+    }
 }
 
-fn next_refusal(room: usize, lent: usize, time: f64) -> u8
-    ensures { result ≡ next_refusal time lent room }
+fn next_refusal(room: usize, lent: usize, time: f64) -> Result<(), Refusal>
+    ensures { number_in result ≡ next_refusal time lent room }
 {
     if room < 8192 {
-        return 4;
+        return Err(Refusal::SmallOut);
     }
     if lent < 126976 {
-        return 7;
+        return Err(Refusal::SmallMemory);
     }
     clock_refusal(time)
 }
@@ -251,10 +249,10 @@ pub fn next(s: Station, time: f64, lent: &[u8], o: &mut [u32]) -> Answered
 {
     let no = next_refusal(o.len(), lent.len(), time);
     let mut at: usize = 0;
-    let t = next::ncs_next(s, no == 0, time, lent, o, &mut at);
+    let t = next::ncs_next(s, no.is_ok(), time, lent, o, &mut at);
     Answered {
         station: t,
-        answer: answer_of(no, at),
+        answer: no.and(Ok(at)),
     }
 }
 
@@ -263,24 +261,28 @@ pub fn sent(s: Station, time: f64) -> Answered
     ensures { result ≡ answered (sent_of s time) 0 }
 {
     let no = clock_refusal(time);
-    let t = net::on_tx_done(s, no == 0, time);
+    let t = net::on_tx_done(s, no.is_ok(), time);
     Answered {
         station: t,
-        answer: answer_of(no, 0),
+        answer: no.and(Ok(0)),
     }
 }
 
-fn close_refusal(count: u32) -> u8
-    ensures { result ≡ close_refusal count }
+fn close_refusal(count: u32) -> Result<(), Refusal>
+    ensures { number_in result ≡ close_refusal count }
 {
-    if 15 < count { 9 } else { 0 }
+    if 15 < count {
+        Err(Refusal::Closing)
+    } else {
+        Ok(())
+    }
 }
 
-fn close_round(r: net::Round, count: u32, no: u8) -> net::Round
-    ensures { result ≡ cond (eqb no 0) (with_closing r true count) r }
+fn close_round(r: net::Round, count: u32, ok: bool) -> net::Round
+    ensures { result ≡ cond ok (with_closing r true count) r }
 {
     let mut k = r;
-    if no == 0 {
+    if ok {
         k.closed = true;
         k.closeleft = count;
     }
@@ -293,47 +295,44 @@ pub fn close(mut s: Station, count: u32) -> Answered
 {
     let no = close_refusal(count);
     let r = s.round;
-    let q = close_round(r, count, no);
+    let q = close_round(r, count, no.is_ok());
     s.round = q;
     Answered {
         station: s,
-        answer: answer_of(no, 0),
+        answer: no.and(Ok(0)),
     }
 }
 
 // ---- reading and freeing
 
-fn cell_refusal(count: usize, landed: u64, cell: usize) -> u8
-    ensures { result ≡ cell_refusal count landed cell }
+fn cell_refusal(count: usize, landed: u64, cell: usize) -> Result<(), Refusal>
+    ensures { number_in result ≡ cell_refusal count landed cell }
 {
     if (count <= cell) | (64 <= cell) {
-        return 6;
+        return Err(Refusal::CellNumber);
     }
     if !bits::has(landed, cell) {
-        return 22;
+        return Err(Refusal::NotLanded);
     }
-    0
+    Ok(())
 }
 
-fn read_refusal(lent: usize, count: usize, landed: u64, cell: usize) -> u8
-    ensures { result ≡ read_refusal lent count landed cell }
+fn read_refusal(lent: usize, count: usize, landed: u64, cell: usize) -> Result<(), Refusal>
+    ensures { number_in result ≡ read_refusal lent count landed cell }
 {
     if lent / 6400 < count {
-        return 7;
+        return Err(Refusal::SmallMemory);
     }
     cell_refusal(count, landed, cell)
 }
 
-// The landed message of a cell, a part of the store itself; the refusal's number is behind `no`, 0 for none, and then the part is empty.
-pub fn read<'a>(s: Station, lent: &'a [u8], cell: usize, no: &mut u8) -> &'a [u8]
-    ensures { (result.now ≡ reading_of s lent.now cell) × (no.new ≡ read_refusal (length lent.now) s.count s.landed cell) }
+// The landed message of a cell, a part of the store itself.
+pub fn read<'a>(s: Station, lent: &'a [u8], cell: usize) -> Result<&'a [u8], Refusal>
+    ensures number { number_in result ≡ read_refusal (length lent.now) s.count s.landed cell }
+    ensures message { IfOk result (λ m. m.now ≡ reading_of s lent.now cell) }
 {
-    let n = read_refusal(lent.len(), s.count, s.landed, cell);
-    *no = n;
-    if n != 0 {
-        return &lent[..0];
-    }
-    inbox::store::read(lent, cell)
+    read_refusal(lent.len(), s.count, s.landed, cell)?;
+    Ok(inbox::store::read(lent, cell))
 }
 
 // A cell given back for reuse. The store is not touched.
@@ -341,37 +340,52 @@ pub fn free(mut s: Station, cell: usize) -> Answered
     ensures { result ≡ answered (free_of s cell) 0 }
 {
     let no = cell_refusal(s.count, s.landed, cell);
-    s.landed = bits::without_if(s.landed, no == 0, cell);
-    s.busy = bits::without_if(s.busy, no == 0, cell);
+    let ok = no.is_ok();
+    s.landed = bits::without_if(s.landed, ok, cell);
+    s.busy = bits::without_if(s.busy, ok, cell);
     Answered {
         station: s,
-        answer: answer_of(no, 0),
+        answer: no.and(Ok(0)),
     }
 }
 
 // ---- posting
 
-fn post_refusal(lent: usize, used: u64, slot: u8, q: Queue, n: usize) -> u8
-    ensures { result ≡ post_refusal lent used slot q n }
+// Whether n bytes more have room in the queue of a slot.
+fn space_refusal(q: Queue, n: usize) -> Result<(), Refusal>
+    ensures { number_in result ≡ space_refusal q n }
+{
+    let no = queue::space_refusal(q, n);
+    if no == 24 {
+        return Err(Refusal::NoSpace);
+    }
+    if no == 25 {
+        return Err(Refusal::Total);
+    }
+    Ok(())
+}
+
+fn post_refusal(lent: usize, used: u64, slot: u8, q: Queue, n: usize) -> Result<(), Refusal>
+    ensures { number_in result ≡ post_refusal lent used slot q n }
 {
     if lent < 126976 {
-        return 7;
+        return Err(Refusal::SmallMemory);
     }
     if 61 < slot {
-        return 8;
+        return Err(Refusal::Slot);
     }
     if net::is_member(used, slot) {
-        return queue::space_refusal(q, n);
+        return space_refusal(q, n);
     }
-    21
+    Err(Refusal::NoMember)
 }
 
 // The numbers of the slot's queue with n bytes more, where they are posted.
-fn post_queue(q: Queue, no: u8, n: usize) -> Queue
-    requires { no ≡ 0 → q.posted + n + 2 ≤ 16777215 }
-    ensures { result ≡ cond (eqb no 0) (posted_to q (n + 2)) q }
+fn post_queue(q: Queue, ok: bool, n: usize) -> Queue
+    requires { ok ≡ true → q.posted + n + 2 ≤ 16777215 }
+    ensures { result ≡ cond ok (posted_to q (n + 2)) q }
 {
-    if no == 0 {
+    if ok {
         return queue::posted_to(q, n + 2);
     }
     q
@@ -386,67 +400,57 @@ pub fn post(mut s: Station, slot: u8, message: &[u8], lent: &mut [u8]) -> Answer
     let q = s.queues[i];
     let n = message.len();
     let no = post_refusal(lent.len(), s.used, slot, q, n);
-    if no == 0 {
+    let ok = no.is_ok();
+    if ok {
         queue::put(lent, slot, q.posted, message);
     }
-    let k = post_queue(q, no, n);
+    let k = post_queue(q, ok, n);
     s.queues[i] = k;
     Answered {
         station: s,
-        answer: answer_of(no, 0),
+        answer: no.and(Ok(0)),
     }
 }
 
 // ---- signing off
 
-fn sign_refusal(used: u64, slot: u8) -> u8
-    ensures { result ≡ sign_off_refusal used slot }
+fn sign_refusal(used: u64, slot: u8) -> Result<(), Refusal>
+    ensures { number_in result ≡ sign_off_refusal used slot }
 {
     if 61 < slot {
-        return 8;
+        return Err(Refusal::Slot);
     }
     if net::is_member(used, slot) {
-        return 0;
+        return Ok(());
     }
-    21
+    Err(Refusal::NoMember)
 }
 
 // A boat signs off (request U3). The store is not touched.
 pub fn sign_off(s: Station, slot: u8) -> Answered
     ensures { result ≡ answered (sign_off_of s slot) 0 }
 {
-    let no = sign_refusal(s.used, slot);
-    if no == 0 {
-        return Answered {
+    match sign_refusal(s.used, slot) {
+        Ok(()) => Answered {
             station: signoff::sign_off(s, slot),
-            answer: Answer::Words(0),
-        };
-    }
-    Answered {
-        station: s,
-        answer: Answer::Refused(no),
+            answer: Ok(0),
+        },
+        Err(r) => Answered {
+            station: s,
+            answer: Err(r),
+        },
     }
 }
 
 // ---- the worst of the last thirty-two
 
-// A refusal's number, or the lowest of a boat's last 32 reception levels, Unheard where there are none.
-#[derive(Clone, Copy)]
-pub enum Lowest {
-    Refused(u8),
-    Is(Level),
-}
-
-// A boat's poorest signal of late (request U13).
-pub fn worst(s: Station, slot: u8) -> Lowest
+// A boat's poorest signal of late (request U13): the lowest of its last 32 reception levels, Unheard where there are none.
+pub fn worst(s: Station, slot: u8) -> Result<Level, Refusal>
     ensures { result ≡ worst_of s slot }
 {
-    let no = sign_refusal(s.used, slot);
-    if no != 0 {
-        return Lowest::Refused(no);
-    }
+    sign_refusal(s.used, slot)?;
     let rs = s.recent;
     let i = net::index(slot);
     let r = rs[i];
-    Lowest::Is(recent::worst(r))
+    Ok(recent::worst(r))
 }

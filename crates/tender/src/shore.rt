@@ -2,7 +2,6 @@
 use crate::message;
 use crate::tell::Landed;
 use net::Station;
-use station::Answer;
 use std::alloc::{AllocError, Global};
 use words::Head;
 
@@ -14,13 +13,6 @@ pub struct Shore {
     now: f64,
     pub landed: usize,
     pub text: String,
-}
-
-fn words_of(answer: Answer) -> usize {
-    match answer {
-        Answer::Refused(_) => 0,
-        Answer::Words(n) => n,
-    }
 }
 
 // The head among the words, the last if there are more.
@@ -73,7 +65,7 @@ impl Shore {
             &mut out,
         );
         self.station = r.station;
-        let words = &out[..words_of(r.answer).min(out.len())];
+        let words = &out[..r.answer.unwrap_or(0).min(out.len())];
         for word in words {
             if word >> 28 == 2 {
                 self.lands(*word)?;
@@ -91,13 +83,13 @@ impl Shore {
     fn lands(&mut self, word: u32) -> Result<(), AllocError> {
         let cell = (word / 64 % 128) as usize;
         let number = word / 8192 % 256;
-        let mut no: u8 = 0;
-        let m = station::read(self.station, &self.store, cell, &mut no);
+        let answer = station::read(self.station, &self.store, cell);
+        let m = answer.unwrap_or(&[]);
         let landed = Landed {
             number,
             cell,
             size: m.len(),
-            same: message::is(m, number) && no == 0,
+            same: message::is(m, number) && answer.is_ok(),
         };
         writeln!(self.text, "{landed}")?;
         self.landed = self.landed.saturating_add(1);
@@ -111,7 +103,7 @@ impl Shore {
         self.now += 10.0;
         let r = station::next(self.station, self.now, &queue, &mut out);
         self.station = r.station;
-        let words = &out[..words_of(r.answer).min(out.len())];
+        let words = &out[..r.answer.unwrap_or(0).min(out.len())];
         if !words.is_empty() {
             self.sent(self.now + 1.0);
         }

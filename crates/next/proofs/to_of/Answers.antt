@@ -1,11 +1,12 @@
 -- Assumes nothing.
+use Rattle.std.proofs.Common.{arith, sym, ◌∙◌}
+use Rattle.bits.specs.Mask.{has_bit, lowest_bit}
+use Rattle.bits.proofs.Loops.{first_lt}
 use Rattle.next.proofs.to_of.Goals as goal
 
 pub returns-then-has : goal.returns-then-has
 returns-then-has c = rw (← c.has.ensures, c.if-has.true)
 
-pub returns-in-Some : goal.returns-in-Some
-returns-in-Some c = rw (← c.has.ensures, c.if-has.false, ← c.lowest.ensures, c.in-Some.is)
-
-pub returns-in-None : goal.returns-in-None
-returns-in-None c = rw (← c.has.ensures, c.if-has.false, ← c.lowest.ensures, c.in-None.is)
+pub overflow_cast-result : goal.overflow_cast-result
+unfolding lowest_bit
+overflow_cast-result c = omega (arith, first_lt (has_bit c.args.word) 64 c.in_ok-i.i (sym c.lowest.ensures ∙ c.in_ok-i.was))

@@ -1,5 +1,5 @@
 -- ncs_next of ncs.rs as the code goes: one line through the station, with what is due as numbers. The proof shows that it comes to the stages of `Next`.
-use Rattle.std.specs.Prelude.{◌≡◌, ℕ, ◌+◌, ◌-◌, ◌%◌, ◌<◌, ◌≤◌, Bool, true, false, cond, not, ◌&&◌, ◌||◌, List, [], ◌∷◌, ◌++◌, get_or, ◌==◌, ◌≢◌, nat_lt, slice_index_or, slice_set, Float, Option, Some, None}
+use Rattle.std.specs.Prelude.{◌≡◌, ℕ, ◌+◌, ◌-◌, ◌%◌, ◌<◌, ◌≤◌, Bool, true, false, cond, not, ◌&&◌, ◌||◌, List, [], ◌∷◌, ◌++◌, get_or, ◌==◌, nat_lt, slice_index_or, slice_set, Float, Option, Some, None}
 use Rattle.std.specs.Float.{nan, binary32}
 use Rattle.std.specs.Float.Ieee.{add, lt}
 use Rattle.bits.specs.Loop.{fold}
@@ -22,11 +22,11 @@ use Rattle.net.specs.declared.Totals.{Totals}
 use Rattle.net.specs.declared.Reply.{Reply}
 use Rattle.net.specs.declared.Turn.TheVariants.{Waiting}
 use Rattle.net.specs.declared.Wait.{Wait}
-use Rattle.net.specs.State.{index_of, member_at, with_member, with_wait, with_round, with_totals, with_list, with_txat, with_closing, with_activity, with_nextbeacon, with_rxsent, with_rxdirty, with_polls, with_silent}
+use Rattle.net.specs.State.{index_of, member_at, with_member, with_wait, with_round, with_totals, with_txat, with_closing, with_activity, with_nextbeacon, with_rxsent, with_rxdirty, with_polls, with_silent}
 use Rattle.net.specs.Net.{plus, is_member, wait_of, idle_wait, is_idle, Said, said}
 use Rattle.bursts.specs.Rows.{member_in, mask_where}
 use Rattle.bursts.specs.Bursts.{tiny_words, poll_burst, acks_burst, beacon_of, rx_list_burst, tell_of}
-use Rattle.bursts.specs.Direct.{directed_to, direct_burst, slot_or255}
+use Rattle.bursts.specs.Direct.{directed_to, direct_burst}
 use Rattle.bursts.specs.Reroute.{source_for, is_down, reroute_of}
 use Rattle.next.specs.declared.Due.{Due}
 use Rattle.next.specs.declared.Due.TheVariants.{Free, Quiet, Close, Again, Missed}
@@ -34,7 +34,7 @@ use Rattle.next.specs.declared.Act.{Act}
 use Rattle.next.specs.declared.Act.TheVariants as act
 use Rattle.next.specs.declared.Late.{Late}
 use Rattle.next.specs.declared.Seen.{Seen}
-use Rattle.next.specs.Next.{Decision, due_of, act_of, poll_front, drawn}
+use Rattle.next.specs.Next.{Decision, due_of, act_of, poll_of, drawn}
 
 -- the station and the words of a decision
 abbrev pub said_of : Decision → Said
@@ -225,48 +225,20 @@ may_poll act.Acks = false
 may_poll act.Draw = true
 may_poll act.Poll = true
 
-abbrev pub front_by : Option ℕ → ℕ
-front_by None = 255
-front_by (Some slot) = slot % 256
-
--- the slot to be polled, 255 for none
-abbrev pub front_of : Wait → ℕ → Act → ℕ
-front_of w list a = cond (not (is_idle w.turn) || not (may_poll a)) 255 (front_by (lowest_bit list))
+-- the slot to be polled, where nothing is being sent or waited for
+abbrev pub front_of : Wait → ℕ → Act → Option ℕ
+front_of w list a = cond (not (is_idle w.turn) || not (may_poll a)) None (lowest_bit list)
 
 abbrev pub poll_wait : Wait → ℕ → ℕ → Wait
 poll_wait w slot source =
-    cond (slot == 255) w (wait_of (Waiting (record { slot = slot; relayfor = source; tries = 0; turnbursts = 0 })) w.deadline)
-
-abbrev pub poll_totals : Totals → ℕ → Totals
-poll_totals t slot = cond (slot == 255) t (with_polls t (stop (t.polls + 1)))
-
-abbrev pub poll_list : ℕ → ℕ → ℕ
-poll_list list slot = cond (slot == 255) list (without_bit list slot)
-
-abbrev pub poll_source : Station → ℕ → ℕ
-poll_source s slot = cond (slot == 255) 63 (source_for s slot)
-
-abbrev pub poll_words : Settings → Bool → Member → ℕ → ℕ → List ℕ
-poll_words g here m slot source = cond (slot == 255) [] (poll_burst g here m slot source false)
-
--- the poll of a slot, 255 for none
-abbrev pub poll_slot : Station → ℕ → Said
-poll_slot s slot =
-    said
-    (with_totals (with_round (with_wait s (poll_wait s.wait slot (poll_source s slot))) (with_list s.round (poll_list s.round.list slot))) (poll_totals s.totals slot))
-    (poll_words s.settings (is_member s.used slot) (member_at s slot) slot (poll_source s slot))
-
--- a poll, where nothing is being sent or waited for
-abbrev pub poll_if : Act → Station → Said
-poll_if a s = cond (is_idle s.wait.turn && may_poll a) (said_of (poll_front s)) (said s [])
+    wait_of (Waiting (record { slot = slot; relayfor = source; tries = 0; turnbursts = 0 })) w.deadline
 
 -- ---- word back before the poll (U1)
 
--- past the end no slot is in use; 0 where nobody is polled
-pub record Ends (used slot end : ℕ) : Type 0 where
+-- past the end no slot is in use
+pub record Ends (used end : ℕ) : Type 0 where
   pub most : end ≤ 62
-  pub none : slot ≡ 255 → end ≡ 0
-  pub past : (slot ≢ 255) → (j : ℕ) → end ≤ j → j < 62 → has_bit used j ≡ false
+  pub past : (j : ℕ) → end ≤ j → j < 62 → has_bit used j ≡ false
 
 -- one look over the slots below it: who needs a relayer, and whom word goes to
 abbrev pub none_seen : Seen
@@ -284,29 +256,24 @@ abbrev pub word_at : Station → ℕ → ℕ → Bool
 word_at s slot j = has_bit s.used j && is_due (slice_index_or s.queues j empty_queue) s.round.number && is_for slot j (member_in s j).via
 
 -- the slot itself before the boats relayed by it
-abbrev pub to_of : ℕ → ℕ → ℕ
-to_of word slot = cond (has_bit word slot) slot (slot_or255 (lowest_bit word))
+abbrev pub to_of : ℕ → ℕ → Option ℕ
+to_of word slot = cond (has_bit word slot) (Some slot) (lowest_bit word)
 
 -- a relayer is looked for: others than the polled slot need one
 abbrev pub asks_for : ℕ → ℕ → Bool
-asks_for needs slot = not (slot == 255) && not (without_bit needs slot == 0)
+asks_for needs slot = not (without_bit needs slot == 0)
 
--- to whom, before the poll of a slot; 255 for none
-abbrev pub direct_slot : Station → ℕ → ℕ
-direct_slot s slot = cond (slot == 255) 255 (slot_or255 (directed_to s slot))
+-- word goes out before the poll of a slot, and nobody is polled then; or it is polled
+abbrev pub word_or : Option ℕ → ℕ → Station → List ℕ → Said
+word_or None slot s queue = poll_of slot (source_for s slot) s
+word_or (Some to) slot s queue = direct_burst s queue to
 
-abbrev pub direct_to : Act → Station → ℕ
-direct_to a s = direct_slot s (front_of s.wait s.round.list a)
-
-abbrev pub direct_if : ℕ → Station → List ℕ → Said
-direct_if to s queue = cond (to == 255) (said s []) (direct_burst s queue to)
-
--- after a burst of it nobody is polled
-abbrev pub poll_after : Act → Said → Said
-poll_after a d = said_after d.words (poll_if a d.station)
+abbrev pub word_for : Option ℕ → Station → List ℕ → Said
+word_for None s queue = said s []
+word_for (Some slot) s queue = word_or (directed_to s slot) slot s queue
 
 abbrev pub word_then : Act → Station → List ℕ → Said
-word_then a s queue = poll_after a (direct_if (direct_to a s) s queue)
+word_then a s queue = word_for (front_of s.wait s.round.list a) s queue
 
 -- ---- the decision
 

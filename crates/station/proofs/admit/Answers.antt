@@ -1,10 +1,12 @@
 -- Assumes nothing.
 use native.Mathlib.Omega.{arith}
+use Rattle.refusal.specs.Numbers.{number_in}
 use Rattle.net.proofs.Laws.{index_lt}
 use Rattle.admit.specs.Admission.{admit_by}
 use Rattle.station.specs.Entries.{admit_of}
 use Rattle.station.proofs.Laws.{next_with}
 use Rattle.station.proofs.Admitted.{admit_stored}
+use Rattle.station.proofs.Numbers.{answer_is, passed_is}
 use Rattle.station.proofs.admit.Goals as goal
 
 pub offset_bounds-s-i : goal.offset_bounds-s-i
@@ -47,8 +49,9 @@ pub returns : goal.returns
 unfolding admit_of
 returns c =
     let a = c.args in
-    let n = c.admit_refusal-no.result in
-    rw (c.answer_of.ensures, ← c.unpack_call-call.ensures, ← c.seat_of-found.ensures, ← c.is_full.ensures, ← c.admit_refusal-no.ensures, ← c.via_for-via.ensures)
+    let no = c.admit_refusal-no.result in
+    let n = number_in no in
+    rw (c.and.ensures, answer_is no _, ← c.unpack_call-call.ensures, ← c.seat_of-found.ensures, ← c.is_full.ensures, ← c.admit_refusal-no.ensures, ← c.via_for-via.ensures)
     (next_with n a.s (admit_by c.seat_of-found.result a.s c.unpack_call-call.result c.via_for-via.result a.time)
-    (admit_stored a.s c.unpack_call-call.result c.via_for-via.result a.time n c.seat_of-found.result _ _ _ _ _ _ _ _ _ _ c.seat_if-seat.ensures c.is_free-fresh.ensures c.is_full-2.ensures
+    (admit_stored a.s c.unpack_call-call.result c.via_for-via.result a.time n c.seat_of-found.result _ _ _ _ _ _ _ _ _ _ (rw (c.is_ok.ensures.value, passed_is no) at c.seat_if-seat.ensures) c.is_free-fresh.ensures c.is_full-2.ensures
     c.slot_of-slot.ensures c.index-i.ensures c.member_if-k.ensures c.recent_if-z.ensures c.queue_if-y.ensures c.with_if.ensures c.with_if-acks.ensures c.events_if-at.ensures))

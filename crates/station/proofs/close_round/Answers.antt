@@ -1,9 +1,8 @@
 -- Assumes nothing.
-use borrow.Author.Tests.{eq-eqb, ne_eqb}
 use Rattle.station.proofs.close_round.Goals as goal
 
-pub returns-then-no-eq0 : goal.returns-then-no-eq0
-returns-then-no-eq0 c = rw (eq-eqb _ _ c.if-no-eq0.true)
+pub returns-then-ok : goal.returns-then-ok
+returns-then-ok c = rw c.if-ok.true
 
-pub returns-else-no-eq0 : goal.returns-else-no-eq0
-returns-else-no-eq0 c = rw (ne_eqb _ _ c.if-no-eq0.false)
+pub returns-else-ok : goal.returns-else-ok
+returns-else-ok c = rw c.if-ok.false

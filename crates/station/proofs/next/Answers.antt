@@ -1,8 +1,10 @@
 -- Assumes nothing.
+use Rattle.refusal.specs.Numbers.{number_in}
 use Rattle.net.specs.Net.{said}
 use Rattle.next.specs.Next.{ncs_next}
 use Rattle.station.specs.Entries.{next_of}
 use Rattle.station.proofs.Laws.{next_with}
+use Rattle.station.proofs.Numbers.{answer_is, passed_is}
 use Rattle.station.proofs.next.Goals as goal
 
 pub returns : goal.returns
@@ -10,5 +12,6 @@ unfolding next_of
 returns c =
     let n = c.next_refusal-no in
     let a = c.args in
-    rw (c.answer_of.ensures, ← n.ensures)
-    (next_with n.result a.s (said (ncs_next a.s a.time a.lent.now).station (ncs_next a.s a.time a.lent.now).words) c.ncs_next-t.ensures)
+    rw (c.and.ensures, answer_is n.result _, ← n.ensures)
+    (next_with (number_in n.result) a.s (said (ncs_next a.s a.time a.lent.now).station (ncs_next a.s a.time a.lent.now).words)
+    (rw (c.is_ok.ensures.value, passed_is n.result) at c.ncs_next-t.ensures))

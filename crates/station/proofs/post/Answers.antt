@@ -4,6 +4,7 @@ use mathlib.Core.List.{[]}
 use Prim.Native.Nat.{◌+◌}
 use native.Mathlib.Omega.{arith}
 use lib.ListN.{length, get_or}
+use Rattle.refusal.specs.Numbers.{number_in}
 use Rattle.inbox.specs.Messages.{framed}
 use Rattle.out.specs.Encode.{after}
 use Rattle.queue.specs.Queues.{empty_queue, posted_to, put_bytes}
@@ -12,8 +13,9 @@ use Rattle.net.specs.State.{queue_at, with_queue}
 use Rattle.net.proofs.Laws.{index_lt}
 use Rattle.station.specs.Entries.{post_refusal, post_of}
 use Rattle.station.proofs.Laws.{answered_unless, post_ok, post_if, post_yes, post_no}
+use Rattle.station.proofs.Numbers.{answer_is, passed_is, passed, stopped}
 use Rattle.station.proofs.post.Goals as goal
-use Rattle.station.proofs.post.Goals.{then-no-eq0, else-no-eq0}
+use Rattle.station.proofs.post.Goals.{then-ok, else-ok}
 
 pub offset_bounds-s-i : goal.offset_bounds-s-i
 offset_bounds-s-i c = omega (arith, rw (← c.index-i.ensures) at (index_lt c.args.slot))
@@ -25,14 +27,16 @@ pub put-requires : goal.put-requires
 put-requires c =
     let a = c.args in
     let i = c.index-i.result in
-    let k = post_ok (length a.lent.now) a.s.used a.slot (get_or a.s.queues i empty_queue) (length a.message.now) (sym c.post_refusal-no.ensures ∙ c.if-no-eq0.true) in
+    let no = c.post_refusal-no.result in
+    let k = post_ok (length a.lent.now) a.s.used a.slot (get_or a.s.queues i empty_queue) (length a.message.now) (sym c.post_refusal-no.ensures ∙ passed no (sym c.is_ok-ok.ensures.value ∙ c.if-ok.true)) in
     (k.slot_lt, k.long, k.message)
 
 pub post_queue-k-requires : goal.post_queue-k-requires
 post_queue-k-requires c =
     let a = c.args in
     let i = c.index-i.result in
-    λ z. (post_ok (length a.lent.now) a.s.used a.slot (get_or a.s.queues i empty_queue) (length a.message.now) (sym c.post_refusal-no.ensures ∙ z)).total
+    let no = c.post_refusal-no.result in
+    λ z. (post_ok (length a.lent.now) a.s.used a.slot (get_or a.s.queues i empty_queue) (length a.message.now) (sym c.post_refusal-no.ensures ∙ passed no (sym c.is_ok-ok.ensures.value ∙ z))).total
 
 pub offset_bounds-s-i-2 : goal.offset_bounds-s-i-2
 offset_bounds-s-i-2 c = omega (arith, rw (← c.index-i.ensures) at (index_lt c.args.slot))
@@ -42,9 +46,9 @@ bounds-s-i-2 c = omega (arith, rw (← c.index-i.ensures) at (index_lt c.args.sl
 
 pub shape_of-lent : goal.shape_of-lent
 shape_of-lent c =
-    elim c.if-no-eq0.branch [
-      | then-no-eq0 w ↦ ap length w.lent-is ∙ ap length w.put.ensures ∙ length_put _ _ _ _
-      | else-no-eq0 w ↦ ap length w.lent-is
+    elim c.if-ok.branch [
+      | then-ok w ↦ ap length w.lent-is ∙ ap length w.put.ensures ∙ length_put _ _ _ _
+      | else-ok w ↦ ap length w.lent-is
     ]
 
 pub returns : goal.returns
@@ -58,10 +62,13 @@ returns c =
     let no = post_refusal (length queue) s.used a.slot q n in
     let t = with_queue s a.slot (posted_to q (n + 2)) in
     let put = put_bytes queue a.slot q.posted (framed a.message.now) in
-    let e : c.post_refusal-no.result ≡ no = rw c.index-i.ensures at c.post_refusal-no.ensures in (
-      rw (c.answer_of.ensures, c.post_queue-k.ensures, e, c.index-i.ensures) (post_if no s a.slot (posted_to q (n + 2)) ∙ sym (answered_unless no s t queue put [] 0)),
-      elim c.if-no-eq0.branch [
-        | then-no-eq0 w ↦ w.lent-is ∙ rw c.index-i.ensures at w.put.ensures ∙ post_yes no s t queue put (sym e ∙ w.if-no-eq0.true)
-        | else-no-eq0 w ↦ w.lent-is ∙ post_no no s t queue put (λ z. w.if-no-eq0.false (e ∙ z))
+    let r = c.post_refusal-no.result in
+    let e : number_in r ≡ no = rw c.index-i.ensures at c.post_refusal-no.ensures in
+    let o = sym c.is_ok-ok.ensures.value in (
+      rw (c.and.ensures, answer_is r 0, c.post_queue-k.ensures, c.is_ok-ok.ensures.value, passed_is r, e, c.index-i.ensures)
+          (post_if no s a.slot (posted_to q (n + 2)) ∙ sym (answered_unless no s t queue put [] 0)),
+      elim c.if-ok.branch [
+        | then-ok w ↦ w.lent-is ∙ rw c.index-i.ensures at w.put.ensures ∙ post_yes no s t queue put (sym e ∙ passed r (o ∙ w.if-ok.true))
+        | else-ok w ↦ w.lent-is ∙ post_no no s t queue put (λ z. stopped r (o ∙ w.if-ok.false) (e ∙ z))
       ],
     )

@@ -1,11 +1,12 @@
 -- Assumes nothing.
-use mathlib.Core.Path.{◌≡◌, refl, sym, ◌∙◌}
+use mathlib.Core.Path.{◌≡◌, refl, sym, ap, ◌∙◌}
 use mathlib.Core.Bool.{Bool, true, false, cond}
 use Prim.Native.Nat.{ℕ, ◌<◌}
 use native.Mathlib.Omega.{arith}
 use mathlib.Core.List.{[]}
 use lib.Dec.{ltb}
-use borrow.Author.Tests.{ltb-false, ne_eqb}
+use borrow.Author.Tests.{ltb-false}
+use Rattle.refusal.specs.Numbers.{number_in}
 use Rattle.net.specs.Net.{is_member}
 use Rattle.signoff.specs.SignOff.{sign_off}
 use Rattle.station.specs.SignOff.{sign_off_refusal, sign_off_of}
@@ -22,17 +23,17 @@ low_of used slot = go (ltb 61 slot) refl
     go false q e = let z = ltb-false 61 slot q in omega arith
 
 pub sign_off-requires : goal.sign_off-requires
-sign_off-requires c = low_of c.args.s.used c.args.slot (sym c.sign_refusal-no.ensures ∙ c.if-no-eq0.true)
+sign_off-requires c = low_of c.args.s.used c.args.slot (sym c.sign_refusal.ensures ∙ ap number_in c.in-Ok.is)
 
-pub returns-then-no-eq0 : goal.returns-then-no-eq0
+pub returns-in-Ok : goal.returns-in-Ok
 unfolding sign_off_of
-returns-then-no-eq0 c =
+returns-in-Ok c =
     let a = c.args in
     rw c.sign_off.ensures
-    (done_as (sign_off_refusal a.s.used a.slot) a.s (sign_off a.s a.slot) [] [] (sym c.sign_refusal-no.ensures ∙ c.if-no-eq0.true))
+    (done_as (sign_off_refusal a.s.used a.slot) a.s (sign_off a.s a.slot) [] [] c.in-Ok.is c.sign_refusal.ensures)
 
-pub returns : goal.returns
+pub returns-in-Err : goal.returns-in-Err
 unfolding sign_off_of
-returns c =
+returns-in-Err c =
     let a = c.args in
-    refused_as c.sign_refusal-no.result (sign_off_refusal a.s.used a.slot) a.s (sign_off a.s a.slot) [] [] c.sign_refusal-no.ensures (ne_eqb _ _ c.if-no-eq0.false)
+    refused_as (sign_off_refusal a.s.used a.slot) a.s (sign_off a.s a.slot) [] [] c.in-Err.is c.sign_refusal.ensures

@@ -1,13 +1,19 @@
 -- Assumes nothing.
 use native.Mathlib.Omega.{arith}
-use borrow.Author.Tests.{eq-eqb, ne_eqb}
+use mathlib.Core.Path.{ap, ◌∙◌}
+use Rattle.std.proofs.lemmas.Result.{err_from_is_err_and}
+use Rattle.refusal.specs.Numbers.{number_of}
 use Rattle.net.proofs.Laws.{index_lt}
+use Rattle.station.specs.SignOff.{sign_off_refusal}
 use Rattle.station.specs.Worst.{worst_of}
+use Rattle.station.proofs.Laws.{refused_by}
 use Rattle.station.proofs.worst.Goals as goal
 
-pub returns-then-no-ne0 : goal.returns-then-no-ne0
+pub returns-in_err-sign_refusal : goal.returns-in_err-sign_refusal
 unfolding worst_of
-returns-then-no-ne0 c = rw (← c.sign_refusal-no.ensures, ne_eqb _ _ c.if-no-ne0.true)
+returns-in_err-sign_refusal c =
+    let p = err_from_is_err_and c.from_residual.result c.from_residual.ensures.1 in
+    rw p.1 (refused_by (sign_off_refusal c.args.s.used c.args.slot) p.0 _ (ap number_of p.2 ∙ c.in_err-sign_refusal.ensures))
 
 pub offset_bounds-rs-i : goal.offset_bounds-rs-i
 offset_bounds-rs-i c = omega (arith, rw (← c.index-i.ensures) at (index_lt c.args.slot))
@@ -17,5 +23,4 @@ bounds-rs-i c = omega (arith, rw (← c.index-i.ensures) at (index_lt c.args.slo
 
 pub returns : goal.returns
 unfolding worst_of
-returns c =
-    rw (c.worst.ensures, c.index-i.ensures, ← c.sign_refusal-no.ensures, eq-eqb _ _ c.if-no-ne0.false)
+returns c = rw (c.worst.ensures, c.index-i.ensures, ← c.in_ok-sign_refusal.ensures)

@@ -3,8 +3,8 @@ use Rattle.std.proofs.Common.{ap, ◌∙◌}
 use Rattle.script.specs.Actions.{closed}
 use Rattle.driver.proofs.command.settled.Goals as goal
 
-pub returns-in-Refused : goal.returns-in-Refused
-returns-in-Refused c = rw c.in-Refused.is c.closed.ensures
+pub returns-in-Err : goal.returns-in-Err
+returns-in-Err c = rw c.in-Err.is c.closed-in-Err.ensures
 
-pub returns-in-Words : goal.returns-in-Words
-returns-in-Words c = rw c.in-Words.is (c.closed-in-Words.ensures ∙ ap closed c.kept.ensures)
+pub returns-in-Ok : goal.returns-in-Ok
+returns-in-Ok c = rw c.in-Ok.is (c.closed.ensures ∙ ap closed c.kept.ensures)

@@ -1,8 +1,8 @@
 -- Each arm knows which answer it is.
 use Rattle.driver.proofs.page.Page.answer.Goals as goal
 
-pub returns-in-Refused : goal.returns-in-Refused
-returns-in-Refused c = rw c.in-Refused.is c.word.ensures
+pub returns-in-Err : goal.returns-in-Err
+returns-in-Err c = rw c.in-Err.is c.refusal.ensures
 
-pub returns-in-Words : goal.returns-in-Words
-returns-in-Words c = rw c.in-Words.is (rw c.first.ensures at c.words.ensures)
+pub returns-in-Ok : goal.returns-in-Ok
+returns-in-Ok c = rw c.in-Ok.is (rw c.first.ensures at c.words.ensures)
