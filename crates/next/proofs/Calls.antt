@@ -22,9 +22,8 @@ use Rattle.bursts.proofs.Saying.{did_then, did_as}
 use Rattle.next.specs.declared.Due.{Due}
 use Rattle.next.specs.declared.Act.{Act}
 use Rattle.next.specs.declared.Act.TheVariants as act
-use Rattle.next.specs.declared.Late.{Late}
 use Rattle.next.specs.Next.{due_of, drawn, ncs_next}
-use Rattle.next.specs.Code.Decision.{said_after, late_of, late_words, late_member, late_source, late_wait, late_totals, late_round, late_station, late_says, act_in, is_said, is_draw, spoken_of, rerouted_then, rerouting_of, list_then, round_then, ended_of, stage_by, front_of, poll_wait, word_or, word_for, word_then, next_straight}
+use Rattle.next.specs.Code.Decision.{said_after, late_of, slot_of, relay_of, is_quiet, late_words, late_member, late_source, late_wait, late_totals, late_round, late_station, late_says, act_in, is_said, is_draw, spoken_of, rerouted_then, rerouting_of, list_then, round_then, ended_of, stage_by, front_of, poll_wait, word_or, word_for, word_then, next_straight}
 use Rattle.next.proofs.Stages.{said_nil, next_is}
 
 -- nothing is written
@@ -154,22 +153,22 @@ laid s a k b c v u r =
     with_round (with_totals (with_wait (with_members s (set (set s.members a k) b c)) v) u) r
 
 -- what each call of the first stages gives
-pub record Parts (s : Station) (ok : Bool) (now : Float) (d : Due) (l : Late) (a : ℕ) (here : Bool) (k : Member) (b : ℕ) (c : Member) (v : Wait) (u : Totals) (r : Round) (x : Act) : Type 0 where
+pub record Parts (s : Station) (ok : Bool) (now : Float) (d l : Due) (a : ℕ) (here : Bool) (k : Member) (b : ℕ) (c : Member) (v : Wait) (u : Totals) (r : Round) (x : Act) : Type 0 where
   pub due : d ≡ due_of s.wait s.round.closed now
   pub late : l ≡ late_of d ok
-  pub first : a ≡ index_of l.slot
-  pub member : here ≡ is_member s.used l.slot
+  pub first : a ≡ index_of (slot_of l)
+  pub member : here ≡ is_member s.used (slot_of l)
   pub missed : k ≡ late_member (get_or s.members a no_member) l here
-  pub second : b ≡ index_of l.relayfor
+  pub second : b ≡ index_of (relay_of l)
   pub source : c ≡ late_source s.hears s.used (get_or (set s.members a k) b no_member) l
   pub wait : v ≡ late_wait s.wait l
   pub totals : u ≡ late_totals s.totals l (silent_at s.settings.misslimit (get_or s.members a no_member)) (silent_at s.settings.misslimit k)
   pub round : r ≡ late_round s.round l s.settings now
-  pub act : x ≡ act_in l.quiet r s.used now
+  pub act : x ≡ act_in (is_quiet l) r s.used now
 
-module _ (s : Station) (ok : Bool) (now : Float) {d : Due} {l : Late} {a : ℕ} {here : Bool} {k : Member} {b : ℕ} {c : Member} {v : Wait} {u : Totals} {r : Round} {x : Act}
+module _ (s : Station) (ok : Bool) (now : Float) {d l : Due} {a : ℕ} {here : Bool} {k : Member} {b : ℕ} {c : Member} {v : Wait} {u : Totals} {r : Round} {x : Act}
     (p : Parts s ok now d l a here k b c v u r x) where
-  abbrev late_in : Late
+  abbrev late_in : Due
   late_in = late_of (due_of s.wait s.round.closed now) ok
 
   late_is : l ≡ late_in
@@ -181,7 +180,7 @@ module _ (s : Station) (ok : Bool) (now : Float) {d : Due} {l : Late} {a : ℕ} 
   words_are : late_words l s.round.closeleft s.settings (get_or s.members a no_member) here ≡ late_says s late_in
   words_are = rw (p.member, p.first, late_is)
 
-  act_is : x ≡ act_in late_in.quiet (late_station s late_in now).round s.used now
+  act_is : x ≡ act_in (is_quiet late_in) (late_station s late_in now).round s.used now
   act_is = rw (p.act, p.round, late_is)
 
   pub next_said : (queue : List ℕ) (t : Station) (o₂ : List ℕ) (i₂ : ℕ) {q : Station} {o o₁ o₃ : List ℕ} {i i₁ i₃ : ℕ}

@@ -1,4 +1,4 @@
--- The code goes in one line through the station, with what is due as numbers; here that comes to the stages of `ncs_next`. Assumes nothing.
+-- The code goes in one line through the station; here that comes to the stages of `ncs_next`. Assumes nothing.
 use Rattle.std.proofs.Common.{◌≡◌, ℕ, zero, suc, ◌-◌, Bool, true, false, cond, not, ◌&&◌, ◌||◌, eqb, ltb, List, [], refl, ap, ◌∙◌, append_assoc, append-nil, arith, lt-ltb, ne_eqb, eqb-true, Option, Some, None}
 use mathlib.Core.Bool.{or-true}
 use lib.Ieee.{Float, lt, le}
@@ -28,7 +28,7 @@ use Rattle.next.specs.declared.Due.TheVariants.{Free, Quiet, Close, Again, Misse
 use Rattle.next.specs.declared.Act.{Act}
 use Rattle.next.specs.declared.Act.TheVariants as act
 use Rattle.next.specs.Next.{silent, spoke, after, directed_by, word_by, poll_stage, drawn, draw_stage, rerouted_stage, reroute_stage, list_stage, round_end, brought_forward, act_of, act_by, act_stage, window_stage, close_stage, again_stage, missed_event, turn_over_in, missed_stage, due_turn, due_of, by_due, ncs_next}
-use Rattle.next.specs.Code.Decision.{said_of, said_after, no_late, late_reply, late_by, late_of, late_members, late_station, late_says, late_then, forward_to, rerouted_then, rerouting_of, list_then, round_then, stage_by, may_poll, front_of, word_or, word_for, word_then, poll_then, rest_of, next_straight}
+use Rattle.next.specs.Code.Decision.{said_of, said_after, late_of, late_members, late_station, late_says, late_then, forward_to, rerouted_then, rerouting_of, list_then, round_then, stage_by, may_poll, front_of, word_or, word_for, word_then, poll_then, rest_of, next_straight}
 use Rattle.next.proofs.Keeps.{acks_busy, reroute_wait, list_busy, unsent}
 
 -- ### Tests
@@ -220,57 +220,57 @@ counted_if : (b : Bool) (s : Station) (slot : ℕ) (m : Member) → with_counted
 counted_if true s slot m = refl
 counted_if false s slot m = rw tally_same (member_again s slot)
 
-late_quiet : (s : Station) (now : Float) (queue : List ℕ) → late_then s (no_late true false) now queue ≡ said s []
+late_quiet : (s : Station) (now : Float) (queue : List ℕ) → late_then s Quiet now queue ≡ said s []
 late_quiet s now queue =
-    rest_quiet (late_station s (no_late true false) now) now queue ∙ ap (λ (t : Station). said t []) (stored_still s 255 63)
+    rest_quiet (late_station s Quiet now) now queue ∙ ap (λ (t : Station). said t []) (stored_still s 63 63)
 
-late_free : (s : Station) (now : Float) (queue : List ℕ) → is_idle s.wait.turn ≡ true → late_then s (no_late false false) now queue ≡ said_of (window_stage s now queue)
+late_free : (s : Station) (now : Float) (queue : List ℕ) → is_idle s.wait.turn ≡ true → late_then s Free now queue ≡ said_of (window_stage s now queue)
 late_free s now queue e =
-    rest_window (with_totals (late_members s (no_late false false)) (tallied s (member_at s 255) (member_at s 255))) now queue e
-    ∙ ap (λ (t : Station). said_of (window_stage t now queue)) (stored_still s 255 63)
+    rest_window (with_totals (late_members s Free) (tallied s (member_at s 63) (member_at s 63))) now queue e
+    ∙ ap (λ (t : Station). said_of (window_stage t now queue)) (stored_still s 63 63)
 
 left_or : (n : ℕ) → ltb 0 n ≡ not (eqb n 0)
 left_or zero = refl
 left_or (suc n) = rw (lt-ltb 0 (suc n) (omega arith), ne_eqb (suc n) 0 (λ q. omega arith))
 
-abbrev close_with : Station → Float → Bool → Said
-close_with s now b =
-    said_after (cond b (tiny_words k_close 0 s.settings.beaconlevel) [])
-    (said (with_round s (cond b (with_txat (with_closing s.round s.round.closed (s.round.closeleft - 1)) (plus now s.settings.maxburst)) s.round)) [])
+abbrev close_with : Station → Float → Bool → Bool → Said
+close_with s now none left =
+    said_after (cond none [] (tiny_words k_close 0 s.settings.beaconlevel))
+    (said (with_round s (cond left (with_txat (with_closing s.round s.round.closed (s.round.closeleft - 1)) (plus now s.settings.maxburst)) s.round)) [])
 
 close_by : (s : Station) (now : Float) (b : Bool)
-    → close_with s now (not b) ≡ said_of (cond b (silent s) (spoke (said (with_round s (with_txat (with_closing s.round s.round.closed (s.round.closeleft - 1)) (plus now s.settings.maxburst))) (tiny_words k_close 0 s.settings.beaconlevel))))
+    → close_with s now b (not b) ≡ said_of (cond b (silent s) (spoke (said (with_round s (with_txat (with_closing s.round s.round.closed (s.round.closeleft - 1)) (plus now s.settings.maxburst))) (tiny_words k_close 0 s.settings.beaconlevel))))
 close_by s now true = refl
 close_by s now false = refl
 
-late_close : (s : Station) (now : Float) (queue : List ℕ) → late_then s (no_late true true) now queue ≡ said_of (close_stage s now)
+late_close : (s : Station) (now : Float) (queue : List ℕ) → late_then s Close now queue ≡ said_of (close_stage s now)
 unfolding close_stage
 late_close s now queue =
-    ap (said_after (late_says s (no_late true true))) (rest_quiet (late_station s (no_late true true) now) now queue)
-    ∙ ap (λ (t : Station). said_after (late_says s (no_late true true)) (said (with_round t (late_station s (no_late true true) now).round) [])) (stored_still s 255 63)
-    ∙ ap (close_with s now) (left_or s.round.closeleft) ∙ close_by s now (eqb s.round.closeleft 0)
+    ap (said_after (late_says s Close)) (rest_quiet (late_station s Close now) now queue)
+    ∙ ap (λ (t : Station). said_after (late_says s Close) (said (with_round t (late_station s Close now).round) [])) (stored_still s 63 63)
+    ∙ ap (close_with s now (eqb s.round.closeleft 0)) (left_or s.round.closeleft) ∙ close_by s now (eqb s.round.closeleft 0)
 
-late_again : (r : Reply) (s : Station) (now : Float) (queue : List ℕ) → late_then s (late_reply r true) now queue ≡ said_of (again_stage r s)
+late_again : (r : Reply) (s : Station) (now : Float) (queue : List ℕ) → late_then s (Again r) now queue ≡ said_of (again_stage r s)
 unfolding again_stage
 late_again r s now queue =
-    let l = late_reply r true in
+    let l = Again r in
     let t = late_station s l now in
     ap (said_after (late_says s l)) (rest_quiet t now queue) ∙ said_nil (said t (late_says s l))
     ∙ ap (λ (u : Station). said (one_poll (with_wait u t.wait)) (late_says s l)) (stored_still s r.slot r.relayfor)
 
-late_missed : (r : Reply) (s : Station) (now : Float) (queue : List ℕ) → late_then s (late_reply r false) now queue ≡ said_of (missed_stage r s now queue)
+late_missed : (r : Reply) (s : Station) (now : Float) (queue : List ℕ) → late_then s (Missed r) now queue ≡ said_of (missed_stage r s now queue)
 unfolding missed_stage
 late_missed r s now queue =
     let t = with_wait s idle_wait in
     let here = is_member s.used r.slot in
     let u = with_counted t r.slot (cond here (missed_one (member_at t r.slot)) (member_at t r.slot)) in
     ap (said_after (missed_event s r.slot))
-    (rest_window (with_totals (with_wait (late_members s (late_reply r false)) idle_wait) u.totals) now queue refl
+    (rest_window (with_totals (with_wait (late_members s (Missed r)) idle_wait) u.totals) now queue refl
     ∙ ap (λ (v : Station). said_of (window_stage v now queue))
     (stored_if (is_member s.used r.relayfor) u r.relayfor (turn_over s.hears s.used (member_at u r.relayfor) r.relayfor r.slot)
     ∙ ap (λ (v : Station). turn_over_in v r.slot r.relayfor) (counted_if here t r.slot (missed_one (member_at t r.slot)))))
 
-late_then_lem : (d : Due) (s : Station) (now : Float) (queue : List ℕ) → (d ≡ Free → is_idle s.wait.turn ≡ true) → late_then s (late_by d) now queue ≡ said_of (by_due d s now queue)
+late_then_lem : (d : Due) (s : Station) (now : Float) (queue : List ℕ) → (d ≡ Free → is_idle s.wait.turn ≡ true) → late_then s d now queue ≡ said_of (by_due d s now queue)
 late_then_lem Free s now queue e = late_free s now queue (e refl)
 late_then_lem Quiet s now queue e = late_quiet s now queue
 late_then_lem Close s now queue e = late_close s now queue

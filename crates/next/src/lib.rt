@@ -8,7 +8,7 @@ ghost use Rattle.net.specs.State.{with_number};
 ghost use Rattle.net.specs.Net.{Did, said};
 ghost use Rattle.bursts.specs.Reroute.{source_for};
 ghost use Rattle.next.specs.Next.{overdue_of, due_by, due_of, drawn, ncs_next};
-ghost use Rattle.next.specs.Code.Decision.{no_late, late_reply, late_of, late_words, late_member, late_source, late_wait, late_totals, close_round, forward_to, late_round, act_in, is_said, is_draw, spoken_of, rerouting_of, round_then, list_in, list_due, told_in, eventful_at, eventful_in, list_round, no_list_yet, may_poll, front_of, Ends, none_seen, look_at, to_of, asks_for, poll_wait};
+ghost use Rattle.next.specs.Code.Decision.{late_of, slot_of, relay_of, is_quiet, late_words, late_member, late_source, late_wait, late_polls, late_totals, close_round, forward_to, late_round, act_in, is_said, is_draw, spoken_of, rerouting_of, round_then, list_in, list_due, told_in, eventful_at, eventful_in, list_round, no_list_yet, may_poll, front_of, Ends, none_seen, look_at, to_of, asks_for, poll_wait};
 
 use bursts::{direct, reroute};
 use net::{Reply, Round, Settings, Station, Totals, Turn, Wait};
@@ -33,13 +33,14 @@ pub fn ncs_next(
     let q = s.round;
     let g = s.settings;
     let l = late_of(due_of(w, q.closed, time), ok);
-    let i = net::index(l.slot);
+    let polled = slot_of(l);
+    let i = net::index(polled);
     let m = s.members[i];
-    let here = net::is_member(s.used, l.slot);
+    let here = net::is_member(s.used, polled);
     *at = put_late(o, *at, l, q.closeleft, g, m, here);
     let k = late_member(m, l, here);
     s.members[i] = k;
-    let a = net::index(l.relayfor);
+    let a = net::index(relay_of(l));
     let b = s.members[a];
     let c = late_source(&s.hears, s.used, b, l);
     s.members[a] = c;
@@ -50,7 +51,7 @@ pub fn ncs_next(
     s.totals = u;
     let r = late_round(q, l, g, time);
     s.round = r;
-    let act = act_of(l.quiet, r, s.used, time);
+    let act = act_of(is_quiet(l), r, s.used, time);
     if is_said(act) {
         let said = spoken(s, act, time, o, at);
         s.round = said;
@@ -149,131 +150,134 @@ fn due_of(w: Wait, closed: bool, time: f64) -> Due
     }
 }
 
-// What is due as numbers: the reply that did not come (from slot 255 for none), its first poll or its second, or closing; `quiet`: the
-// decision ends here.
-#[derive(Clone, Copy)]
-struct Late {
-    slot: u8,
-    relayfor: u8,
-    turnbursts: u8,
-    again: bool,
-    missed: bool,
-    closing: bool,
-    quiet: bool,
-}
-
-fn no_late(quiet: bool, closing: bool) -> Late
-    ensures { result ≡ no_late quiet closing }
-{
-    Late {
-        slot: 255,
-        relayfor: wire::ALL,
-        turnbursts: 0,
-        again: false,
-        missed: false,
-        closing: closing,
-        quiet: quiet,
-    }
-}
-
-fn late_reply(r: Reply, again: bool) -> Late
-    ensures { result ≡ late_reply r again }
-{
-    Late {
-        slot: r.slot,
-        relayfor: r.relayfor,
-        turnbursts: r.turnbursts,
-        again: again,
-        missed: !again,
-        closing: false,
-        quiet: again,
-    }
-}
-
 // Where not `ok`, nothing is done.
-fn late_of(d: Due, ok: bool) -> Late
+fn late_of(d: Due, ok: bool) -> Due
     ensures { result ≡ late_of d ok }
 {
-    if !ok {
-        return no_late(true, false);
-    }
+    if ok { d } else { Due::Quiet }
+}
+
+// The slot of the reply that did not come; 63, which is no slot, for none.
+fn slot_of(d: Due) -> u8
+    ensures { result ≡ slot_of d }
+{
     match d {
-        Due::Free => no_late(false, false),
-        Due::Quiet => no_late(true, false),
-        Due::Close => no_late(true, true),
-        Due::Again(r) => late_reply(r, true),
-        Due::Missed(r) => late_reply(r, false),
+        Due::Again(r) => r.slot,
+        Due::Missed(r) => r.slot,
+        Due::Free | Due::Quiet | Due::Close => wire::ALL,
     }
+}
+
+// Whose traffic it was to forward; 63 for none.
+fn relay_of(d: Due) -> u8
+    ensures { result ≡ relay_of d }
+{
+    match d {
+        Due::Again(r) => r.relayfor,
+        Due::Missed(r) => r.relayfor,
+        Due::Free | Due::Quiet | Due::Close => wire::ALL,
+    }
+}
+
+// The decision ends here.
+fn is_quiet(d: Due) -> bool
+    ensures { result ≡ is_quiet d }
+{
+    matches!(d, Due::Quiet | Due::Close | Due::Again(_))
 }
 
 // K_CLOSE, the poll once more in the most robust waveform, or event 3.
 fn put_late(
     o: &mut [u32],
     at: usize,
-    l: Late,
+    d: Due,
     left: u32,
     g: Settings,
     m: Member,
     here: bool,
 ) -> usize
-    ensures { Wrote o.old at (late_words l left g m here) o.new result }
+    ensures { Wrote o.old at (late_words d left g m here) o.new result }
 {
-    if l.closing & (0 < left) {
-        return out::put_tiny(o, at, wire::K_CLOSE, 0, g.beaconlevel as u32);
+    match d {
+        Due::Close => {
+            if left == 0 {
+                return at;
+            }
+            out::put_tiny(o, at, wire::K_CLOSE, 0, g.beaconlevel as u32)
+        }
+        Due::Again(r) => bursts::poll_burst(g, here, m, r.slot, r.relayfor, true, o, at),
+        Due::Missed(r) => {
+            if !here {
+                return at;
+            }
+            out::put_missed(o, at, r.slot as usize)
+        }
+        Due::Free | Due::Quiet => at,
     }
-    if l.again {
-        return bursts::poll_burst(g, here, m, l.slot, l.relayfor, true, o, at);
-    }
-    if l.missed & here {
-        return out::put_missed(o, at, l.slot as usize);
-    }
-    at
 }
 
-fn late_member(m: Member, l: Late, here: bool) -> Member
-    ensures { result ≡ late_member m l here }
+fn late_member(m: Member, d: Due, here: bool) -> Member
+    ensures { result ≡ late_member m d here }
 {
-    if l.missed & here {
-        return roster::missed_one(m);
+    match d {
+        Due::Missed(_) => {
+            if here {
+                return roster::missed_one(m);
+            }
+            m
+        }
+        Due::Free | Due::Quiet | Due::Close | Due::Again(_) => m,
     }
-    m
 }
 
-fn late_source(hears: &[u8; 3844], used: u64, m: Member, l: Late) -> Member
-    ensures { result ≡ late_source hears.now used m l }
+fn late_source(hears: &[u8; 3844], used: u64, m: Member, d: Due) -> Member
+    ensures { result ≡ late_source hears.now used m d }
 {
-    if l.missed & net::is_member(used, l.relayfor) {
-        return relay::turn_over(hears, used, m, l.relayfor, l.slot);
+    match d {
+        Due::Missed(r) => {
+            if net::is_member(used, r.relayfor) {
+                return relay::turn_over(hears, used, m, r.relayfor, r.slot);
+            }
+            m
+        }
+        Due::Free | Due::Quiet | Due::Close | Due::Again(_) => m,
     }
-    m
 }
 
-fn late_wait(w: Wait, l: Late) -> Wait
-    ensures { result ≡ late_wait w l }
+fn late_wait(w: Wait, d: Due) -> Wait
+    ensures { result ≡ late_wait w d }
 {
-    if l.again {
-        let r = Reply {
-            slot: l.slot,
-            relayfor: l.relayfor,
-            tries: 1,
-            turnbursts: l.turnbursts,
-        };
-        return net::waiting(r, None);
+    match d {
+        Due::Again(r) => {
+            let again = Reply {
+                slot: r.slot,
+                relayfor: r.relayfor,
+                tries: 1,
+                turnbursts: r.turnbursts,
+            };
+            net::waiting(again, None)
+        }
+        Due::Missed(_) => net::idle(),
+        Due::Free | Due::Quiet | Due::Close => w,
     }
-    if l.missed {
-        return net::idle();
-    }
-    w
 }
 
-fn late_totals(t: Totals, l: Late, before: bool, after: bool) -> Totals
-    ensures { result ≡ late_totals t l before after }
+// The polls sent, with the one once more.
+fn late_polls(polls: u32, d: Due) -> u32
+    ensures { result ≡ late_polls polls d }
+{
+    match d {
+        Due::Again(_) => bits::one_more(polls),
+        Due::Free | Due::Quiet | Due::Close | Due::Missed(_) => polls,
+    }
+}
+
+fn late_totals(t: Totals, d: Due, before: bool, after: bool) -> Totals
+    ensures { result ≡ late_totals t d before after }
 {
     let mut k = t;
     k.silent = roster::tally(t.silent, before, after);
-    if l.again {
-        k.polls = bits::one_more(t.polls);
-    }
+    k.polls = late_polls(t.polls, d);
     k
 }
 
@@ -303,16 +307,19 @@ fn forward(r: Round, soon: f64) -> Round
 }
 
 // The round after the first stages: closing counts down, and past the window the next beacon may come forward.
-fn late_round(r: Round, l: Late, g: Settings, time: f64) -> Round
-    ensures { result ≡ late_round r l g time }
+fn late_round(r: Round, d: Due, g: Settings, time: f64) -> Round
+    ensures { result ≡ late_round r d g time }
 {
-    if l.closing {
-        return close_round(r, time + g.maxburst);
+    match d {
+        Due::Close => close_round(r, time + g.maxburst),
+        Due::Quiet | Due::Again(_) => r,
+        Due::Free | Due::Missed(_) => {
+            if time < r.windowend {
+                return r;
+            }
+            forward(r, time + g.quickbeacon)
+        }
     }
-    if l.quiet | (time < r.windowend) {
-        return r;
-    }
-    forward(r, time + g.quickbeacon)
 }
 
 // What is to be done, in the source's order.

@@ -1,40 +1,41 @@
-use Rattle.std.proofs.Common.{◌≡◌, ℕ, true, false, cond, List, [], sym, ◌∙◌, arith}
+use Rattle.std.proofs.Common.{◌≡◌, ℕ, Bool, true, false, cond, List, [], sym, ap, ◌∙◌, arith}
 use Rattle.net.specs.declared.Station.{Station}
-use Rattle.net.specs.Net.{Did, said}
+use Rattle.net.specs.State.{index_of}
+use Rattle.net.specs.Net.{Did, said, is_member}
 use Rattle.net.proofs.Laws.{index_lt}
 use Rattle.bursts.specs.Reroute.{source_for}
 use Rattle.bursts.proofs.Directing.{directed_lt}
 use Rattle.bursts.proofs.Saying.{did_as}
 use Rattle.next.specs.Next.{ncs_next}
-use Rattle.next.specs.Code.Decision.{word_then}
+use Rattle.next.specs.Code.Decision.{act_in, word_then}
 use Rattle.next.proofs.Looks.{looking_start, looking_turn, looked, to_is, source_is}
 use Rattle.next.proofs.Calls.{did_none, not_said, spoken_did, not_draw, is_draw_lem, stage_by_did, laid, none_did, direct_did, poll_did, next_said}
 use Rattle.next.proofs.ncs_next.Goals as goal
 use Rattle.next.proofs.ncs_next.Goals.{After-front, then-asks, else-asks, then-is_said, else-is_said, then-is_draw, else-is_draw}
 
 pub offset_bounds-s-i : goal.offset_bounds-s-i
-offset_bounds-s-i c = omega (arith, rw (← c.index-i.ensures) at (index_lt c.late_of-l.result.slot))
+offset_bounds-s-i c = omega (arith, rw (← c.index-i.ensures) at (index_lt c.slot_of-polled.result))
 
 pub bounds-s-i : goal.bounds-s-i
-bounds-s-i c = omega (arith, rw (← c.index-i.ensures) at (index_lt c.late_of-l.result.slot))
+bounds-s-i c = omega (arith, rw (← c.index-i.ensures) at (index_lt c.slot_of-polled.result))
 
 pub offset_bounds-s-i-2 : goal.offset_bounds-s-i-2
-offset_bounds-s-i-2 c = omega (arith, rw (← c.index-i.ensures) at (index_lt c.late_of-l.result.slot))
+offset_bounds-s-i-2 c = omega (arith, rw (← c.index-i.ensures) at (index_lt c.slot_of-polled.result))
 
 pub bounds-s-i-2 : goal.bounds-s-i-2
-bounds-s-i-2 c = omega (arith, rw (← c.index-i.ensures) at (index_lt c.late_of-l.result.slot))
+bounds-s-i-2 c = omega (arith, rw (← c.index-i.ensures) at (index_lt c.slot_of-polled.result))
 
 pub offset_bounds-s-a : goal.offset_bounds-s-a
-offset_bounds-s-a c = omega (arith, rw (← c.index-a.ensures) at (index_lt c.late_of-l.result.relayfor))
+offset_bounds-s-a c = omega (arith, rw (← c.index-a.ensures) at (index_lt c.relay_of.result))
 
 pub bounds-s-a : goal.bounds-s-a
-bounds-s-a c = omega (arith, rw (← c.index-a.ensures) at (index_lt c.late_of-l.result.relayfor))
+bounds-s-a c = omega (arith, rw (← c.index-a.ensures) at (index_lt c.relay_of.result))
 
 pub offset_bounds-s-a-2 : goal.offset_bounds-s-a-2
-offset_bounds-s-a-2 c = omega (arith, rw (← c.index-a.ensures) at (index_lt c.late_of-l.result.relayfor))
+offset_bounds-s-a-2 c = omega (arith, rw (← c.index-a.ensures) at (index_lt c.relay_of.result))
 
 pub bounds-s-a-2 : goal.bounds-s-a-2
-bounds-s-a-2 c = omega (arith, rw (← c.index-a.ensures) at (index_lt c.late_of-l.result.relayfor))
+bounds-s-a-2 c = omega (arith, rw (← c.index-a.ensures) at (index_lt c.relay_of.result))
 
 pub loop-j-init : goal.loop-j-init
 loop-j-init c = rw c.none_seen-seen.ensures (looking_start _ _ _ c.end_of-end.ensures.most)
@@ -80,15 +81,15 @@ before c p =
     (record {
       due = c.due_of.ensures;
       late = c.late_of-l.ensures;
-      first = c.index-i.ensures;
-      member = c.is_member-here.ensures;
+      first = c.index-i.ensures ∙ ap index_of c.slot_of-polled.ensures;
+      member = c.is_member-here.ensures ∙ ap (is_member a.s.used) c.slot_of-polled.ensures;
       missed = c.late_member-k.ensures;
-      second = c.index-a.ensures;
+      second = c.index-a.ensures ∙ ap index_of c.relay_of.ensures;
       source = c.late_source-c.ensures;
       wait = c.late_wait-v.ensures;
       totals = c.late_totals-u.ensures;
       round = c.late_round-r.ensures;
-      act = c.act_of-act.ensures;
+      act = c.act_of-act.ensures ∙ ap (λ (b : Bool). act_in b c.late_round-r.result a.s.used a.time) c.is_quiet.ensures;
     })
     a.queue.now
     c.if-is_draw.s

@@ -1,17 +1,13 @@
 -- Assumes nothing.
-use Rattle.std.proofs.Common.{sym, ◌∙◌}
-use Rattle.bits.proofs.Lists.{cond_true, cond_false}
-use Rattle.out.proofs.Laws.{wrote_none, wrote_as}
+use Rattle.std.proofs.Common.{⊎_elim, eq-eqb}
+use Rattle.out.proofs.Laws.{wrote_none}
 use Rattle.next.proofs.put_late.Goals as goal
 
-pub returns-then-l-left : goal.returns-then-l-left
-returns-then-l-left c = wrote_as c.put_tiny.ensures (sym (cond_true _ _ _ c.if-l-left.true))
+pub returns-then-left-eq0 : goal.returns-then-left-eq0
+returns-then-left-eq0 c = rw (c.in-Close.is, eq-eqb _ _ c.if-left-eq0.true) (wrote_none _ _)
 
-pub returns-then-l : goal.returns-then-l
-returns-then-l c = wrote_as c.poll_burst.ensures (sym (cond_false _ _ _ c.if-l-left.false ∙ cond_true _ _ _ c.if-l.true))
+pub returns-then-not-here : goal.returns-then-not-here
+returns-then-not-here c = rw (c.in-Missed.is, c.if-not-here.true) (wrote_none _ _)
 
-pub returns-then-l-here : goal.returns-then-l-here
-returns-then-l-here c = wrote_as c.put_missed.ensures (sym (cond_false _ _ _ c.if-l-left.false ∙ cond_false _ _ _ c.if-l.false ∙ cond_true _ _ _ c.if-l-here.true))
-
-pub returns : goal.returns
-returns c = wrote_as (wrote_none _ _) (sym (cond_false _ _ _ c.if-l-left.false ∙ cond_false _ _ _ c.if-l.false ∙ cond_false _ _ _ c.if-l-here.false))
+pub returns-in-Free : goal.returns-in-Free
+returns-in-Free c = ⊎_elim (λ e. rw e (wrote_none _ _)) (λ e. rw e (wrote_none _ _)) c.in-Free.is

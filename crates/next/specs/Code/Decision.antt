@@ -1,4 +1,4 @@
--- ncs_next of ncs.rs as the code goes: one line through the station, with what is due as numbers. The proof shows that it comes to the stages of `Next`.
+-- ncs_next of ncs.rs as the code goes: one line through the station. The proof shows that it comes to the stages of `Next`.
 use Rattle.std.specs.Prelude.{◌≡◌, ℕ, ◌+◌, ◌-◌, ◌%◌, ◌<◌, ◌≤◌, Bool, true, false, cond, not, ◌&&◌, ◌||◌, List, [], ◌∷◌, ◌++◌, get_or, ◌==◌, nat_lt, slice_index_or, slice_set, Float, Option, Some, None}
 use Rattle.std.specs.Float.{nan, binary32}
 use Rattle.std.specs.Float.Ieee.{add, lt}
@@ -19,7 +19,6 @@ use Rattle.net.specs.declared.Station.{Station}
 use Rattle.net.specs.declared.Settings.{Settings}
 use Rattle.net.specs.declared.Round.{Round}
 use Rattle.net.specs.declared.Totals.{Totals}
-use Rattle.net.specs.declared.Reply.{Reply}
 use Rattle.net.specs.declared.Turn.TheVariants.{Waiting}
 use Rattle.net.specs.declared.Wait.{Wait}
 use Rattle.net.specs.State.{index_of, member_at, with_member, with_wait, with_round, with_totals, with_txat, with_closing, with_activity, with_nextbeacon, with_rxsent, with_rxdirty, with_polls, with_silent}
@@ -32,7 +31,6 @@ use Rattle.next.specs.declared.Due.{Due}
 use Rattle.next.specs.declared.Due.TheVariants.{Free, Quiet, Close, Again, Missed}
 use Rattle.next.specs.declared.Act.{Act}
 use Rattle.next.specs.declared.Act.TheVariants as act
-use Rattle.next.specs.declared.Late.{Late}
 use Rattle.next.specs.declared.Seen.{Seen}
 use Rattle.next.specs.Next.{Decision, due_of, act_of, poll_of, drawn}
 
@@ -44,50 +42,77 @@ said_of d = said d.station d.words
 abbrev pub said_after : List ℕ → Said → Said
 said_after ws x = said x.station (ws ++ x.words)
 
--- ---- what is due, as numbers
+-- ---- what is due
 
-abbrev pub no_late : Bool → Bool → Late
-no_late quiet closing =
-    record { slot = 255; relayfor = 63; turnbursts = 0; again = false; missed = false; closing = closing; quiet = quiet }
+abbrev pub late_of : Due → Bool → Due
+late_of d ok = cond ok d Quiet
 
-abbrev pub late_reply : Reply → Bool → Late
-late_reply r again =
-    record { slot = r.slot; relayfor = r.relayfor; turnbursts = r.turnbursts; again = again; missed = not again; closing = false; quiet = again }
+-- the slot of the reply that did not come; 63, which is no slot, for none
+abbrev pub slot_of : Due → ℕ
+slot_of Free = 63
+slot_of Quiet = 63
+slot_of Close = 63
+slot_of (Again r) = r.slot
+slot_of (Missed r) = r.slot
 
-abbrev pub late_by : Due → Late
-late_by Free = no_late false false
-late_by Quiet = no_late true false
-late_by Close = no_late true true
-late_by (Again r) = late_reply r true
-late_by (Missed r) = late_reply r false
+-- whose traffic it was to forward; 63 for none
+abbrev pub relay_of : Due → ℕ
+relay_of Free = 63
+relay_of Quiet = 63
+relay_of Close = 63
+relay_of (Again r) = r.relayfor
+relay_of (Missed r) = r.relayfor
 
-abbrev pub late_of : Due → Bool → Late
-late_of d ok = cond ok (late_by d) (no_late true false)
+-- the decision ends here
+abbrev pub is_quiet : Due → Bool
+is_quiet Free = false
+is_quiet Quiet = true
+is_quiet Close = true
+is_quiet (Again r) = true
+is_quiet (Missed r) = false
 
 -- ---- close and timeout
 
-abbrev pub late_words : Late → ℕ → Settings → Member → Bool → List ℕ
-late_words l left g m here =
-    cond (l.closing && nat_lt 0 left) (tiny_words k_close 0 g.beaconlevel)
-    (cond l.again (poll_burst g here m l.slot l.relayfor true) (cond (l.missed && here) (missed_word l.slot ∷ []) []))
+abbrev pub late_words : Due → ℕ → Settings → Member → Bool → List ℕ
+late_words Free left g m here = []
+late_words Quiet left g m here = []
+late_words Close left g m here = cond (left == 0) [] (tiny_words k_close 0 g.beaconlevel)
+late_words (Again r) left g m here = poll_burst g here m r.slot r.relayfor true
+late_words (Missed r) left g m here = cond here (missed_word r.slot ∷ []) []
 
-abbrev pub late_member : Member → Late → Bool → Member
-late_member m l here = cond (l.missed && here) (missed_one m) m
+abbrev pub late_member : Member → Due → Bool → Member
+late_member m Free here = m
+late_member m Quiet here = m
+late_member m Close here = m
+late_member m (Again r) here = m
+late_member m (Missed r) here = cond here (missed_one m) m
 
-abbrev pub late_source : List ℕ → ℕ → Member → Late → Member
-late_source hears used m l =
-    cond (l.missed && is_member used l.relayfor) (turn_over hears used m l.relayfor l.slot) m
+abbrev pub late_source : List ℕ → ℕ → Member → Due → Member
+late_source hears used m Free = m
+late_source hears used m Quiet = m
+late_source hears used m Close = m
+late_source hears used m (Again r) = m
+late_source hears used m (Missed r) = cond (is_member used r.relayfor) (turn_over hears used m r.relayfor r.slot) m
 
-abbrev pub late_wait : Wait → Late → Wait
-late_wait w l =
-    cond l.again
-    (wait_of (Waiting (record { slot = l.slot; relayfor = l.relayfor; tries = 1; turnbursts = l.turnbursts })) None)
-    (cond l.missed idle_wait w)
+abbrev pub late_wait : Wait → Due → Wait
+late_wait w Free = w
+late_wait w Quiet = w
+late_wait w Close = w
+late_wait w (Again r) =
+    wait_of (Waiting (record { slot = r.slot; relayfor = r.relayfor; tries = 1; turnbursts = r.turnbursts })) None
+late_wait w (Missed r) = idle_wait
+
+-- the polls sent, with the one once more
+abbrev pub late_polls : ℕ → Due → ℕ
+late_polls polls Free = polls
+late_polls polls Quiet = polls
+late_polls polls Close = polls
+late_polls polls (Again r) = stop (polls + 1)
+late_polls polls (Missed r) = polls
 
 -- the member that was polled was silent before, and is after
-abbrev pub late_totals : Totals → Late → Bool → Bool → Totals
-late_totals t l before after =
-    with_silent (cond l.again (with_polls t (stop (t.polls + 1))) t) (tally t.silent before after)
+abbrev pub late_totals : Totals → Due → Bool → Bool → Totals
+late_totals t d before after = with_silent (with_polls t (late_polls t.polls d)) (tally t.silent before after)
 
 abbrev pub close_round : Round → Float → Round
 close_round r at = cond (nat_lt 0 r.closeleft) (with_txat (with_closing r r.closed (r.closeleft - 1)) at) r
@@ -95,32 +120,38 @@ close_round r at = cond (nat_lt 0 r.closeleft) (with_txat (with_closing r r.clos
 abbrev pub forward_to : Round → Float → Round
 forward_to r soon = cond r.activity (with_nextbeacon (with_activity r false) (least r.nextbeacon soon)) r
 
-abbrev pub late_round : Round → Late → Settings → Float → Round
-late_round r l g now =
-    cond l.closing (close_round r (plus now g.maxburst))
-    (cond (l.quiet || lt now r.windowend) r (forward_to r (plus now g.quickbeacon)))
+-- past the window the next beacon may come forward
+abbrev pub window_round : Round → Settings → Float → Round
+window_round r g now = cond (lt now r.windowend) r (forward_to r (plus now g.quickbeacon))
+
+abbrev pub late_round : Round → Due → Settings → Float → Round
+late_round r Free g now = window_round r g now
+late_round r Quiet g now = r
+late_round r Close g now = close_round r (plus now g.maxburst)
+late_round r (Again x) g now = r
+late_round r (Missed x) g now = window_round r g now
 
 -- the member that was polled
-abbrev pub late_first : Station → Late → Station
-late_first s l =
-    with_member s l.slot (late_member (member_at s l.slot) l (is_member s.used l.slot))
+abbrev pub late_first : Station → Due → Station
+late_first s d =
+    with_member s (slot_of d) (late_member (member_at s (slot_of d)) d (is_member s.used (slot_of d)))
 
 -- then the one whose traffic it was to forward
-abbrev pub late_members : Station → Late → Station
-late_members s l =
-    with_member (late_first s l) l.relayfor (late_source s.hears s.used (member_at (late_first s l) l.relayfor) l)
+abbrev pub late_members : Station → Due → Station
+late_members s d =
+    with_member (late_first s d) (relay_of d) (late_source s.hears s.used (member_at (late_first s d) (relay_of d)) d)
 
-abbrev pub late_station : Station → Late → Float → Station
-late_station s l now =
-    let m = member_at s l.slot in
-    let k = late_member m l (is_member s.used l.slot) in
-    let totals = late_totals s.totals l (silent_at s.settings.misslimit m) (silent_at s.settings.misslimit k) in
-    with_round (with_totals (with_wait (late_members s l) (late_wait s.wait l)) totals) (late_round s.round l s.settings now)
+abbrev pub late_station : Station → Due → Float → Station
+late_station s d now =
+    let m = member_at s (slot_of d) in
+    let k = late_member m d (is_member s.used (slot_of d)) in
+    let totals = late_totals s.totals d (silent_at s.settings.misslimit m) (silent_at s.settings.misslimit k) in
+    with_round (with_totals (with_wait (late_members s d) (late_wait s.wait d)) totals) (late_round s.round d s.settings now)
 
 -- K_CLOSE, the poll once more, or event 3
-abbrev pub late_says : Station → Late → List ℕ
-late_says s l =
-    late_words l s.round.closeleft s.settings (member_at s l.slot) (is_member s.used l.slot)
+abbrev pub late_says : Station → Due → List ℕ
+late_says s d =
+    late_words d s.round.closeleft s.settings (member_at s (slot_of d)) (is_member s.used (slot_of d))
 
 -- ---- what is to be done
 
@@ -285,9 +316,9 @@ abbrev pub rest_of : Bool → Station → Float → List ℕ → Said
 rest_of quiet s now queue =
     poll_then (act_in quiet s.round s.used now) (stage_by (act_in quiet s.round s.used now) s now) queue
 
--- by what is late
-abbrev pub late_then : Station → Late → Float → List ℕ → Said
-late_then s l now queue = said_after (late_says s l) (rest_of l.quiet (late_station s l now) now queue)
+-- by what is due
+abbrev pub late_then : Station → Due → Float → List ℕ → Said
+late_then s d now queue = said_after (late_says s d) (rest_of (is_quiet d) (late_station s d now) now queue)
 
 -- where not `ok`, nothing is done
 unfoldable pub next_straight : Station → Bool → Float → List ℕ → Said
