@@ -1,16 +1,12 @@
 // Admission (admit of ncs.rs): a known boat keeps its slot, an unknown one takes the lowest free slot.
 #![tactic(auto)]
 
-ghost use Rattle.std.specs.Prelude.{◌≡◌, cond, []};
-ghost use Rattle.out.specs.Encode.{Wrote};
-ghost use Rattle.queue.specs.Queues.{empty_queue};
-ghost use Rattle.roster.specs.Members.{new_member};
-ghost use Rattle.admit.specs.Admission.{find_call, seat_of, is_full, slot_of, admit_events, leads_to, via_for};
-ghost use Rattle.admit.specs.Code.Seats.{is_free};
+ghost use Rattle.std.specs.Prelude.{◌≡◌};
+ghost use Rattle.out.specs.Outputs.{Writes};
+ghost use Rattle.admit.specs.Admission.{find_call, seat_of, is_full, admit_events, leads_to, via_for};
 
 use net::Station;
-use queue::Queue;
-use roster::Member;
+use out::Output;
 
 // Where a boat with some call sits, or would sit.
 #[derive(Clone, Copy)]
@@ -53,63 +49,15 @@ pub fn is_full(seat: Seat) -> bool
     matches!(seat, Seat::Full)
 }
 
-// A newcomer's seat.
-pub fn is_free(seat: Seat) -> bool
-    ensures { result ≡ is_free seat }
-{
-    matches!(seat, Seat::Free(_))
-}
-
-// The slot of a seat; 255 for none.
-pub fn slot_of(seat: Seat) -> u8
-    ensures { result ≡ slot_of seat }
-{
-    match seat {
-        Seat::Known(i) | Seat::Free(i) => i,
-        Seat::Full => 255,
-    }
-}
-
 // Events 4, where there is a relay, and 1.
-fn admit_events(o: &mut [u32], at: usize, slot: u8, via: u8) -> usize
-    ensures { Wrote o.old at (admit_events slot via) o.new result }
+pub fn admit_events(o: &mut Output, slot: u8, via: u8)
+    ensures { Writes o.old (admit_events slot via) o.new }
 {
-    let direct = via == wire::ALL;
-    if direct {
-        return out::put_event(o, at, 1, slot as usize, via);
+    let i = usize::from(slot);
+    if via != wire::ALL {
+        o.event(4, i, via);
     }
-    let next = out::put_event(o, at, 4, slot as usize, via);
-    out::put_event(o, next, 1, slot as usize, via)
-}
-
-// ---- what a boat at its seat changes, part by part: the functions that hold the station store it
-
-pub fn events_if(o: &mut [u32], at: usize, fresh: bool, slot: u8, via: u8) -> usize
-    ensures { Wrote o.old at (cond fresh (admit_events slot via) []) o.new result }
-{
-    if fresh {
-        return admit_events(o, at, slot, via);
-    }
-    at
-}
-
-// The member in its slot; via is the relay of a newcomer, 63 for none.
-pub fn member_if(m: Member, fresh: bool, call: [u8; 7], via: u8, time: f64) -> Member
-    ensures { result ≡ cond fresh (new_member call via time) m }
-{
-    if fresh {
-        return roster::new_member(call, via, time);
-    }
-    m
-}
-
-pub fn queue_if(q: Queue, fresh: bool) -> Queue
-    ensures { result ≡ cond fresh empty_queue q }
-{
-    if fresh {
-        return queue::empty();
-    }
-    q
+    o.event(1, i, via);
 }
 
 // Whether the relays from slot `from` on lead to slot `to`.
@@ -132,14 +80,14 @@ fn leads_to(s: Station, from: u8, to: u8) -> bool
     false
 }
 
-// The relay of a newcomer at this seat: one that leads back to its own slot is not written.
-pub fn via_for(s: Station, seat: Seat, via: u8) -> u8
-    ensures { result ≡ via_for s seat via }
+// The relay of a newcomer in this slot: one that leads back to the slot is not written.
+pub fn via_for(s: Station, slot: u8, via: u8) -> u8
+    ensures { result ≡ via_for s (Seat.Free slot) via }
 {
     if via == wire::ALL {
         return via;
     }
-    if leads_to(s, via, slot_of(seat)) {
+    if leads_to(s, via, slot) {
         wire::ALL
     } else {
         via

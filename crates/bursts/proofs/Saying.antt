@@ -5,33 +5,34 @@ use mathlib.Core.List.{List, [], ◌++◌}
 use Prim.Native.Nat.{ℕ, zero, suc, ◌+◌, ◌-◌, ◌<◌, ◌≤◌}
 use Rattle.bits.specs.Loop.{fold}
 use Rattle.bits.proofs.Loops.{fold_turn, fold_end}
-use Rattle.out.specs.Encode.{Wrote}
-use Rattle.out.proofs.Laws.{then, wrote_none, wrote_as}
+use Rattle.out.specs.declared.Output.{Output}
+use Rattle.out.specs.Outputs.{Writes}
+use Rattle.out.proofs.Laws.{writes_then, writes_none, writes_as}
 use Rattle.net.specs.declared.Station.{Station}
-use Rattle.net.specs.Net.{Said, said, Did}
+use Rattle.net.specs.Net.{Said, said, Does}
 
--- a loop that was lent the output l from at on, before its turn i: the words so far are written, and the turns left give the whole
-pub record Going (f : ℕ → Said → Said) (all : Said) (l : List ℕ) (at i : ℕ) (s : Station) (m : List ℕ) (j : ℕ) : Type 0 where
+-- a loop that was lent the output o, before its turn i: the words so far are written, and the turns left give the whole
+pub record Going (f : ℕ → Said → Said) (all : Said) (o : Output) (i : ℕ) (s : Station) (m : Output) : Type 0 where
   pub words : List ℕ
-  pub wrote : Wrote l at words m j
+  pub wrote : Writes o words m
   pub rest : fold f (62 - i) i (said s words) ≡ all
 
-module _ (f : ℕ → Said → Said) (all : Said) (l : List ℕ) (at : ℕ) where
-  pub going_start : (s : Station) → fold f 62 0 (said s []) ≡ all → Going f all l at 0 s l at
-  going_start s e = record { words = []; wrote = wrote_none l at; rest = e }
+module _ (f : ℕ → Said → Said) (all : Said) (o : Output) where
+  pub going_start : (s : Station) → fold f 62 0 (said s []) ≡ all → Going f all o 0 s o
+  going_start s e = record { words = []; wrote = writes_none o; rest = e }
 
-  pub going_turn : {i j k : ℕ} {s t : Station} {m r : List ℕ} → {vs : List ℕ} → i < 62 → Wrote m j vs r k → Going f all l at i s m j → ((ws : List ℕ) → f i (said s ws) ≡ said t (ws ++ vs)) → Going f all l at (i + 1) t r k
-  going_turn {i} {j} {k} {s} {t} {m} {r} {vs} h w g e =
+  pub going_turn : {i : ℕ} {s t : Station} {m r : Output} → {vs : List ℕ} → i < 62 → Writes m vs r → Going f all o i s m → ((ws : List ℕ) → f i (said s ws) ≡ said t (ws ++ vs)) → Going f all o (i + 1) t r
+  going_turn {i} {s} {t} {m} {r} {vs} h w g e =
       record {
         words = g.words ++ vs;
-        wrote = then g.wrote w;
+        wrote = writes_then g.wrote w;
         rest = rw (← e g.words) (sym (fold_turn f 62 i (said s g.words) h) ∙ g.rest);
       }
 
-  pub going_end : {i j : ℕ} {s : Station} {m : List ℕ} → 62 ≤ i → Going f all l at i s m j → Did all s l at m j
-  going_end {i} {j} {s} {m} h g =
+  pub going_end : {i : ℕ} {s : Station} {m : Output} → 62 ≤ i → Going f all o i s m → Does all s o m
+  going_end {i} {s} {m} h g =
       let e : said s g.words ≡ all = sym (fold_end f 62 i (said s g.words) h) ∙ g.rest in
-      record { station = ap (λ (x : Said). x.station) e; wrote = wrote_as g.wrote (ap (λ (x : Said). x.words) e) }
+      record { station = ap (λ (x : Said). x.station) e; wrote = writes_as g.wrote (ap (λ (x : Said). x.words) e) }
 
 -- words said before
 abbrev pub ahead : List ℕ → Said → Said
@@ -43,9 +44,9 @@ fold_ahead f ws e zero i x = refl
 fold_ahead f ws e (suc n) i x = rw (e i x) (fold_ahead f ws e n (suc i) (f i x))
 
 -- one function after another
-pub did_then : {d : Said} {r t : Station} {l m o : List ℕ} {i j k : ℕ} {e : Said} → Did d r l i m j → Did e t m j o k → Did (ahead d.words e) t l i o k
-did_then p q = record { station = q.station; wrote = then p.wrote q.wrote }
+pub does_then : {d : Said} {r t : Station} {o m n : Output} {e : Said} → Does d r o m → Does e t m n → Does (ahead d.words e) t o n
+does_then p q = record { station = q.station; wrote = writes_then p.wrote q.wrote }
 
 -- the same, said otherwise
-pub did_as : {d e : Said} {r : Station} {l m : List ℕ} {i j : ℕ} → Did d r l i m j → d ≡ e → Did e r l i m j
-did_as p e = rw e at p
+pub does_as : {d e : Said} {r : Station} {o m : Output} → Does d r o m → d ≡ e → Does e r o m
+does_as p e = rw e at p

@@ -1,6 +1,6 @@
 -- ncs.rs: the entries of `ack_frames`, of C_TREE and of the received list, `reach_level`, and the level that the weakest of some members can hear.
 -- Entries stand one after the other as bytes: an acknowledgement has six, a pair of the tree two, a list entry three.
-use Rattle.std.specs.Prelude.{◌≡◌, ℕ, ◌/◌, ◌%◌, Bool, not, cond, ◌&&◌, ◌||◌, List, [], ◌∷◌, ◌++◌, eqb, ltb, length, get_or, take}
+use Rattle.std.specs.Prelude.{ℕ, ◌/◌, ◌%◌, Bool, not, cond, ◌&&◌, ◌||◌, List, [], ◌∷◌, ◌++◌, eqb, ltb, length, get_or}
 use Rattle.bits.specs.Loop.{fold, any}
 use Rattle.bits.specs.Mask.{has_bit, with_bit}
 use Rattle.wire.specs.Call.{pack_call}
@@ -111,9 +111,3 @@ direct_at s i lev =
 
 unfoldable pub least_direct : Station → ℕ
 least_direct s = or_floor (fold (direct_at s) 62 0 17)
-
--- rows of bytes in a lent array: its first n are bs. What stands in it past n is undecided: no burst has it, since whoever reads the array is handed n and
--- reads those n bytes alone
-pub record Filled (bs : List ℕ) (rows : List ℕ) (n : ℕ) : Type 0 where
-  pub front : take n rows ≡ bs
-  pub count : n ≡ length bs

@@ -3,11 +3,12 @@
 
 ghost use Rattle.std.specs.Prelude.{◌≡◌, [], ◌∷◌, ◌++◌, ◌-◌, ◌/◌, ◌%◌, replicate, take, set};
 ghost use Rattle.bits.specs.Mask.{lowest_bit};
-ghost use Rattle.out.specs.Encode.{Wrote};
-ghost use Rattle.net.specs.Net.{Did};
+ghost use Rattle.out.specs.Outputs.{Writes};
+ghost use Rattle.net.specs.Net.{Does};
 ghost use Rattle.bursts.specs.Bursts.{poll_extra, poll_kind, poll_level, poll_burst, floor_if, ack_frames, acks_burst, beacon_lasts, first_ms, len_ms, name_payload, beacon_payload, beacon_size, without_found, beyond, window_end, beacon_of, tell_of, tell_all, rx_list_burst};
 
 use net::{Round, Settings, Station};
+use out::Output;
 use roster::Member;
 
 pub mod direct;
@@ -21,11 +22,11 @@ fn poll_extra(slot: u8, relayfor: u8, cap: u32, burst: u8) -> u32
     ensures { result ≡ poll_extra slot relayfor cap burst }
 {
     let c = cap.min(15);
-    let s = slot as u32 % 64;
+    let s = u32::from(slot) % 64;
     if relayfor == wire::ALL {
-        return s + 64 * c + 1024 * (burst as u32 % 4);
+        return s + 64 * c + 1024 * (u32::from(burst) % 4);
     }
-    s + 64 * (relayfor as u32 % 64) + 4096 * c
+    s + 64 * (u32::from(relayfor) % 64) + 4096 * c
 }
 
 fn poll_kind(relayfor: u8) -> u32
@@ -45,6 +46,7 @@ fn poll_level(g: Settings, m: Member, robust: bool) -> u32
 }
 
 // The poll of a slot, whose member is m where there is one; robust: at the floor.
+// (A flag beside the member: callers read it in place and ask for the flag themselves, so an Option would only copy it once more.)
 pub fn poll_burst(
     g: Settings,
     here: bool,
@@ -52,19 +54,19 @@ pub fn poll_burst(
     slot: u8,
     relayfor: u8,
     robust: bool,
-    o: &mut [u32],
-    at: usize,
-) -> usize
-    ensures { Wrote o.old at (poll_burst g here m slot relayfor robust) o.new result }
+    o: &mut Output,
+)
+    ensures { Writes o.old (poll_burst g here m slot relayfor robust) o.new }
 {
     let kind = poll_kind(relayfor);
     if here {
         let snrup = m.snrup;
         let cap = net::level_for(g, snrup);
         let lev = poll_level(g, m, robust);
-        return out::put_tiny(o, at, kind, poll_extra(slot, relayfor, cap, m.burst), lev);
+        o.tiny(kind, poll_extra(slot, relayfor, cap, m.burst), lev);
+        return;
     }
-    out::put_tiny(o, at, kind, poll_extra(slot, relayfor, 0, 0), 0)
+    o.tiny(kind, poll_extra(slot, relayfor, 0, 0), 0);
 }
 
 // ---- acks_burst
@@ -77,22 +79,20 @@ fn floor_if(strays: u64, lev: u32) -> u32
 }
 
 // Slot assignments, and the relay of every leaf among them or moved, in words; the round behind them.
-pub fn acks_round(s: Station, o: &mut [u32], at: &mut usize) -> Round
-    ensures { (result ≡ (acks_burst s).station.round) × Wrote o.old at.old (acks_burst s).words o.new at.new }
+pub fn acks_round(s: Station, o: &mut Output) -> Round
+    ensures { (result ≡ (acks_burst s).station.round) × Writes o.old (acks_burst s).words o.new }
 {
     let members = net::members(s.used);
     let known = bits::both(s.round.toack, members);
     let moved = bits::both(s.round.treenews, members);
     let all = bits::either(known, moved);
     let strays = bits::minus(bits::either(s.round.toack, s.round.treenews), members);
-    let mut acks = [0u8; 372];
-    let n = rows::ack_rows(s, known, &mut acks);
-    let mut tree = [0u8; 372];
-    let k = rows::tree_rows(s, all, moved, &mut tree);
+    let acks = rows::ack_rows(s, known);
+    let tree = rows::tree_rows(s, all, moved);
     let lev = floor_if(strays, rows::least_reach(s, all));
-    let a = out::put_head(o, *at, 0, 0, 0, lev);
-    let b = out::put_chunks(o, a, wire::C_ACKS, &acks, n, 18);
-    *at = out::put_chunks(o, b, wire::C_TREE, &tree, k, 20);
+    o.head(0, 0, 0, lev);
+    o.chunks(wire::C_ACKS, acks.as_slice(), 18);
+    o.chunks(wire::C_TREE, tree.as_slice(), 20);
     let mut r = s.round;
     r.toack = 0;
     r.treenews = 0;
@@ -100,10 +100,10 @@ pub fn acks_round(s: Station, o: &mut [u32], at: &mut usize) -> Round
 }
 
 // The acknowledgements are sent.
-pub fn acks_burst(mut s: Station, o: &mut [u32], at: &mut usize) -> Station
-    ensures { Did (acks_burst s) result o.old at.old o.new at.new }
+pub fn acks_burst(mut s: Station, o: &mut Output) -> Station
+    ensures { Does (acks_burst s) result o.old o.new }
 {
-    let r = acks_round(s, o, at);
+    let r = acks_round(s, o);
     s.round = r;
     let w = s.wait;
     let v = net::sending(w);
@@ -205,13 +205,6 @@ fn window_end(g: Settings, time: f64, acks: usize) -> f64
         + g.replyslack
 }
 
-// C_ACKS frames of three entries.
-fn put_acks(o: &mut [u32], at: usize, rows: &[u8; 744], n: usize) -> usize
-    ensures { Wrote o.old at (ack_frames (take n rows.now)) o.new result }
-{
-    out::put_chunks(o, at, wire::C_ACKS, rows, n, 18)
-}
-
 // The mask without its lowest slot.
 fn without_lowest(mask: u64) -> u64
     ensures { result ≡ without_found (lowest_bit mask) mask }
@@ -235,17 +228,16 @@ fn beyond_nine(mask: u64) -> u64
 
 // The beacon in words, and the round behind it: a check-in window opens, and those waiting for acknowledgement whom it does not list go on
 // waiting.
-pub fn beacon_round(s: Station, time: f64, o: &mut [u32], at: &mut usize) -> Round
-    ensures { (result ≡ (beacon_of s time).station.round) × Wrote o.old at.old (beacon_of s time).words o.new at.new }
+pub fn beacon_round(s: Station, time: f64, o: &mut Output) -> Round
+    ensures { (result ≡ (beacon_of s time).station.round) × Writes o.old (beacon_of s time).words o.new }
 {
     let g = s.settings;
-    let mut acks = [0u8; 744];
-    let n = rows::beacon_rows(s, &mut acks);
-    let more = (n + 17) / 18;
+    let acks = rows::beacon_rows(s);
+    let more = (acks.len() + 17) / 18;
     let p = beacon_payload(g, more);
-    let a = out::put_head(o, *at, 0, 0, 0, g.beaconlevel as u32);
-    let b = out::put_ctrl(o, a, &p, beacon_size(g));
-    *at = put_acks(o, b, &acks, n);
+    o.head(0, 0, 0, u32::from(g.beaconlevel));
+    o.ctrl(&p, beacon_size(g));
+    o.chunks(wire::C_ACKS, acks.as_slice(), 18);
     let mut r = s.round;
     r.nextbeacon = time + g.beaconevery;
     r.windowend = window_end(g, time, more);
@@ -277,20 +269,19 @@ fn tell_all(mut s: Station) -> Station
 }
 
 // The end-of-round received list, when it has news; what it would tell is noted all the same.
-pub fn rx_list_burst(mut s: Station, o: &mut [u32], at: &mut usize) -> Station
-    ensures { Did (rx_list_burst s) result o.old at.old o.new at.new }
+pub fn rx_list_burst(mut s: Station, o: &mut Output) -> Station
+    ensures { Does (rx_list_burst s) result o.old o.new }
 {
-    let mut list = [0u8; 372];
-    let n = rows::list_rows(s, &mut list);
+    let list = rows::list_rows(s);
     let news = s.round.rxdirty | rows::any_holes(s);
     let lev = rows::least_direct(s);
     s.round.rxdirty = false;
     s = tell_all(s);
-    if !news | (n == 0) {
+    if !news | list.is_empty() {
         return s;
     }
-    let a = out::put_head(o, *at, 0, 0, 0, lev);
-    *at = out::put_chunks(o, a, wire::C_RXLIST, &list, n, 21);
+    o.head(0, 0, 0, lev);
+    o.chunks(wire::C_RXLIST, list.as_slice(), 21);
     let w = s.wait;
     let v = net::sending(w);
     s.wait = v;

@@ -1,13 +1,15 @@
 // Rerouting (reroute of ncs.rs): leaves that are heard directly leave their relay; leaves whose relay or exchange failed take the best that
 // hears them. And what one look over the members finds for the choice of relays.
 ghost use Rattle.std.specs.Prelude.{◌≡◌, cond, [], ◌∷◌, eqb};
-ghost use Rattle.out.specs.Encode.{Wrote, event_word};
+ghost use Rattle.out.specs.Encode.{event_word};
+ghost use Rattle.out.specs.Outputs.{Writes};
 ghost use Rattle.roster.specs.Members.{rerouted_to};
-ghost use Rattle.net.specs.Net.{Did, said};
+ghost use Rattle.net.specs.Net.{Does, said};
 ghost use Rattle.bursts.specs.Reroute.{able_of, survey_of, promoted_by, recent_by, promote_all, leaves_of, is_down, relay_from, move_all, reroute_of};
 
 use level::Level;
 use net::Station;
+use out::Output;
 use recent::Recent;
 use roster::{Member, relay};
 
@@ -60,23 +62,21 @@ fn recent_by(r: Recent, x: Level) -> Recent
 }
 
 // Event 5, where a boat moved.
-fn routed(moved: bool, slot: usize, via: u8, o: &mut [u32], at: usize) -> usize
-    ensures { Wrote o.old at (cond moved (event_word 5 slot via ∷ []) []) o.new result }
+fn routed(moved: bool, slot: usize, via: u8, o: &mut Output)
+    ensures { Writes o.old (cond moved (event_word 5 slot via ∷ []) []) o.new }
 {
     if moved {
-        return out::put_event(o, at, 5, slot, via);
+        o.event(5, slot, via);
     }
-    at
 }
 
 // Leaves that the station hears well directly leave their relay.
-fn promote(mut s: Station, o: &mut [u32], at: &mut usize) -> Station
-    ensures { Did (promote_all s) result o.old at.old o.new at.new }
+fn promote(mut s: Station, o: &mut Output) -> Station
+    ensures { Does (promote_all s) result o.old o.new }
 {
     let g = s.settings;
     let th = g.thresholds;
     let floor = th[0] + g.margin;
-    let mut end = *at;
     for i in 0..62 {
         let m = s.members[i];
         let x = relay::promotable(bits::has(s.used, i), m, floor);
@@ -91,9 +91,8 @@ fn promote(mut s: Station, o: &mut [u32], at: &mut usize) -> Station
         s.totals.silent = silent;
         let news = bits::with_if(s.round.treenews, moved, i);
         s.round.treenews = news;
-        end = routed(moved, i, wire::ALL, o, end);
+        routed(moved, i, wire::ALL, o);
     }
-    *at = end;
     s
 }
 
@@ -123,7 +122,7 @@ fn new_relay(hears: &[u8; 3844], able: u64, down: bool, via: u8, c: u8, floor: f
     ensures { result ≡ cond down (relay_from hears.now able via c floor) 63 }
 {
     if down {
-        let others = bits::without(bits::without(able, c as usize), via as usize);
+        let others = bits::without(bits::without(able, usize::from(c)), usize::from(via));
         return relay::best_high(hears, others, c, floor);
     }
     wire::ALL
@@ -140,12 +139,11 @@ fn moved_to(m: Member, r: u8) -> Member
 }
 
 // Each leaf in turn, as the earlier ones left the roster. A boat that moved can relay no more.
-fn move_leaves(mut s: Station, leaves: u64, able: u64, o: &mut [u32], at: &mut usize) -> Station
+fn move_leaves(mut s: Station, leaves: u64, able: u64, o: &mut Output) -> Station
     requires { (leaves ≡ leaves_of s) × (able ≡ able_of s) }
-    ensures { Did (move_all (said s [])) result o.old at.old o.new at.new }
+    ensures { Does (move_all (said s [])) result o.old o.new }
 {
     let mut free = able;
-    let mut end = *at;
     for c in 0..62 {
         let m = s.members[c];
         let v = net::index(m.via);
@@ -161,20 +159,19 @@ fn move_leaves(mut s: Station, leaves: u64, able: u64, o: &mut [u32], at: &mut u
         free = bits::without_if(free, moved, c);
         let news = bits::with_if(s.round.treenews, moved, c);
         s.round.treenews = news;
-        end = routed(moved, c, r, o, end);
+        routed(moved, c, r, o);
     }
-    *at = end;
     s
 }
 
-pub fn reroute(s: Station, o: &mut [u32], at: &mut usize) -> Station
-    ensures { Did (reroute_of s) result o.old at.old o.new at.new }
+pub fn reroute(s: Station, o: &mut Output) -> Station
+    ensures { Does (reroute_of s) result o.old o.new }
 {
-    let t = promote(s, o, at);
+    let t = promote(s, o);
     let leaves = leaves_of(t);
     if leaves == 0 {
         return t;
     }
     let v = survey(t);
-    move_leaves(t, leaves, v.able, o, at)
+    move_leaves(t, leaves, v.able, o)
 }

@@ -1,118 +1,96 @@
 // What bursts say of the members: rows of bytes, and the level that the weakest of them can hear. The station is only read.
-ghost use Rattle.std.specs.Prelude.{◌≡◌, [], ◌∷◌, ◌+◌, ◌≤◌, ◌%◌, length, take};
+ghost use Rattle.std.specs.Prelude.{◌≡◌, [], ◌∷◌, ◌++◌, ◌+◌, ◌≤◌, ◌%◌};
+ghost use Rattle.arrayvec.specs.ArrayVec.{array_vec_len};
 ghost use Rattle.wire.specs.Call.{pack_call};
 ghost use Rattle.stream.specs.Window.{bitmap_of};
 ghost use Rattle.bursts.specs.Bursts.{beacon_rows};
-ghost use Rattle.bursts.specs.Rows.{Filled, row_where, ack_rows, ack_rows_on, tree_rows, list_rows, any_holes, least_if, or_floor, reach_by, least_reach, least_direct};
+ghost use Rattle.bursts.specs.Rows.{ack_rows, ack_rows_on, tree_rows, list_rows, any_holes, least_if, or_floor, reach_by, least_reach, least_direct};
 
+use arrayvec::ArrayVec;
 use net::{Settings, Station};
 use roster::Member;
 use stream::window;
 
+// The rows of 62 slots, of six bytes at most.
+pub type Rows = ArrayVec<u8, 372>;
+
 // Six bytes: the slot and its packed call.
-fn ack_row(rows: &mut [u8], n: usize, told: bool, m: Member, i: u8) -> usize
-    requires { n + 6 ≤ length rows.old }
-    ensures { Filled (row_where told (take n rows.old) (i ∷ pack_call m.call)) rows.new result }
+fn ack_row<const N: usize>(rows: &mut ArrayVec<u8, N>, m: Member, i: u8)
+    requires { array_vec_len rows.old + 6 ≤ N }
+    ensures { rows.new.items ≡ rows.old.items ++ i ∷ pack_call m.call }
 {
-    if told {
-        let call = m.call;
-        let p = wire::calls::pack_call(call);
-        rows[n] = i;
-        rows[n + 1] = p[0];
-        rows[n + 2] = p[1];
-        rows[n + 3] = p[2];
-        rows[n + 4] = p[3];
-        rows[n + 5] = p[4];
-        return n + 6;
+    rows.push(i);
+    for b in wire::calls::pack_call(m.call) {
+        rows.push(b);
     }
-    n
 }
 
-// The entries of ack_frames behind n bytes of them: slot and call of the members in the mask, `most` rows in all.
-fn ack_rows_on(s: Station, mask: u64, most: usize, rows: &mut [u8], from: usize) -> usize
-    requires { from + 372 ≤ length rows.old }
-    ensures { Filled (ack_rows_on s mask most (take from rows.old)) rows.new result }
+// The entries of ack_frames behind those that are there: slot and call of the members in the mask, `most` rows in all.
+fn ack_rows_on<const N: usize>(s: Station, mask: u64, most: usize, rows: &mut ArrayVec<u8, N>)
+    requires { array_vec_len rows.old + 372 ≤ N }
+    ensures { rows.new.items ≡ ack_rows_on s mask most rows.old.items }
 {
     let ms = s.members;
-    let mut n = from;
     for i in 0..62 {
-        let m = ms[i];
-        n = ack_row(rows, n, bits::has(mask, i) & (n / 6 < most), m, i as u8);
+        if bits::has(mask, i) & (rows.len() / 6 < most) {
+            ack_row(rows, ms[i], i as u8);
+        }
     }
-    n
 }
 
-pub fn ack_rows(s: Station, mask: u64, rows: &mut [u8; 372]) -> usize
-    ensures { Filled (ack_rows s mask 62) rows.new result }
+pub fn ack_rows(s: Station, mask: u64) -> Rows
+    ensures { result.items ≡ ack_rows s mask 62 }
 {
-    ack_rows_on(s, mask, 62, rows, 0)
+    let mut rows = Rows::new();
+    ack_rows_on(s, mask, 62, &mut rows);
+    rows
 }
 
 // Who the beacon lists: boats waiting for acknowledgement first, then others, nine in all.
-pub fn beacon_rows(s: Station, rows: &mut [u8; 744]) -> usize
-    ensures { Filled (beacon_rows s) rows.new result }
+pub fn beacon_rows(s: Station) -> ArrayVec<u8, 744>
+    ensures { result.items ≡ beacon_rows s }
 {
     let waiting = bits::both(s.round.toack, net::members(s.used));
     let others = bits::minus(s.used, s.round.toack);
-    let n = ack_rows_on(s, waiting, 9, rows, 0);
-    ack_rows_on(s, others, 9, rows, n)
+    let mut rows = ArrayVec::new();
+    ack_rows_on(s, waiting, 9, &mut rows);
+    ack_rows_on(s, others, 9, &mut rows);
+    rows
 }
 
-// Two bytes: a leaf and its relay, or a member that moved.
-fn tree_row(rows: &mut [u8], n: usize, told: bool, m: Member, i: u8) -> usize
-    requires { n + 2 ≤ length rows.old }
-    ensures { Filled (row_where told (take n rows.old) (i ∷ m.via ∷ [])) rows.new result }
-{
-    if told {
-        rows[n] = i;
-        rows[n + 1] = m.via;
-        return n + 2;
-    }
-    n
-}
-
-// The pairs of C_TREE: those in the mask that have a relay or are in `moved`.
-pub fn tree_rows(s: Station, mask: u64, moved: u64, rows: &mut [u8; 372]) -> usize
-    ensures { Filled (tree_rows s mask moved) rows.new result }
+// The pairs of C_TREE, a leaf and its relay: those in the mask that have a relay or are in `moved`.
+pub fn tree_rows(s: Station, mask: u64, moved: u64) -> Rows
+    ensures { result.items ≡ tree_rows s mask moved }
 {
     let ms = s.members;
-    let mut n: usize = 0;
+    let mut rows = Rows::new();
     for i in 0..62 {
-        let m = ms[i];
-        let told = bits::has(mask, i) & ((m.via != wire::ALL) | bits::has(moved, i));
-        n = tree_row(rows, n, told, m, i as u8);
+        let via = ms[i].via;
+        if bits::has(mask, i) & ((via != wire::ALL) | bits::has(moved, i)) {
+            rows.push(i as u8);
+            rows.push(via);
+        }
     }
-    n
+    rows
 }
 
-// Three bytes: the slot, the first message that is missing (mod 256) and which of the eight after it are there.
-fn list_row(rows: &mut [u8], n: usize, told: bool, m: Member, i: u8) -> usize
-    requires { n + 3 ≤ length rows.old }
-    ensures { Filled (row_where told (take n rows.old) (i ∷ (m.up.next % 256) ∷ bitmap_of m.up ∷ [])) rows.new result }
-{
-    if told {
-        let w = m.up;
-        let marks = window::bitmap(w);
-        rows[n] = i;
-        rows[n + 1] = (w.next % 256) as u8;
-        rows[n + 2] = marks;
-        return n + 3;
-    }
-    n
-}
-
-// The entries of the received list.
-pub fn list_rows(s: Station, rows: &mut [u8; 372]) -> usize
-    ensures { Filled (list_rows s) rows.new result }
+// The entries of the received list, three bytes each: the slot, the first message that is missing (mod 256) and which of the eight after
+// it are there.
+pub fn list_rows(s: Station) -> Rows
+    ensures { result.items ≡ list_rows s }
 {
     let ms = s.members;
-    let mut n: usize = 0;
+    let mut rows = Rows::new();
     for i in 0..62 {
         let m = ms[i];
-        let told = bits::has(s.used, i) & roster::is_news(m);
-        n = list_row(rows, n, told, m, i as u8);
+        if bits::has(s.used, i) & roster::is_news(m) {
+            let w = m.up;
+            rows.push(i as u8);
+            rows.push((w.next % 256) as u8);
+            rows.push(window::bitmap(w));
+        }
     }
-    n
+    rows
 }
 
 // Some member has whole messages past one that is missing.

@@ -1,6 +1,7 @@
 // Bursts of boats: words of a head and its frames.
 use crate::chance::Drawn;
 use net::Station;
+use out::Output;
 use std::alloc::{AllocError, Global};
 
 // A frame behind the words.
@@ -12,7 +13,12 @@ fn put_frame(
 ) -> Result<(), AllocError> {
     // Words 10 and 11, and 85 words 12 at most.
     let mut frame = [0u32; 87];
-    let n = out::put_frame(&mut frame, 0, flags, field, payload, payload.len());
+    let mut o = Output {
+        words: &mut frame,
+        at: 0,
+    };
+    o.frame(flags, field, payload, payload.len());
+    let n = o.at;
     words.extend(frame.iter().copied().take(n))?;
     Ok(())
 }
@@ -33,11 +39,10 @@ fn field_of(x: u32) -> u8 {
 
 // The boat whose reply is waited for, or any slot.
 fn speaker(s: Station, d: Drawn) -> u8 {
-    let p = net::polled_slot(s.wait);
-    if p < 62 && d.b % 4 != 0 {
-        return p;
+    match net::polled_slot(s.wait) {
+        Some(p) if d.b % 4 != 0 => p,
+        _ => (d.a % 62) as u8,
     }
-    (d.a % 62) as u8
 }
 
 fn checkin(words: &mut Vec<u32>, x: u32, y: u32) -> Result<(), AllocError> {

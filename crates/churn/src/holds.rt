@@ -36,18 +36,12 @@ impl fmt::Display for Fault {
 }
 
 fn unheard(x: Level) -> bool {
-    match x {
-        Level::Unheard => true,
-        Level::Decibels(_) => false,
-    }
+    matches!(x, Level::Unheard)
 }
 
 // A start has the clock 0 there.
 fn never(x: Option<f64>) -> bool {
-    match x {
-        None => true,
-        Some(d) => d == 0.0,
-    }
+    x.is_none_or(|d| d == 0.0)
 }
 
 fn no_links(m: Member) -> bool {
@@ -70,10 +64,8 @@ fn is_blank(m: Member) -> bool {
         && no_links(m)
         && no_messages(m)
         && m.via == 63
-        && !m.hascaps
-        && m.caps == 0
-        && !m.hasversion
-        && m.version == 0
+        && m.caps.is_none()
+        && m.version.is_none()
         && m.burst == 0
         && m.missed == 0
         && m.tried == 0

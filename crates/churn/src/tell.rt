@@ -21,24 +21,20 @@ pub struct Tally {
     fault: Option<(u32, Fault)>,
 }
 
-fn one_more(count: &mut u32) {
-    *count = count.saturating_add(1);
-}
-
 impl Tally {
     // A call and its answer.
     pub fn count(&mut self, call: Call, answer: Result<usize, Refusal>, out: &[u32]) {
         let Ok(n) = answer else {
-            one_more(&mut self.refused);
+            self.refused = bits::one_more(self.refused);
             return;
         };
         match call {
-            Call::SignOff => one_more(&mut self.signed),
-            Call::Admit => one_more(&mut self.admitted),
-            Call::NewBoat | Call::Idle | Call::Reply => one_more(&mut self.heard),
-            Call::Decide => one_more(&mut self.decided),
-            Call::Sent => one_more(&mut self.sent),
-            Call::Empty => one_more(&mut self.freed),
+            Call::SignOff => self.signed = bits::one_more(self.signed),
+            Call::Admit => self.admitted = bits::one_more(self.admitted),
+            Call::NewBoat | Call::Idle | Call::Reply => self.heard = bits::one_more(self.heard),
+            Call::Decide => self.decided = bits::one_more(self.decided),
+            Call::Sent => self.sent = bits::one_more(self.sent),
+            Call::Empty => self.freed = bits::one_more(self.freed),
         }
         for word in out.iter().take(n) {
             self.word(*word);
@@ -48,12 +44,12 @@ impl Tally {
     // A word returned.
     fn word(&mut self, word: u32) {
         match word >> 28 {
-            1 => one_more(&mut self.newcomers),
-            2 => one_more(&mut self.messages),
+            1 => self.newcomers = bits::one_more(self.newcomers),
+            2 => self.messages = bits::one_more(self.messages),
             _ => {}
         }
         if word / 2097152 == 1086 && matches!(word / 131072 % 16, 1 | 5) {
-            one_more(&mut self.polls);
+            self.polls = bits::one_more(self.polls);
         }
     }
 

@@ -91,7 +91,7 @@ fn room(d: &[f64; 1088], max: f64, level: usize) -> u8
     ensures { result ≡ room d.now max level }
 {
     for n in 1..64 {
-        let fits = d[64 * level + n as usize] <= max;
+        let fits = d[64 * level + usize::from(n)] <= max;
         if !fits {
             return n;
         }

@@ -7,15 +7,15 @@ use Rattle.driver.specs.declared.page.Page.{Page}
 use Rattle.driver.specs.Lines.{word_line, word_lines, byte_pairs, begun, written, line_on, lines_on}
 
 -- what a writer of `text` left of the page
-pub wrote_on : (p : Page) {bs u : List ℕ} {e : ℕ} → Wrote p.text p.end bs u e → record p { text = u; end = e } ≡ written p bs
+pub wrote_on : (p : Page) {bs u : List ℕ} {e : ℕ} → Wrote p.text.bytes p.text.end bs u e → record p { text = record { bytes = u; end = e } } ≡ written p bs
 unfolding written
 wrote_on p w = rw (w.out, w.end)
 
 pub written_then : (p : Page) (xs ys : List ℕ) → written (written p xs) ys ≡ written p (xs ++ ys)
 unfolding written
 written_then p xs ys =
-    let first : Wrote p.text p.end xs (written p xs).text (written p xs).end = record { out = refl; end = refl } in
-    let second : Wrote (written p xs).text (written p xs).end ys (written (written p xs) ys).text (written (written p xs) ys).end = record { out = refl; end = refl } in
+    let first : Wrote p.text.bytes p.text.end xs (written p xs).text.bytes (written p xs).text.end = record { out = refl; end = refl } in
+    let second : Wrote (written p xs).text.bytes (written p xs).text.end ys (written (written p xs) ys).text.bytes (written (written p xs) ys).text.end = record { out = refl; end = refl } in
     wrote_on p (then first second)
 
 pub written_four : (p : Page) (a b c d : List ℕ) → written (written (written (written p a) b) c) d ≡ written p (a ++ b ++ c ++ d)

@@ -52,11 +52,11 @@ abbrev pub line_from : ℕ → ℕ
 line_from n = cond (nat_lt n 57344) n 0
 
 unfoldable pub begun : Page → Page
-begun p = record p { end = line_from p.end }
+begun p = record p { text = record p.text { end = line_from p.text.end } }
 
 -- bytes behind what is gathered, as far as they fit
 unfoldable pub written : Page → List ℕ → Page
-written p bs = record p { text = sets p.text p.end bs; end = after (length p.text) p.end (length bs) }
+written p bs = record p { text = record { bytes = sets p.text.bytes p.text.end bs; end = after (length p.text.bytes) p.text.end (length bs) } }
 
 abbrev pub line_on : Page → List ℕ → Page
 line_on p bs = written (begun p) bs

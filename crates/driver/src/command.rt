@@ -1,7 +1,11 @@
 // The commands: what they ask of the station, and what is printed of it.
-ghost use Rattle.std.specs.Prelude.{◌≡◌, ◌≤◌};
+ghost use Rattle.std.specs.Prelude.{◌≡◌, ◌≤◌, [], length};
+ghost use Rattle.std.proofs.lemmas.List.Edits.{sets};
 ghost use Rattle.script.specs.Actions.{closed};
+ghost use Rattle.station.specs.Entries.{answered, heard_of, refused};
 ghost use Rattle.driver.specs.Commands.{kept_by, settled_by};
+ghost use Rattle.driver.specs.Lines.{lines_on};
+ghost use Rattle.driver.specs.Asked.{only_frame, length_ok, flags_of, store_of, received, admitted, started, reading_lines};
 
 use super::memory::Memory;
 use super::page::Page;
@@ -15,7 +19,7 @@ use words::Item;
 
 // How many bytes of the store the cells are, of those that there are.
 fn store_of(cells: usize, have: usize) -> usize
-    ensures { result ≤ have }
+    ensures { (result ≡ store_of cells have) × (result ≤ have) }
 {
     if 64 < cells {
         have
@@ -28,7 +32,9 @@ fn store_of(cells: usize, have: usize) -> usize
 
 // A landed message.
 #[inline(never)]
-pub fn read(s: &Station, c: Control, w: u32, store: &[u8], page: &mut Page) {
+pub fn read(s: &Station, c: Control, w: u32, store: &[u8], page: &mut Page)
+    ensures { page.new ≡ lines_on page.old (reading_lines s.now c w store.now) }
+{
     let z = store_of(c.cells, store.len());
     match station::read(*s, &store[..z], action::rest_of(w) as usize) {
         Ok(m) => page.message(m),
@@ -39,8 +45,10 @@ pub fn read(s: &Station, c: Control, w: u32, store: &[u8], page: &mut Page) {
 // ---- commands whose words follow
 
 // The flags, the field and the length of the one frame that the words are.
-pub fn only_frame(words: &[u32]) -> Option<(u32, u32, usize)> {
-    let i = words::item_at(words, 0);
+pub fn only_frame(words: &[u32]) -> Option<(u32, u32, usize)>
+    ensures { result ≡ only_frame words.now }
+{
+    let i = words::item_at(words);
     let Item::Frame { flags, field, len } = i else {
         return None;
     };
@@ -48,7 +56,9 @@ pub fn only_frame(words: &[u32]) -> Option<(u32, u32, usize)> {
 }
 
 // How long the payload of a command's frame is. A start may have the settings of the beacon's timing too.
-fn length_ok(command: Command, len: usize) -> bool {
+fn length_ok(command: Command, len: usize) -> bool
+    ensures { result ≡ length_ok command len }
+{
     match command {
         Command::Admit => len == 5,
         Command::Start => (len == 182) | (len == 199),
@@ -59,13 +69,17 @@ fn length_ok(command: Command, len: usize) -> bool {
 }
 
 // The flags of a command's one frame. Only an admission has flags.
-fn flags_of(words: &[u32], command: Command) -> Option<u32> {
+fn flags_of(words: &[u32], command: Command) -> Option<u32>
+    ensures { result ≡ flags_of command words.now }
+{
     let (flags, field, len) = only_frame(words)?;
     let bare = (flags == 0) | (command == Command::Admit);
     (bare & (field == 0) & length_ok(command, len)).then_some(flags)
 }
 
-fn malformed(s: &Station) -> Answered {
+fn malformed(s: &Station) -> Answered
+    ensures { result ≡ answered (refused 3 s.now []) 0 }
+{
     Answered {
         station: *s,
         answer: Err(Refusal::Words),
@@ -163,7 +177,7 @@ impl Message {
 
 // The slot of the first frame.
 fn post_slot(words: &[u32]) -> Option<u32> {
-    match words::item_at(words, 0) {
+    match words::item_at(words) {
         Item::Frame { flags, .. } => Some(flags),
         _ => None,
     }
@@ -176,8 +190,9 @@ fn message_of(words: &[u32], slot: u32) -> Option<Message> {
         len: 0,
     };
     let mut rest = words;
+    // A while: a step is as long as its frame.
     while !rest.is_empty() {
-        let i = words::item_at(rest, 0);
+        let i = words::item_at(rest);
         let Item::Frame { flags, field, len } = i else {
             return None;
         };
@@ -231,8 +246,12 @@ pub fn fill(s: &Station, w: u32, queue: &mut [u8; 126976]) -> Answered {
 
 // ---- receptions
 
-// A reception of the words that were kept for it.
-pub fn receive(s: Station, c: Control, memory: &mut Memory) -> Heard {
+// A reception of the words that were kept for it. (What the store is after it has no clause: how a part of an array that is lent comes back is not said
+// to the proof.)
+pub fn receive(s: Station, c: Control, memory: &mut Memory) -> Heard
+    ensures heard { result ≡ heard_of (received s c memory.old) (length memory.old.out) }
+    ensures out { memory.new.out ≡ sets memory.old.out 0 (received s c memory.old).words }
+{
     let store = &mut memory.store[..];
     let z = store_of(c.cells, store.len());
     let words = memory.words.as_slice();
@@ -242,19 +261,27 @@ pub fn receive(s: Station, c: Control, memory: &mut Memory) -> Heard {
 // ---- direct admissions and starts
 
 // A direct admission, of the words that were kept for it.
-pub fn admit(s: &Station, c: Control, words: &[u32], out: &mut [u32; 8192]) -> Answered {
+pub fn admit(s: &Station, c: Control, words: &[u32], out: &mut [u32; 8192]) -> Answered
+    ensures answered { result ≡ answered (admitted s.now c words.now (length out.old)) (length out.old) }
+    ensures out { out.new ≡ sets out.old 0 (admitted s.now c words.now (length out.old)).words }
+{
     let Some(flags) = flags_of(words, Command::Admit) else {
         return malformed(s);
     };
-    let b = words::five(words, 0, 0);
+    let b = words::five(words, 0);
     station::admit(*s, b, (flags % 256) as u8, c.now, out)
 }
 
 // A fresh start, of the words that were kept for it.
-pub fn start(s: &Station, memory: &Memory) -> Answered {
+pub fn start(s: &Station, memory: &Memory) -> Answered
+    ensures { result ≡ answered (started s.now memory.now) 0 }
+{
     let words = memory.words.as_slice();
     let p = words::payload(words, 0, 199);
-    if flags_of(words, Command::Start).is_none() || given::has_nan(&p) {
+    let Some(_) = flags_of(words, Command::Start) else {
+        return malformed(s);
+    };
+    if given::has_nan(&p) {
         return malformed(s);
     }
     let z = store_of(given::lent_cells(&p), memory.store.len());

@@ -1,6 +1,10 @@
 // What the programs `tape` (document 01, Words), `drive` and `panel` share: words in, the station's entry points, lines out.
 #![tactic(auto)]
 
+ghost use Rattle.std.specs.Prelude.{◌≡◌};
+ghost use Rattle.script.specs.Actions.{closed};
+ghost use Rattle.driver.specs.Lines.{answer_lines, heard_by, lines_on};
+
 use memory::{Memory, Words};
 use net::Station;
 use page::Page;
@@ -17,7 +21,7 @@ mod panel;
 
 // What a run of a program holds beside the station: the program's own values, what is lent and kept, and the text.
 #[derive(Drop)]
-pub struct Session {
+struct Session {
     control: Control,
     memory: Memory,
     page: Page,
@@ -35,7 +39,7 @@ fn word_at(b: &[u8], i: usize) -> u32 {
 impl Session {
     // The words of b, and the end of all words where `last`. The entry points that run most are called here, where the station is held: a function clears the
     // places of its own values when it begins, and a call between would copy the station. Shorter forms were tried and are slower (decision 26 of docs/DECISIONS.md).
-    pub fn feed(&mut self, s: Station, b: &[u8], last: bool) -> Station {
+    fn feed(&mut self, s: Station, b: &[u8], last: bool) -> Station {
         let mut u = s;
         for i in 0..b.len() / 4 + usize::from(last) {
             let w = word_at(b, i);
@@ -113,13 +117,19 @@ impl Session {
         }
     }
 
-    fn received(&mut self, mask: u64, a: Result<usize, Refusal>) {
+    fn received(&mut self, mask: u64, a: Result<usize, Refusal>)
+        ensures page { self.new.page ≡ lines_on self.old.page (heard_by self.old.control.drive self.old.memory.out mask a) }
+        ensures control { self.new.control ≡ closed self.old.control }
+    {
         let drive = self.control.drive;
         self.page.heard(drive, &self.memory.out, mask, a);
         self.control = action::closed(self.control);
     }
 
-    fn posted(&mut self, a: Result<usize, Refusal>) {
+    fn posted(&mut self, a: Result<usize, Refusal>)
+        ensures page { self.new.page ≡ lines_on self.old.page (answer_lines self.old.memory.out a) }
+        ensures control { self.new.control ≡ closed self.old.control }
+    {
         self.page.answer(&self.memory.out, a);
         self.control = action::closed(self.control);
     }
@@ -175,6 +185,7 @@ impl Session {
 }
 
 // The program `tape`, or `drive`, or `panel`, which takes all of `drive`'s commands, with the settings of `tape`. Were its first start refused, that alone would be printed.
+// (No clause can say what standard output gets.)
 pub fn run(from: Stdin, to: Stdout, drive: bool, panel: bool) {
     let r = station::start(preset::blank(), preset::tape_settings(), &[0; 64000]);
     let mut s = Session {
@@ -192,8 +203,10 @@ pub fn run(from: Stdin, to: Stdout, drive: bool, panel: bool) {
         },
         page: Page {
             to,
-            text: [0; 65536],
-            end: 0,
+            text: text::Buffer {
+                bytes: [0; 65536],
+                end: 0,
+            },
         },
     };
     match r.answer {

@@ -13,8 +13,7 @@ use std::io::Stdout;
 #[derive(Drop)]
 pub struct Page {
     pub to: Stdout,
-    pub text: [u8; 65536],
-    pub end: usize,
+    pub text: text::Buffer,
 }
 
 impl Page {
@@ -22,27 +21,27 @@ impl Page {
     pub fn begin(&mut self)
         ensures { self.new ≡ begun self.old }
     {
-        self.end = text::room(self.to, &self.text, self.end);
+        self.text.room(self.to);
     }
 
     pub fn put(&mut self, b: u8)
         ensures { self.new ≡ written self.old (b ∷ []) }
     {
-        self.end = text::put(&mut self.text, self.end, b);
+        self.text.put(b);
     }
 
     // The last `digits` hexadecimal digits of v, in capitals.
     fn big(&mut self, v: u64, digits: usize)
         ensures { self.new ≡ written self.old (digits_of false v digits) }
     {
-        self.end = text::put_big(&mut self.text, self.end, v, digits);
+        self.text.big(v, digits);
     }
 
     // In lower case.
     pub fn small(&mut self, v: u64, digits: usize)
         ensures { self.new ≡ written self.old (digits_of true v digits) }
     {
-        self.end = text::put_hex(&mut self.text, self.end, v, digits);
+        self.text.hex(v, digits);
     }
 
     // Two digits a byte.
@@ -50,7 +49,7 @@ impl Page {
         ensures { self.new ≡ written self.old (byte_pairs m.now) }
     {
         for x in m {
-            self.big(*x as u64, 2);
+            self.big(u64::from(*x), 2);
         }
     }
 
@@ -59,7 +58,7 @@ impl Page {
         ensures { self.new ≡ lines_on self.old (word_line w ∷ []) }
     {
         self.begin();
-        self.big(w as u64, 8);
+        self.big(u64::from(w), 8);
         self.put(b'\n');
     }
 
@@ -131,9 +130,9 @@ impl Page {
         self.put(b'\n');
     }
 
-    // What is gathered is written.
+    // What is gathered is written. (No clause can say what standard output gets.)
     pub fn flush(&self) {
-        text::flush(self.to, &self.text, self.end);
+        self.text.flush(self.to);
     }
 }
 
@@ -141,7 +140,7 @@ impl fmt::Write for Page {
     ghost write_str_gives = { λ p bs q. q ≡ written p bs };
 
     fn write_str(&mut self, s: &str) -> fmt::Result {
-        self.end = text::put_text(&mut self.text, self.end, s.as_bytes());
+        self.text.text(s.as_bytes());
         Ok(())
     }
 }

@@ -86,8 +86,8 @@ fn put_boat(page: &mut Page, e: &Entry, now: f64) -> fmt::Result {
     write!(page, ", level cap {}", e.cap)?;
     put_clock(page, e.lastheard, now)?;
     write!(page, ", missed {}, bytes in {}", e.missed, e.bytesin)?;
-    put_known(page, "capability", e.hascaps.then_some(e.caps))?;
-    put_known(page, "version", e.hasversion.then_some(e.version))
+    put_known(page, "capability", e.caps)?;
+    put_known(page, "version", e.version)
 }
 
 // The boat in a slot.
@@ -122,7 +122,7 @@ fn byte_of(x: u32) -> u8 {
 }
 
 // The answer to a question: 0 the silent boats, 1 the boat in the slot of bits 15-8, 2 how it hears the one of bits 23-16,
-// 4 its lowest level of late.
+// 4 its lowest level of late. (No clause: one would only say these lines once more.)
 #[inline(never)]
 pub fn asked(s: &Station, w: u32, now: f64, page: &mut Page) {
     let rest = action::rest_of(w);
@@ -167,7 +167,7 @@ fn put_bill(page: &mut Page, s: &Station, b: &Bill) -> fmt::Result {
     writeln!(page, "takings: {} cents", b.takings)
 }
 
-// The dues of the figures in the words.
+// The dues of the figures in the words. (No clause: one would only say these lines once more.)
 #[inline(never)]
 pub fn billed(s: &Station, words: &[u32], page: &mut Page) {
     let Some(n) = figures_in(words) else {

@@ -34,7 +34,7 @@ pub fn dues(s: Station, figures: &[u32]) -> Result<Bill, Refusal>
         let v = net::index(relay);
         charges[i] = cents;
         credits[v] += tenth_to(s.used, relay, cents);
-        takings += taking(relay, cents) as u64;
+        takings += u64::from(taking(relay, cents));
     }
     Ok(Bill {
         charges,

@@ -24,7 +24,7 @@ fn sum(half: u8, a: u8, n: u8) -> u32
     requires { 0 < half }
     ensures { result ≡ (a + n) % (2 * half) }
 {
-    (a as u32 + n as u32) % (2 * half as u32)
+    (u32::from(a) + u32::from(n)) % (2 * u32::from(half))
 }
 
 // a against b; none where neither is less and they differ.

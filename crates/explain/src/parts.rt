@@ -1,7 +1,7 @@
 // Small parts of a line.
 use std::fmt;
 
-// A level field: decibels plus 24 in the low six bits, 63 for nothing measured.
+// A level field: decibels plus 24 in the low six bits, 63 for nothing measured: a code on the air.
 #[derive(Clone, Copy)]
 pub struct Heard(pub u8);
 

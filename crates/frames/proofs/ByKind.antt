@@ -1,5 +1,6 @@
 -- A frame read by its kind, as the code does it, is the frame read by its flags and its first byte; a report's stores. Assumes nothing.
-use mathlib.Core.Path.{◌≡◌, refl, sym, ◌∙◌}
+use mathlib.Core.Path.{◌≡◌, refl, sym, ap, ◌∙◌}
+use Rattle.std.specs.Prelude.{Some}
 use mathlib.Core.Bool.{Bool, true, false, not, cond, ◌&&◌}
 use mathlib.Core.List.{List}
 use Prim.Native.Nat.{ℕ, ◌/◌, ◌%◌, ◌<◌, ◌≤◌}
@@ -24,7 +25,7 @@ use Rattle.frames.specs.Reading.{Reading, also_said}
 use Rattle.frames.specs.Pieces.{piece_frame}
 use Rattle.frames.specs.Control.{checkin_frame, report_frame, overheard_frame, kids_frame, forwarded_by, report_member, hear_pairs, report_station, u24}
 use Rattle.frames.specs.Frames.{control_by, control_frame, read_frame}
-use Rattle.frames.specs.Code.Frames.{frame_of, control_byte, byte_kind, control_kind, kind_of, read_by}
+use Rattle.frames.specs.Code.Frames.{frame_in, frame_of, control_byte, byte_kind, control_kind, kind_of, read_by}
 
 -- ### Kinds
 
@@ -61,18 +62,19 @@ module _ (a : Air) (f : Frame) (p : List ℕ) (x : Reading) where
   kind_by false true k y e = e
   kind_by false false k y e = refl
 
--- whatever stands at the head of the words l
-pub read_kind : (a : Air) (l : List ℕ) (i : Item) (x : Reading) → item_at l ≡ i
-    → read_by (kind_of (frame_of i) (byte_at l 0)) a (frame_of i) (payload (drop 2 l) (frame_of i).len) x ≡ read_frame a (heard_of i l) x
+-- the frame at the head of the words l
+pub read_kind : (a : Air) (l : List ℕ) (i : Item) (x : Reading) (f : Frame) → item_at l ≡ i → Some f ≡ frame_of i
+    → read_by (kind_of f (byte_at l 0)) a f (payload (drop 2 l) f.len) x ≡ read_frame a (heard_of i l) x
 unfolding read_frame frame_of kind_of
-read_kind a l item.End x e = refl
-read_kind a l item.Bad x e = refl
-read_kind a l item.Lost x e = refl
-read_kind a l (item.Frame flags field len) x e =
+read_kind a l item.End x f e q = let z : ◌≡◌ {A = ℕ} 0 1 = cc in absurd (omega arith)
+read_kind a l item.Bad x f e q = let z : ◌≡◌ {A = ℕ} 0 1 = cc in absurd (omega arith)
+read_kind a l item.Lost x f e q = let z : ◌≡◌ {A = ℕ} 0 1 = cc in absurd (omega arith)
+read_kind a l (item.Frame flags field len) x f e q =
     let p = payload (drop 2 l) len in
-    let f = frame_of (item.Frame flags field len) in
-    sym (kind_by a f p x (eqb (flags / 64) t_up) (eqb (flags / 64) t_ctrl) (control_kind len (byte_at l 0)) (control_frame a (flags % 64) p x)
-    (control_by_lem a f p x (byte_at l 0) (payload_length l flags field len e) (λ h. byte_in l len 0 h)))
+    let k : f ≡ frame_in flags field len = cc in
+    rw k
+    (sym (kind_by a (frame_in flags field len) p x (eqb (flags / 64) t_up) (eqb (flags / 64) t_ctrl) (control_kind len (byte_at l 0)) (control_frame a (flags % 64) p x)
+    (control_by_lem a (frame_in flags field len) p x (byte_at l 0) (payload_length l flags field len e) (λ h. byte_in l len 0 h))))
 
 pub kind_up : (f : Frame) (b : ℕ) → f.ty ≡ t_up → Piece ≡ kind_of f b
 unfolding kind_of
@@ -112,12 +114,12 @@ module _ (len : ℕ) {b : ℕ} where
   is_none c r o k = simp (ne_eqb _ _ c, ne_eqb _ _ r, ne_eqb _ _ o, ne_eqb _ _ k)
 
 -- how many words it takes
-pub frame_size : (i : Item) → (i ≡ item.End → ⊥) → (i ≡ item.Bad → ⊥) → (frame_of i).size ≡ size_of i
+pub frame_size : (i : Item) (f : Frame) → Some f ≡ frame_of i → f.size ≡ size_of i
 unfolding frame_of
-frame_size item.End p q = absurd (p refl)
-frame_size item.Bad p q = absurd (q refl)
-frame_size item.Lost p q = refl
-frame_size (item.Frame flags field len) p q = refl
+frame_size item.End f q = let z : ◌≡◌ {A = ℕ} 0 1 = cc in absurd (omega arith)
+frame_size item.Bad f q = let z : ◌≡◌ {A = ℕ} 0 1 = cc in absurd (omega arith)
+frame_size item.Lost f q = let z : ◌≡◌ {A = ℕ} 0 1 = cc in absurd (omega arith)
+frame_size (item.Frame flags field len) f q = let k : f ≡ frame_in flags field len = cc in ap (λ (k : Frame). k.size) k
 
 -- ### A report's stores
 

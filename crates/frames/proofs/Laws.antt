@@ -2,6 +2,7 @@
 use mathlib.Core.Path.{◌≡◌, refl, sym, ap, ◌∙◌}
 use mathlib.Core.Bool.{Bool, true, false, cond}
 use mathlib.Core.List.{List, [], ◌∷◌}
+use Rattle.std.specs.Prelude.{Some}
 use Prim.Native.Nat.{ℕ, ◌+◌, ◌-◌, ◌/◌, ◌%◌, ◌<◌, ◌≤◌}
 use native.Mathlib.Omega.{arith}
 use lib.Dec.{eqb}
@@ -28,14 +29,14 @@ peek_bytes [] a b n e = let z : ◌≡◌ {A = ℕ} 0 1 = cc in absurd (omega ar
 peek_bytes (w ∷ ws) a b n e = peek_by w (get_or ws 0 0 % 16777216) (eqb w 0xd0000000) a b n e
 
 frame_same : (a b n slot len size : ℕ) → slot ≡ a % 64 → len ≡ n → size ≡ words_for n
-    → record { lost = false; ty = a / 64; slot = slot; field = b; len = len; size = 2 + size } ≡ frame_of (item.Frame a b n)
+    → Some (record { ty = a / 64; slot = slot; field = b; len = len; size = 2 + size }) ≡ frame_of (item.Frame a b n)
 unfolding frame_of
 frame_same a b n slot len size q r s = rw (q, r, s)
 
 -- the frame that is read: the low bytes of its parts are the parts
 pub frame_read : (l : List ℕ) (a b n slot len size : ℕ) → peek_at l ≡ item.Frame a b n
     → slot ≡ a % 64 → len ≡ n % 256 → size ≡ words_for n
-    → record { lost = false; ty = a / 64; slot = slot; field = b; len = len; size = 2 + size } ≡ frame_of (peek_at l)
+    → Some (record { ty = a / 64; slot = slot; field = b; len = len; size = 2 + size }) ≡ frame_of (peek_at l)
 frame_read l a b n slot len size e q r s =
     let h = peek_bytes l a b n e in
     frame_same a b n slot len size (omega arith) (omega arith) s ∙ ap frame_of (sym e)

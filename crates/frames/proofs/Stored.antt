@@ -1,7 +1,7 @@
 -- A boat's piece, put together: the stores of the code, one element at a time, are what `piece_frame` says. Assumes nothing.
 use Rattle.std.specs.Prelude.{Option, Some, None}
 use mathlib.Core.Path.{◌≡◌, refl}
-use mathlib.Core.Bool.{Bool, true, false, not, cond, ◌&&◌, ◌||◌}
+use mathlib.Core.Bool.{Bool, true, false, not, cond, ◌||◌}
 use mathlib.Core.List.{List, [], append-nil}
 use mathlib.Core.Logic.{⊎_elim}
 use Prim.Native.Nat.{ℕ, ◌+◌, ◌*◌, ◌/◌, ◌%◌, ◌<◌, ◌≤◌}
@@ -32,7 +32,7 @@ use Rattle.net.specs.Net.{is_member}
 use Rattle.frames.specs.declared.Air.{Air}
 use Rattle.frames.specs.declared.pieces.Piece.{Piece}
 use Rattle.frames.specs.Reading.{Reading}
-use Rattle.frames.specs.Pieces.{kept_piece, barred_piece, taken_piece, piece_frame, unkept_at, heard_member}
+use Rattle.frames.specs.Pieces.{kept_piece, barred_piece, taken_piece, piece_frame, unkept_at, heard_member, other_of}
 use Rattle.frames.specs.Code.Pieces.{RoomIn, unwanted_of, piece_by, piece_of, taken_of, stored_piece}
 
 -- ### The room
@@ -206,17 +206,17 @@ module _ (a : Air) (slot : ℕ) (x : Reading) where
     kept_as cell' store' l =
         kept_piece a slot (accepted (table_of x.station) (member_at x.station slot).up p.room slot p.number (kept cell' store' l)) x
 
-    landed_by_lem : (cell' : Cell) (store' : List ℕ) (n : ℕ) (t : Bool) → not (eqb a.polled slot) && is_member x.station.used a.polled ≡ t
+    landed_by_lem : (cell' : Cell) (store' : List ℕ) (n : ℕ) (via : Option ℕ) → other_of a.polled x.station.used slot ≡ via
         → stored_piece a slot p (kept cell' store' (Some n)) x ≡ kept_as cell' store' (Some n)
-    landed_by_lem cell' store' n true e =
+    landed_by_lem cell' store' n (Some v) e =
         rw (c, h, e, or_yes x.station.round.traffic, or_yes x.station.round.rxdirty, stop_add (heard_member a (member_at x.station slot) slot).bytesin n)
-    landed_by_lem cell' store' n false e =
+    landed_by_lem cell' store' n None e =
         rw (c, h, e, or_yes x.station.round.traffic, or_no x.station.round.rxdirty, stop_add (heard_member a (member_at x.station slot) slot).bytesin n)
 
     kept_by_lem : (cell' : Cell) (store' : List ℕ) (l : Option ℕ) → stored_piece a slot p (kept cell' store' l) x ≡ kept_as cell' store' l
     kept_by_lem cell' store' None = rw (c, h, or_no x.station.round.traffic, or_no x.station.round.rxdirty)
     kept_by_lem cell' store' (Some n) =
-        landed_by_lem cell' store' n (not (eqb a.polled slot) && is_member x.station.used a.polled) refl
+        landed_by_lem cell' store' n (other_of a.polled x.station.used slot) refl
 
     -- whatever the kept rule answers
     open_by : (d : Kept) (offset : ℕ) (bytes : List ℕ)

@@ -1,5 +1,6 @@
 -- `ncs_rx` of ncs.rs, control frames: check-in, report, overheard, children. `len` is the length of the payload p.
-use Rattle.std.specs.Prelude.{ℕ, zero, suc, ◌+◌, ◌*◌, ◌%◌, Bool, true, not, cond, ◌&&◌, ◌||◌, List, [], ◌∷◌, ◌++◌, eqb, ltb, leb, get_or, set, drop}
+use Rattle.std.specs.Prelude.{ℕ, zero, suc, ◌+◌, ◌*◌, ◌%◌, Bool, true, not, cond, ◌&&◌, ◌||◌, List, [], ◌∷◌, ◌++◌, eqb, ltb, leb, get_or, set, drop, Some}
+use Rattle.std.specs.Bool.{then_some}
 use Rattle.wire.specs.Call.{unpack_call}
 use Rattle.wire.specs.Fields.{snr_from_q}
 use Rattle.words.specs.Words.{payload}
@@ -13,16 +14,21 @@ use Rattle.roster.specs.Members.{with_heard, with_down, with_caps, with_version,
 use Rattle.net.specs.declared.Station.{Station}
 use Rattle.net.specs.State.{index_of, member_at, with_member, with_counted, with_round, with_hears, with_activity, with_recent, recent_at, also_noted, queue_at, with_queue}
 use Rattle.queue.specs.Queues.{reported_to}
-use Rattle.net.specs.Net.{is_member, Said, said}
+use Rattle.net.specs.Net.{is_member, is_slot, Said, said}
 use Rattle.admit.specs.Admission.{seat_of, slot_of, admit_by}
 use Rattle.admit.specs.declared.Seat.{Seat}
 use Rattle.admit.specs.declared.Seat.TheVariants.{Known, Free, Full}
 use Rattle.frames.specs.declared.Air.{Air}
+use Rattle.frames.specs.declared.payload.Payload.{Payload}
 use Rattle.frames.specs.Reading.{Reading, on_station}
 
 -- the payload of the frame of len bytes at `at`
 abbrev pub payload_in : List ℕ → ℕ → ℕ → List ℕ
 payload_in ws at len = payload (drop 2 (drop at ws)) len
+
+-- as the code has it
+abbrev pub payload_of : Payload → List ℕ
+payload_of p = payload_in p.words.now p.at p.len
 
 -- f at each entry of w bytes in a payload of len bytes, from byte e on, n entries at most
 unfoldable pub each_entry : {A : Type 0} → (ℕ → A → A) → ℕ → ℕ → ℕ → ℕ → A → A
@@ -33,7 +39,7 @@ each_entry f w len (suc n) e x = cond (leb (e + w) len) (each_entry f w len n (e
 
 abbrev pub checkin_member : Air → ℕ → List ℕ → Member → Member
 checkin_member a len p m =
-    with_version (with_caps (received_at m a.level (snr_from_q (get_or p 6 0)) a.time) (ltb 7 len) (get_or p 7 0)) (ltb 9 len) (get_or p 9 0)
+    with_version (with_caps (received_at m a.level (snr_from_q (get_or p 6 0)) a.time) (then_some (ltb 7 len) (get_or p 7 0))) (then_some (ltb 9 len) (get_or p 9 0))
 
 -- the level is smoothed and capability and version are noted also for a known boat; its readings have the level as it came in
 abbrev pub checked_in : Air → ℕ → List ℕ → ℕ → Said → Said
@@ -58,9 +64,9 @@ checkin_frame a len p s =
 
 -- ---- C_REPORT
 
--- a leaf's report, through the relay that was polled, 255 for nobody
+-- a leaf's report, through the relay that was polled
 abbrev pub forwarded_by : Air → Bool → Member → Bool
-forwarded_by a here m = here && not (eqb a.polled 255) && not (eqb m.via 63) && eqb m.via a.polled
+forwarded_by a here m = here && not (eqb m.via 63) && is_slot a.polled m.via
 
 abbrev pub is_forwarded : Air → Station → ℕ → Bool
 is_forwarded a s slot = forwarded_by a (is_member s.used slot) (member_at s slot)
@@ -98,7 +104,7 @@ report_station a len p slot s =
 abbrev pub report_says : Bool → List ℕ → Reading → Reading
 report_says forwarded p x =
     cond forwarded x
-    (record { station = x.station; store = x.store; words = x.words; frame = x.frame; heard = x.heard; unkept = x.unkept; sender = get_or p 1 0; more = x.more || is_pending p; seen = x.seen })
+    (record { station = x.station; store = x.store; words = x.words; frame = x.frame; heard = x.heard; unkept = x.unkept; sender = Some (get_or p 1 0); more = x.more || is_pending p; seen = x.seen })
 
 unfoldable pub report_frame : Air → ℕ → List ℕ → Reading → Reading
 report_frame a len p x =
@@ -111,7 +117,7 @@ unfoldable pub relay_of : Station → ℕ → ℕ
 relay_of s slot = cond (is_member s.used slot && eqb (member_at s slot).via 63 && is_willing (member_at s slot)) slot 63
 
 abbrev pub newcomer : List ℕ → ℕ → Member → Member
-newcomer p e m = with_version (with_caps m true (get_or p (e + 6) 0)) true (get_or p (e + 7) 0)
+newcomer p e m = with_version (with_caps m (Some (get_or p (e + 6) 0))) (Some (get_or p (e + 7) 0))
 
 -- the frame's boat hears the newcomer in slot c
 abbrev pub heard_by : ℕ → ℕ → ℕ → Station → Station

@@ -32,14 +32,27 @@ abbrev pub piece_member : Air → Member → ℕ → Accepted → Member
 piece_member a m slot r =
     cond (is_some r.landed) (landed_one (heard_member a m slot) r.number (size_of r.landed)) (heard_member a m slot)
 
+-- the polled slot, where it has a member and is another than the sender's
+abbrev pub other_of : Option ℕ → ℕ → ℕ → Option ℕ
+other_of None used slot = None
+other_of (Some v) used slot = cond (not (eqb v slot) && is_member used v) (Some v) None
+
+-- the boat other than the sender that brought what landed
+abbrev pub relayer : Air → Station → ℕ → Accepted → Option ℕ
+relayer a s slot r = cond (is_some r.landed) (other_of a.polled s.used slot) None
+
 -- a polled boat other than the sender brought it
 abbrev pub is_relayed : Air → Station → ℕ → Accepted → Bool
-is_relayed a s slot r = is_some r.landed && not (eqb a.polled slot) && is_member s.used a.polled
+is_relayed a s slot r = is_some (relayer a s slot r)
+
+-- event 4 names the boat that brought it
+abbrev pub relayed_words : Option ℕ → ℕ → List ℕ
+relayed_words None slot = []
+relayed_words (Some v) slot = event_word 4 slot v ∷ []
 
 abbrev pub piece_events : Air → Station → ℕ → Accepted → List ℕ
 piece_events a s slot r =
-    cond (is_some r.landed)
-    (cond (is_relayed a s slot r) (event_word 4 slot a.polled ∷ message_word slot r.cell r.number ∷ []) (message_word slot r.cell r.number ∷ [])) []
+    cond (is_some r.landed) (relayed_words (relayer a s slot r) slot ++ (message_word slot r.cell r.number ∷ [])) []
 
 abbrev pub relay_if : Bool → Station → Station
 relay_if given s = cond given (one_relay (with_round s (with_rxdirty s.round true))) s

@@ -1,19 +1,20 @@
 // Reception, up frames: a boat's piece, kept or not, and what lands.
-ghost use Rattle.std.specs.Prelude.{◌≡◌, ◌+◌, ◌/◌, ◌%◌, ◌^◌, ◌<◌, ◌≤◌, length, drop, cond};
+ghost use Rattle.std.specs.Prelude.{◌≡◌, ◌+◌, ◌/◌, ◌%◌, ◌^◌, ◌<◌, ◌≤◌, length, drop};
 ghost use Rattle.bits.specs.Stop.{stop};
-ghost use Rattle.roster.specs.Members.{barred_one};
 ghost use Rattle.words.specs.Words.{bytes_at};
-ghost use Rattle.out.specs.Encode.{Wrote};
-ghost use Rattle.stream.specs.Table.{took, take_of, left_of, room_for, owner_of, place_of};
-ghost use Rattle.frames.specs.Pieces.{size_of, direct_if, heard_member};
+ghost use Rattle.out.specs.Outputs.{Writes};
+ghost use Rattle.stream.specs.Table.{took, take_of, room_for, owner_of, place_of};
+ghost use Rattle.frames.specs.Pieces.{size_of, heard_member};
 ghost use Rattle.frames.specs.Code.Reading.{next_rx};
-ghost use Rattle.frames.specs.Code.Pieces.{kept_rx, unwanted_of, numbered_of, piece_of, RoomIn, taken_of, owner_after, frees, busy_after, landed_after, member_after, relayed_by, round_after, totals_after, landed_events};
+ghost use Rattle.frames.specs.Code.Pieces.{kept_rx, unwanted_of, numbered_of, piece_of, RoomIn, taken_of, owner_after, frees, busy_after, landed_after, member_after, relayer, round_after, totals_after, landed_events};
 
+use crate::payload::Payload;
 use crate::{Air, Frame, Rx};
 use inbox::cell::Cell;
-use inbox::keep;
 use inbox::keep::Kept;
+use inbox::{keep, piece};
 use net::{Round, Totals};
+use out::Output;
 use roster::Member;
 use stream::table::{Room, Taken};
 use stream::window::Window;
@@ -21,7 +22,8 @@ use stream::{table, window};
 use wire::number;
 
 // A boat's piece as it is read. wanted: its slot has a member, and its message a number that is not handed over; else nothing is done
-// with its bytes. barred: that number is barred.
+// with its bytes. barred: that number is barred. (Flags beside the values: the number and the room are asked of a piece that is not wanted
+// too, so that its cell is stored back in the same way.)
 #[derive(Clone, Copy)]
 pub struct Piece {
     pub slot: u8,
@@ -61,17 +63,21 @@ pub fn cell_of(p: Piece) -> usize
 }
 
 // The piece offered to its cell c.
-pub fn take(p: Piece, c: Cell, words: &[u32], at: usize, len: u8, lent: &mut [u8]) -> Taken
+pub fn take(p: Piece, c: Cell, payload: &Payload, lent: &mut [u8]) -> Taken
     requires { RoomIn p.room (length lent.old) }
-    ensures { took result lent.new ≡ taken_of p c (bytes_at (drop at words.now) len) lent.old }
+    ensures { took result lent.new ≡ taken_of p c (bytes_at (drop payload.now.at payload.now.words.now) payload.now.len) lent.old }
 {
     if !p.wanted {
-        return left(c, Kept::Needless);
+        return table::left(c, Kept::Needless);
     }
-    let n = len as usize;
-    let piece = words::payload(words, at, n);
+    let n = usize::from(payload.len);
+    let bytes = words::payload(payload.words, payload.at, n);
+    let piece = piece::Piece {
+        offset: p.offset,
+        bytes: &bytes[..n],
+    };
     let room = p.room;
-    offer(room, c, p.barred, p.number, p.offset, &piece[..n], lent)
+    offer(room, c, p.barred, p.number, piece, lent)
 }
 
 pub fn owner_after(old: u64, d: Taken, p: Piece) -> u64
@@ -127,7 +133,10 @@ pub fn member_after(m: Member, d: Taken, p: Piece, a: Air) -> Member
     let landed = d.landed;
     let silent = !p.here | table::lost(kept);
     if silent {
-        return barred_if(m, table::barring(kept), p.number);
+        if table::barring(kept) {
+            return roster::barred(m, p.number);
+        }
+        return m;
     }
     let k = heard_member(m, p.slot, a);
     if landed.is_some() {
@@ -136,28 +145,33 @@ pub fn member_after(m: Member, d: Taken, p: Piece, a: Air) -> Member
     k
 }
 
-// A message landed that a polled boat other than its sender brought.
-pub fn is_relayed(d: Taken, p: Piece, a: Air, used: u64) -> bool
-    ensures { result ≡ relayed_by d p a used }
+// The boat that brought a message that landed, where it is the polled one and not its sender.
+pub fn relayer(d: Taken, p: Piece, a: Air, used: u64) -> Option<u8>
+    ensures { result ≡ relayer d p a used }
 {
     let landed = d.landed;
-    landed.is_some() & (a.polled != p.slot) & net::is_member(used, a.polled)
+    if !landed.is_some() {
+        return None;
+    }
+    let slot = a.polled?;
+    let other = (slot != p.slot) & net::is_member(used, slot);
+    if other { Some(slot) } else { None }
 }
 
-pub fn round_after(r: Round, d: Taken, relayed: bool) -> Round
-    ensures { result ≡ round_after r d relayed }
+pub fn round_after(r: Round, d: Taken, via: Option<u8>) -> Round
+    ensures { result ≡ round_after r d via }
 {
     let landed = d.landed;
     let mut k = r;
     k.traffic = r.traffic | landed.is_some();
-    k.rxdirty = r.rxdirty | relayed;
+    k.rxdirty = r.rxdirty | via.is_some();
     k
 }
 
-pub fn totals_after(t: Totals, relayed: bool) -> Totals
-    ensures { result ≡ totals_after t relayed }
+pub fn totals_after(t: Totals, via: Option<u8>) -> Totals
+    ensures { result ≡ totals_after t via }
 {
-    if !relayed {
+    if !via.is_some() {
         return t;
     }
     let mut k = t;
@@ -177,27 +191,21 @@ pub fn next_piece(x: Rx, f: Frame, d: Taken) -> Rx
 }
 
 // Event 4, where another boat brought it, and event 2.
-pub fn landed_events(
-    o: &mut [u32],
-    at: usize,
-    d: Taken,
-    p: Piece,
-    c: usize,
-    relayed: bool,
-    polled: u8,
-) -> usize
-    ensures { Wrote o.old at (landed_events d p c relayed polled) o.new result }
+pub fn landed_events(o: &mut Output, d: Taken, p: Piece, c: usize, via: Option<u8>)
+    ensures { Writes o.old (landed_events d p c via) o.new }
 {
     let landed = d.landed;
     if !landed.is_some() {
-        return at;
+        return;
     }
-    let slot = p.slot as usize;
-    if relayed {
-        let next = out::put_event(o, at, 4, slot, polled);
-        return out::put_message(o, next, slot, c, p.number);
+    let slot = usize::from(p.slot);
+    match via {
+        Some(relay) => {
+            o.event(4, slot, relay);
+            o.message(slot, c, p.number);
+        }
+        None => o.message(slot, c, p.number),
     }
-    out::put_message(o, at, slot, c, p.number)
 }
 
 fn high8(field: u32) -> u8
@@ -258,38 +266,33 @@ fn numbered(
     }
 }
 
-fn left(c: Cell, kept: Kept) -> Taken
-    ensures { result ≡ left_of c kept }
-{
-    Taken {
-        cell: c,
-        kept: kept,
-        landed: None,
-    }
-}
-
 // A piece offered to the room that there is. Of a store without a cell the room is none, and nothing is stored.
 fn offer(
     room: Room,
     c: Cell,
     barred: bool,
     number: u32,
-    offset: u16,
-    piece: &[u8],
+    piece: piece::Piece,
     lent: &mut [u8],
 ) -> Taken
-    requires room_in { RoomIn room (length lent.old) }
-    requires piece_len_bound { length piece.now ≤ 255 }
-    ensures { took result lent.new ≡ take_of barred lent.old room c number offset piece.now }
+    requires { RoomIn room (length lent.old) }
+    ensures { took result lent.new ≡ take_of barred lent.old room c number piece.entry.offset piece.entry.bytes.now }
 {
     if inbox::store::CELL_SIZE <= lent.len() {
-        return table::take(lent, room, c, barred, number, offset, piece);
+        return table::take(lent, room, c, barred, number, piece);
     }
-    let n = piece.len() as u8;
-    let over = barred | inbox::cell::shows_first(offset, piece);
-    left(
+    let n = piece.bytes.len() as u8;
+    let over = barred | inbox::cell::shows_first(piece);
+    table::left(
         c,
-        keep::keeping(number, offset, n, over, false, inbox::store::empty_cell()),
+        keep::keeping(
+            number,
+            piece.offset,
+            n,
+            over,
+            false,
+            inbox::store::empty_cell(),
+        ),
     )
 }
 
@@ -312,28 +315,13 @@ fn stopped(n: usize) -> u32
     }
 }
 
-fn barred_if(m: Member, yes: bool, number: u32) -> Member
-    ensures { result ≡ cond yes (barred_one m number) m }
-{
-    if yes {
-        return roster::barred(m, number);
-    }
-    m
-}
-
-fn direct_if(m: Member, yes: bool, snr: f32) -> Member
-    ensures { result ≡ direct_if yes m snr }
-{
-    if yes {
-        return roster::with_direct(m, snr);
-    }
-    m
-}
-
 fn heard_member(m: Member, slot: u8, a: Air) -> Member
     ensures { result ≡ heard_member a m slot }
 {
     let h = roster::with_heard(m, a.time);
-    let leaf = a.aside & (m.via != wire::ALL) & bits::has(a.start, slot as usize);
-    direct_if(h, leaf, a.level)
+    let leaf = a.aside & (m.via != wire::ALL) & bits::has(a.start, usize::from(slot));
+    if leaf {
+        return roster::with_direct(h, a.level);
+    }
+    h
 }

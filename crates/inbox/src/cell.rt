@@ -6,6 +6,8 @@ ghost use Rattle.inbox.specs.Cells.{size, end_at, better, settle, store, await, 
 ghost use Rattle.inbox.specs.Messages.{empty, shows_of};
 ghost use Rattle.inbox.specs.Sizes.{message_room, body_room};
 
+use crate::piece::Piece;
+
 // How many bytes of a message a cell can join, the two of its length among them.
 pub const MESSAGE_ROOM: usize = 2048;
 
@@ -18,48 +20,48 @@ pub const BODY_ROOM: usize = 2046;
 pub struct Cell {
     // The joined end.
     pub joined: u16,
-    // Where the piece at each place starts in the message, and how long it is.
+    // Where the piece at each place starts in the message, and how long it is: two arrays, as C has them.
     pub offsets: [u16; 16],
     pub lengths: [u8; 16],
 }
 
-// `Inbox::accept`: one piece taken into a cell, whose bytes are given alone.
-pub fn join(bytes: &mut [u8], cell: Cell, offset: u16, piece: &[u8]) -> Cell
+// `Inbox::accept`: one piece taken into a cell, whose bytes are given alone. (The bounds stand in each contract: the bytes are lent, to read
+// and to write, and that a piece ends within 2,048 is what the kept rule has found before.)
+pub fn join(bytes: &mut [u8], cell: Cell, piece: Piece) -> Cell
     requires in_bounds { 6144 ≤ length bytes.old }
-    requires piece_len_bound { (length piece.now ≤ 255) × (offset + length piece.now ≤ message_room) }
-    ensures { held result bytes.new ≡ accept (held cell bytes.old) offset piece.now }
+    requires end_bound { piece.offset + length piece.bytes.now ≤ message_room }
+    ensures { held result bytes.new ≡ accept (held cell bytes.old) piece.entry.offset piece.entry.bytes.now }
 {
     let joined = usize::from(cell.joined);
-    let start = usize::from(offset);
-    let end = start + piece.len();
+    let start = usize::from(piece.offset);
+    let end = start + piece.bytes.len();
     if end <= joined {
         return cell;
     }
-    if piece.len() == 0 {
+    if piece.bytes.len() == 0 {
         return cell;
     }
     if start <= joined {
         let skip = joined - start;
-        copy_in(bytes, joined, &piece[skip..]);
+        copy_in(bytes, joined, &piece.bytes[skip..]);
         let mut c = cell;
         c.joined = end as u16;
         return settle_all(bytes, c);
     }
-    wait(bytes, cell, offset, piece)
+    wait(bytes, cell, piece)
 }
 
 // Whether a piece would show a length above 2,046: both bytes of the length are joined with it, or with what comes into reach then, and say so.
-pub fn shows(bytes: &[u8], cell: Cell, offset: u16, piece: &[u8]) -> bool
-    requires in_bounds { 6144 ≤ length bytes.now }
-    requires piece_len_bound { length piece.now ≤ 255 }
-    ensures { result ≡ shows_of (held cell bytes.now) offset piece.now }
+pub fn shows(bytes: &[u8], cell: Cell, piece: Piece) -> bool
+    requires { 6144 ≤ length bytes.now }
+    ensures { result ≡ shows_of (held cell bytes.now) piece.entry.offset piece.entry.bytes.now }
 {
     let joined = usize::from(cell.joined);
     if 2 <= joined {
         return is_over(bytes[0], bytes[1]);
     }
-    let start = usize::from(offset);
-    let end = start + piece.len();
+    let start = usize::from(piece.offset);
+    let end = start + piece.bytes.len();
     if joined < start {
         return false;
     }
@@ -67,26 +69,25 @@ pub fn shows(bytes: &[u8], cell: Cell, offset: u16, piece: &[u8]) -> bool
         return false;
     }
     if joined == 1 {
-        return is_over(bytes[0], piece[1 - start]);
+        return is_over(bytes[0], piece.bytes[1 - start]);
     }
     if end == 1 {
-        return shows_next(bytes, cell, piece[0]);
+        return shows_next(bytes, cell, piece.bytes[0]);
     }
-    is_over(piece[0], piece[1])
+    is_over(piece.bytes[0], piece.bytes[1])
 }
 
 // The same of a message that has no cell yet.
-pub fn shows_first(offset: u16, piece: &[u8]) -> bool
-    requires { length piece.now ≤ 255 }
-    ensures { result ≡ shows_of (empty []) offset piece.now }
+pub fn shows_first(piece: Piece) -> bool
+    ensures { result ≡ shows_of (empty []) piece.entry.offset piece.entry.bytes.now }
 {
-    if offset != 0 {
+    if piece.offset != 0 {
         return false;
     }
-    if piece.len() < 2 {
+    if piece.bytes.len() < 2 {
         return false;
     }
-    is_over(piece[0], piece[1])
+    is_over(piece.bytes[0], piece.bytes[1])
 }
 
 // Whether a piece of the first byte alone would show it: the second is then one of the waiting piece that goes next.
@@ -134,33 +135,31 @@ fn settle_all(bytes: &mut [u8], cell: Cell) -> Cell
 }
 
 // A piece that starts past the joined end: at one offset the longer stays; else it takes the first free place, if there is one.
-fn wait(bytes: &mut [u8], cell: Cell, offset: u16, piece: &[u8]) -> Cell
-    requires in_bounds { 6144 ≤ length bytes.old }
-    requires piece_len_bound { length piece.now ≤ 255 }
-    ensures { held result bytes.new ≡ await (held cell bytes.old) offset piece.now }
+fn wait(bytes: &mut [u8], cell: Cell, piece: Piece) -> Cell
+    requires { 6144 ≤ length bytes.old }
+    ensures { held result bytes.new ≡ await (held cell bytes.old) piece.entry.offset piece.entry.bytes.now }
 {
-    if let Some(i) = at_offset(cell, offset) {
-        if usize::from(cell.lengths[i]) < piece.len() {
-            return store_at(bytes, cell, i, offset, piece);
+    if let Some(i) = at_offset(cell, piece.offset) {
+        if usize::from(cell.lengths[i]) < piece.bytes.len() {
+            return store_at(bytes, cell, i, piece);
         }
         return cell;
     }
     if let Some(j) = free_place(cell) {
-        return store_at(bytes, cell, j, offset, piece);
+        return store_at(bytes, cell, j, piece);
     }
     cell
 }
 
 // A piece put at place k to wait.
-fn store_at(bytes: &mut [u8], cell: Cell, k: usize, offset: u16, piece: &[u8]) -> Cell
-    requires in_bounds { 6144 ≤ length bytes.old }
-    requires k_bound { (k < 16) × (length piece.now ≤ 255) }
-    ensures { held result bytes.new ≡ store (held cell bytes.old) k offset piece.now }
+fn store_at(bytes: &mut [u8], cell: Cell, k: usize, piece: Piece) -> Cell
+    requires { (6144 ≤ length bytes.old) × (k < 16) }
+    ensures { held result bytes.new ≡ store (held cell bytes.old) k piece.entry.offset piece.entry.bytes.now }
 {
-    copy_in(bytes, MESSAGE_ROOM + 256 * k, piece);
+    copy_in(bytes, MESSAGE_ROOM + 256 * k, piece.bytes);
     let mut c = cell;
-    c.offsets[k] = offset;
-    c.lengths[k] = piece.len() as u8;
+    c.offsets[k] = piece.offset;
+    c.lengths[k] = piece.bytes.len() as u8;
     c
 }
 

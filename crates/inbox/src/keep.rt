@@ -66,10 +66,7 @@ fn shorter(cell: Cell, offset: u16, n: u8) -> bool
     if offset <= cell.joined {
         return false;
     }
-    match cell::at_offset(cell, offset) {
-        Some(i) => n <= cell.lengths[i],
-        None => false,
-    }
+    cell::at_offset(cell, offset).is_some_and(|i| n <= cell.lengths[i])
 }
 
 // Whether 16 pieces wait, a piece at offset starts past the joined end, and none waits there.

@@ -3,4 +3,5 @@
 
 pub mod cell;
 pub mod keep;
+pub mod piece;
 pub mod store;

@@ -1,4 +1,5 @@
 // Cells in the store that the caller lends: cell c is its 6,400 bytes from 6,400 c on.
+// (The bound on c stands in each contract: some are lent the store to read and some to write, so a type for a cell's place in it would be two.)
 ghost use Rattle.std.specs.Prelude.{◌≡◌, ◌++◌, ◌+◌, ◌*◌, ◌≤◌, ◌<◌, length, take, drop};
 ghost use Rattle.inbox.specs.Sizes.{cell_size, message_room};
 ghost use Rattle.inbox.specs.Cells.{held, accept};
@@ -7,6 +8,7 @@ ghost use Rattle.inbox.specs.Stores.{cell_of, in_cell, landed_of, message_of};
 
 use crate::cell;
 use crate::cell::Cell;
+use crate::piece::Piece;
 
 // The bytes of the store that one cell has.
 pub const CELL_SIZE: usize = 6400;
@@ -23,25 +25,24 @@ pub fn empty_cell() -> Cell
 }
 
 // One piece taken into cell c of the store.
-pub fn join_in(store: &mut [u8], c: usize, cell: Cell, offset: u16, piece: &[u8]) -> Cell
+pub fn join_in(store: &mut [u8], c: usize, cell: Cell, piece: Piece) -> Cell
     requires c_bound { (c < 64) × (cell_size * c + cell_size ≤ length store.old) }
-    requires piece_len_bound { (length piece.now ≤ 255) × (offset + length piece.now ≤ message_room) }
-    ensures cell { result ≡ (accept (held cell (cell_of store.old c)) offset piece.now).cell }
-    ensures bytes { store.new ≡ in_cell store.old c (accept (held cell (cell_of store.old c)) offset piece.now).bytes }
+    requires end_bound { piece.offset + length piece.bytes.now ≤ message_room }
+    ensures cell { result ≡ (accept (held cell (cell_of store.old c)) piece.entry.offset piece.entry.bytes.now).cell }
+    ensures bytes { store.new ≡ in_cell store.old c (accept (held cell (cell_of store.old c)) piece.entry.offset piece.entry.bytes.now).bytes }
 {
     let at = CELL_SIZE * c;
-    join_first(&mut store[at..], cell, offset, piece)
+    join_first(&mut store[at..], cell, piece)
 }
 
 // Whether a piece of the message in cell c would show a length above 2,046.
-pub fn shows_in(store: &[u8], c: usize, cell: Cell, offset: u16, piece: &[u8]) -> bool
-    requires c_bound { (c < 64) × (cell_size * c + cell_size ≤ length store.now) }
-    requires piece_len_bound { length piece.now ≤ 255 }
-    ensures { result ≡ shows_of (held cell (cell_of store.now c)) offset piece.now }
+pub fn shows_in(store: &[u8], c: usize, cell: Cell, piece: Piece) -> bool
+    requires { (c < 64) × (cell_size * c + cell_size ≤ length store.now) }
+    ensures { result ≡ shows_of (held cell (cell_of store.now c)) piece.entry.offset piece.entry.bytes.now }
 {
     let at = CELL_SIZE * c;
     let end = at + CELL_SIZE;
-    cell::shows(&store[at..end], cell, offset, piece)
+    cell::shows(&store[at..end], cell, piece)
 }
 
 // Whether the message in cell c has landed.
@@ -74,13 +75,13 @@ pub fn read(store: &[u8], c: usize) -> &[u8]
 }
 
 // The first 6,400 bytes of a part of the store are the cell.
-fn join_first(part: &mut [u8], cell: Cell, offset: u16, piece: &[u8]) -> Cell
+fn join_first(part: &mut [u8], cell: Cell, piece: Piece) -> Cell
     requires cell_size_in_bounds { cell_size ≤ length part.old }
-    requires piece_len_bound { (length piece.now ≤ 255) × (offset + length piece.now ≤ message_room) }
-    ensures cell { result ≡ (accept (held cell (take cell_size part.old)) offset piece.now).cell }
-    ensures bytes { part.new ≡ (accept (held cell (take cell_size part.old)) offset piece.now).bytes ++ drop cell_size part.old }
+    requires end_bound { piece.offset + length piece.bytes.now ≤ message_room }
+    ensures cell { result ≡ (accept (held cell (take cell_size part.old)) piece.entry.offset piece.entry.bytes.now).cell }
+    ensures bytes { part.new ≡ (accept (held cell (take cell_size part.old)) piece.entry.offset piece.entry.bytes.now).bytes ++ drop cell_size part.old }
 {
-    cell::join(&mut part[..CELL_SIZE], cell, offset, piece)
+    cell::join(&mut part[..CELL_SIZE], cell, piece)
 }
 
 // The length that the first two bytes of cell c say, lowest first.

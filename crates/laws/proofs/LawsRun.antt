@@ -1,4 +1,5 @@
 -- The laws on calls that meet their premises, and runs that show premises needed. By computation; assumes nothing.
+use Rattle.std.specs.Prelude.{None}
 use mathlib.Core.Path.{◌≡◌, refl, ap}
 use mathlib.Core.Bool.{false}
 use mathlib.Core.List.{List, [], ◌∷◌}
@@ -58,7 +59,7 @@ y = record { slot = 1; field = 2; bytes = 7 ∷ [] }
 
 -- the bursts that they come in
 abbrev air : Air
-air = record { level = zero_time; time = zero_time; aside = false; polled = 255; start = 3 }
+air = record { level = zero_time; time = zero_time; aside = false; polled = None; start = 3 }
 
 abbrev xy : Net → Reading
 xy n = both n air x air y

@@ -6,7 +6,7 @@ ghost use Rattle.level.specs.Levels.{smoothed, level_of, level_for, or_else, is_
 ghost use Rattle.level.specs.Order.{negative, total_lt, is_nan, least};
 ghost use Rattle.level.specs.Spans.{up_to, within};
 
-// How well a station is heard, in dB.
+// How well a station is heard, in dB. (An enum of its own, and no Option: its cases have the names that the port's rules give them, docs/DECISIONS.md, 28.)
 #[derive(Clone, Copy)]
 pub enum Level {
     Unheard,
@@ -58,10 +58,7 @@ pub fn or_else(a: Level, b: Level) -> Level
 pub fn is_heard(x: Level) -> bool
     ensures { result ≡ is_heard x }
 {
-    match x {
-        Level::Decibels(_) => true,
-        Level::Unheard => false,
-    }
+    matches!(x, Level::Decibels(_))
 }
 
 // The sign, also of a zero; a NaN has none.

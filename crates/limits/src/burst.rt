@@ -1,5 +1,6 @@
 // Stations and bursts for the cases.
 use net::Station;
+use out::Output;
 use std::alloc::{AllocError, Global};
 
 // A station of `tape`'s settings over the whole store.
@@ -31,7 +32,12 @@ pub fn piece(alloc: Global, number: u32, payload: &[u8]) -> Result<Vec<u32>, All
     // Words 10 and 11, and 85 words 12 at most.
     let mut frame = [0u32; 87];
     let field = number % 256 * 65536;
-    let n = out::put_frame(&mut frame, 0, 0, field, payload, payload.len());
+    let mut o = Output {
+        words: &mut frame,
+        at: 0,
+    };
+    o.frame(0, field, payload, payload.len());
+    let n = o.at;
     let mut burst = vec![in alloc; HEAD]?;
     burst.extend(frame.iter().copied().take(n))?;
     Ok(burst)

@@ -2,7 +2,6 @@
 #![tactic(auto)]
 
 ghost use Rattle.std.specs.Prelude.{◌≡◌, ◌<◌, drop};
-ghost use Rattle.words.specs.Words.{head_ok};
 ghost use Rattle.logs.specs.Reading.{is_mark, mark_ok, wave_ok, head_part, frame_part, part_of, sendings_ok, marks_ok, entries_of};
 ghost use Rattle.logs.specs.Turns.{accepted, verdict_of};
 ghost use Rattle.logs.specs.Steps.{walk, marks, count_step, slot_fits, slot_step, mark_step, drawn, listed, begins, again, is_slot, polled, slot_after, acked, tiny_sent, sent, word_step, watch_step};
@@ -56,7 +55,7 @@ fn sendings_ok(words: &[u32]) -> bool
     let mut room: usize = 0;
     // A step is as long as its part.
     while at < words.len() {
-        let Some(p) = part_at(words, at, room) else {
+        let Some(p) = part_at(&words[at..], room) else {
             return false;
         };
         at += p.size;
@@ -65,31 +64,30 @@ fn sendings_ok(words: &[u32]) -> bool
     true
 }
 
-// What stands at `at`, where `room` frames may follow; words that are no part of a log are nothing.
-fn part_at(words: &[u32], at: usize, room: usize) -> Option<Part>
-    ensures { result ≡ part_of room (drop at words.now) }
+// What stands at the head of the words, where `room` frames may follow; words that are no part of a log are nothing.
+fn part_at(words: &[u32], room: usize) -> Option<Part>
+    ensures { result ≡ part_of room words.now }
 {
-    if words.len() <= at {
+    let [w, rest @ ..] = words else {
         return None;
-    }
-    let w = words[at];
-    if is_mark(w) {
+    };
+    if is_mark(*w) {
         return Some(Part { size: 1, room: 0 });
     }
-    if head_ok(w) {
-        return head_part(words, at + 1);
+    if words::head_ok(*w) {
+        return head_part(rest);
     }
-    frame_part(room, words::item_at(words, at))
+    frame_part(room, words::item_at(words))
 }
 
-// A head's wave stands at `at`.
-fn head_part(words: &[u32], at: usize) -> Option<Part>
-    ensures { result ≡ head_part (drop at words.now) }
+// A head's wave stands at the head of the words.
+fn head_part(words: &[u32]) -> Option<Part>
+    ensures { result ≡ head_part words.now }
 {
-    if words.len() <= at {
+    let [w, ..] = words else {
         return None;
-    }
-    if words[at] / 32 == 75497472 {
+    };
+    if *w / 32 == 75497472 {
         return Some(Part { size: 2, room: 64 });
     }
     None
@@ -124,6 +122,7 @@ fn one_frame(room: usize, len: usize) -> Option<Part>
 }
 
 // No fault in the words of kind 6.
+// A match with an arm for each: `is_some_and` was tried, and its proof is longer.
 fn marks_ok(words: &[u32]) -> bool
     ensures { result ≡ marks_ok words.now }
 {
@@ -299,10 +298,7 @@ fn tiny_sent(s: Watch, hi: u32, x: u32) -> Option<Watch>
 fn runs(slot: Option<u32>, x: u32) -> bool
     ensures { result ≡ is_slot slot x }
 {
-    match slot {
-        Some(y) => x == y,
-        None => false,
-    }
+    slot.is_some_and(|y| x == y)
 }
 
 fn polled(s: Watch, x: u32) -> Option<Watch>
@@ -379,14 +375,4 @@ fn mark_ok(w: u32) -> bool
     ensures { result ≡ mark_ok w }
 {
     w / 64 == 25165824
-}
-
-// A word 8.
-fn head_ok(w: u32) -> bool
-    ensures { result ≡ head_ok w }
-{
-    if w / 268435456 != 8 {
-        return false;
-    }
-    w / 65536 % 2 == 0
 }

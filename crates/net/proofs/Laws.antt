@@ -13,12 +13,10 @@ use Rattle.bits.specs.Mask.{has_bit}
 use Rattle.bits.proofs.Lists.{and_true}
 use Rattle.roster.specs.declared.Member.{Member}
 use Rattle.net.specs.declared.Station.{Station}
-use Rattle.net.specs.declared.Settings.{Settings}
 use Rattle.net.specs.declared.Turn.{Turn}
 use Rattle.net.specs.declared.Turn.TheVariants.{Idle, Sending, Waiting}
-use Rattle.net.specs.declared.Wait.{Wait}
 use Rattle.net.specs.State.{index_of, member_at, with_member, with_members, queue_at, with_queue, with_queues, table_of, with_table}
-use Rattle.net.specs.Net.{is_member, done_by}
+use Rattle.net.specs.Net.{is_member, polled_by, done_by}
 use Rattle.net.specs.Code.Done.{is_sure, done_for}
 
 -- ### Slots
@@ -80,7 +78,7 @@ table_again s = refl
 -- ### The end of a sending
 
 -- of the boat only one truth value is read
-pub done_is : (v : Turn) (w : Wait) (g : Settings) (here : Bool) (m : Member) (t : Float) → done_for v w g (is_sure here m) t ≡ done_by v w g here m t
-done_is Idle w g here m t = refl
-done_is Sending w g here m t = refl
-done_is (Waiting r) w g here m t = refl
+pub done_is : (v : Turn) (s : Station) (t : Float) → done_for v s.wait s.settings (is_sure s (polled_by v)) t ≡ done_by v s t
+done_is Idle s t = refl
+done_is Sending s t = refl
+done_is (Waiting r) s t = refl

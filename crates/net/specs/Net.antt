@@ -9,7 +9,9 @@ use Rattle.level.specs.Consts.{zero_time, one, two, three, slot_slack}
 use Rattle.inbox.specs.Messages.{empty_cell}
 use Rattle.recent.specs.Readings.{empty}
 use Rattle.queue.specs.Queues.{empty_queue}
+use Rattle.out.specs.declared.Output.{Output}
 use Rattle.out.specs.Encode.{Wrote}
+use Rattle.out.specs.Outputs.{Writes}
 use Rattle.roster.specs.declared.Member.{Member}
 use Rattle.roster.specs.Members.{new_member, down_or_up}
 use Rattle.net.specs.declared.Station.{Station}
@@ -66,11 +68,16 @@ is_idle Idle = true
 is_idle Sending = false
 is_idle (Waiting r) = false
 
--- the slot whose reply is waited for; 255 for none
-abbrev pub polled_by : Turn → ℕ
-polled_by Idle = 255
-polled_by Sending = 255
-polled_by (Waiting r) = r.slot
+-- the slot whose reply is waited for
+abbrev pub polled_by : Turn → Option ℕ
+polled_by Idle = None
+polled_by Sending = None
+polled_by (Waiting r) = Some r.slot
+
+-- the slot that is named, where one is, is x
+abbrev pub is_slot : Option ℕ → ℕ → Bool
+is_slot None x = false
+is_slot (Some y) x = eqb y x
 
 -- ---- on_tx_done
 
@@ -81,14 +88,13 @@ reply_time g here m = cond (here && is_heard m.snrup && eqb m.missed 0) g.detect
 abbrev pub deadline_of : Settings → Bool → Member → Float → Option Float
 deadline_of g here m t = Some (plus (plus (plus t g.turnaround) (reply_time g here m)) g.replyslack)
 
-abbrev pub done_by : Turn → Wait → Settings → Bool → Member → Float → Wait
-done_by Idle w g here m t = w
-done_by Sending w g here m t = wait_of Idle w.deadline
-done_by (Waiting r) w g here m t = wait_of (Waiting r) (deadline_of g here m t)
+abbrev pub done_by : Turn → Station → Float → Wait
+done_by Idle s t = s.wait
+done_by Sending s t = wait_of Idle s.wait.deadline
+done_by (Waiting r) s t = wait_of (Waiting r) (deadline_of s.settings (is_member s.used r.slot) (member_at s r.slot) t)
 
 abbrev pub done_wait : Station → Float → Wait
-done_wait s t =
-    done_by s.wait.turn s.wait s.settings (is_member s.used (polled_by s.wait.turn)) (member_at s (polled_by s.wait.turn)) t
+done_wait s t = done_by s.wait.turn s t
 
 unfoldable pub on_tx_done : Station → Float → Station
 on_tx_done s t = with_round (with_wait s (done_wait s t)) (with_txat s.round t)
@@ -133,3 +139,8 @@ said s ws = record { station = s; words = ws }
 pub record Did (d : Said) (r : Station) (l : List ℕ) (i : ℕ) (m : List ℕ) (j : ℕ) : Type 0 where
   pub station : r ≡ d.station
   pub wrote : Wrote l i d.words m j
+
+-- a function that was lent the output o returned the station r and left m: it did what d says
+pub record Does (d : Said) (r : Station) (o m : Output) : Type 0 where
+  pub station : r ≡ d.station
+  pub wrote : Writes o d.words m

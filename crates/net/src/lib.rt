@@ -15,6 +15,7 @@ use roster::Member;
 
 // What a reply is waited for: from which slot, whose traffic it also forwards (63: nobody's), how often it was asked again, and how many
 // bursts of this turn are in (Wait::Reply of ncs.rs).
+// relayfor is a number and no Option, since the block for C has a number there, in which every value comes back.
 #[derive(Clone, Copy)]
 pub struct Reply {
     pub slot: u8,
@@ -65,7 +66,7 @@ pub struct Settings {
 }
 
 // Sets are masks of slots, the round's list too: its lowest slot is the front. rxsent: the round whose received list was looked at, 0 for
-// none.
+// none: a number and no Option, since the block for C has a number there, in which every value comes back.
 #[derive(Clone, Copy)]
 pub struct Round {
     pub list: u64,
@@ -97,7 +98,8 @@ pub struct Totals {
 }
 
 // `used` is the mask of slots with a member; recent[i] has the last reception levels of the boat in slot i. Cell c below `count` is free, or in `busy` and filling, or in both `busy` and `landed`;
-// owners[c] is slot * 2^32 + number of its message. The arrays stand in the station itself, so that an element is stored in place.
+// owners[c] is slot * 2^32 + number of its message. `hears` has 63 for none: numbers and no Options, since the block for C has numbers there, in which every value comes back.
+// The arrays stand in the station itself, so that an element is stored in place.
 #[derive(Clone, Copy)]
 pub struct Station {
     pub settings: Settings,
@@ -120,7 +122,7 @@ pub struct Station {
 pub fn index(slot: u8) -> usize
     ensures { result ≡ index_of slot }
 {
-    let i = slot as usize;
+    let i = usize::from(slot);
     if i < 62 { i } else { 0 }
 }
 
@@ -128,7 +130,7 @@ pub fn index(slot: u8) -> usize
 pub fn is_member(used: u64, slot: u8) -> bool
     ensures { result ≡ is_member used slot }
 {
-    (slot < 62) & bits::has(used, slot as usize)
+    (slot < 62) & bits::has(used, usize::from(slot))
 }
 
 // The slots with a member: bits 62 and 63 of `used` are no slots.
@@ -248,15 +250,14 @@ pub fn is_idle(w: Wait) -> bool
     matches!(w.turn, Turn::Idle)
 }
 
-// The slot whose reply is waited for; 255 for none.
-pub fn polled_slot(w: Wait) -> u8
+// The slot whose reply is waited for.
+pub fn polled_slot(w: Wait) -> Option<u8>
     ensures { result ≡ polled_by w.turn }
 {
     let turn = w.turn;
     match turn {
-        Turn::Waiting(r) => r.slot,
-        Turn::Sending => 255,
-        Turn::Idle => 255,
+        Turn::Waiting(r) => Some(r.slot),
+        Turn::Sending | Turn::Idle => None,
     }
 }
 
@@ -271,10 +272,13 @@ pub fn member_at(s: Station, slot: u8) -> Member
 
 // ---- on_tx_done
 
-// The slot has a member that is heard and answered its last poll. Of a slot without one no member is read.
-fn is_sure(s: Station, slot: u8) -> bool
-    ensures { result ≡ is_sure (is_member s.used slot) (member_at s slot) }
+// The slot that is waited for has a member that is heard and answered its last poll. Of a slot without one no member is read.
+fn is_sure(s: Station, polled: Option<u8>) -> bool
+    ensures { result ≡ is_sure s polled }
 {
+    let Some(slot) = polled else {
+        return false;
+    };
     if !is_member(s.used, slot) {
         return false;
     }

@@ -4,8 +4,9 @@ use lib.Ieee.{Float, lt}
 use Rattle.bits.specs.Mask.{without_bit}
 use Rattle.bits.specs.Stop.{stop}
 use Rattle.bits.proofs.Lists.{cond_true, cond_false}
-use Rattle.out.specs.Encode.{Wrote}
-use Rattle.out.proofs.Laws.{then, wrote_none}
+use Rattle.out.specs.declared.Output.{Output}
+use Rattle.out.specs.Outputs.{Writes}
+use Rattle.out.proofs.Laws.{writes_then, writes_none}
 use Rattle.roster.specs.declared.Member.{Member}
 use Rattle.roster.specs.Members.{no_member, silent_at}
 use Rattle.net.specs.declared.Station.{Station}
@@ -14,11 +15,11 @@ use Rattle.net.specs.declared.Totals.{Totals}
 use Rattle.net.specs.declared.Wait.{Wait}
 use Rattle.net.specs.State.{index_of, with_members, with_wait, with_round, with_totals, with_list, with_rxsent, with_polls}
 use Rattle.net.specs.declared.Turn.TheVariants.{Sending}
-use Rattle.net.specs.Net.{is_member, is_idle, wait_of, Said, said, Did}
+use Rattle.net.specs.Net.{is_member, is_idle, wait_of, Said, said, Does}
 use Rattle.bursts.specs.Bursts.{poll_burst, acks_burst, beacon_of, rx_list_burst}
 use Rattle.bursts.specs.Direct.{directed_to, direct_burst}
 use Rattle.bursts.specs.Reroute.{reroute_of, source_for}
-use Rattle.bursts.proofs.Saying.{did_then, did_as}
+use Rattle.bursts.proofs.Saying.{does_then, does_as}
 use Rattle.next.specs.declared.Due.{Due}
 use Rattle.next.specs.declared.Act.{Act}
 use Rattle.next.specs.declared.Act.TheVariants as act
@@ -27,33 +28,33 @@ use Rattle.next.specs.Code.Decision.{said_after, late_of, slot_of, relay_of, is_
 use Rattle.next.proofs.Stages.{said_nil, next_is}
 
 -- nothing is written
-pub did_none : (s : Station) (l : List ℕ) (i : ℕ) → Did (said s []) s l i l i
-did_none s l i = record { station = refl; wrote = wrote_none l i }
+pub does_none : (s : Station) (o : Output) → Does (said s []) s o o
+does_none s o = record { station = refl; wrote = writes_none o }
 
 -- a call on the station that another left
-did_on : {d : Said} (f : Station → Said) {t r : Station} {l m n : List ℕ} {i j k : ℕ} → Did d t l i m j → Did (f t) r m j n k → Did (said_after d.words (f d.station)) r l i n k
-did_on f p q = did_then p (did_as q (ap f p.station))
+does_on : {d : Said} (f : Station → Said) {t r : Station} {o m n : Output} → Does d t o m → Does (f t) r m n → Does (said_after d.words (f d.station)) r o n
+does_on f p q = does_then p (does_as q (ap f p.station))
 
 -- ### Rerouting
 
 abbrev restful : Station → Float → Bool
 restful s now = not s.round.traffic && ltb 0 s.round.number && lt now s.round.nextround
 
-module _ (s : Station) (now : Float) {t : Station} {l m : List ℕ} {i j : ℕ} (h : restful s now ≡ false) (p : Did (reroute_of s) t l i m j) where
-  pub moved_said : {r : Station} {n : List ℕ} {k : ℕ} → (t.round.treenews ≡ 0 → ⊥) → Did (acks_burst t) r m j n k → Did (rerouting_of s now) r l i n k
+module _ (s : Station) (now : Float) {t : Station} {o m : Output} (h : restful s now ≡ false) (p : Does (reroute_of s) t o m) where
+  pub moved_said : {r : Station} {n : Output} → (t.round.treenews ≡ 0 → ⊥) → Does (acks_burst t) r m n → Does (rerouting_of s now) r o n
   unfolding rerouting_of
   moved_said e q =
       let x = reroute_of s in
       let f : eqb x.station.round.treenews 0 ≡ false = ap (λ (u : Station). eqb u.round.treenews 0) (sym p.station) ∙ ne_eqb t.round.treenews 0 e in
-      did_as (did_on acks_burst p q)
+      does_as (does_on acks_burst p q)
       (sym (cond_false (restful s now) (said s []) (rerouted_then x now) h ∙ ap (said_after x.words) (cond_false _ (said (drawn x.station now) []) (acks_burst x.station) f)))
 
-  pub round_drawn : {r : Station} → t.round.treenews ≡ 0 → r ≡ drawn t now → Did (rerouting_of s now) r l i m j
+  pub round_drawn : {r : Station} → t.round.treenews ≡ 0 → r ≡ drawn t now → Does (rerouting_of s now) r o m
   unfolding rerouting_of
   round_drawn e q =
       let x = reroute_of s in
       let f : eqb x.station.round.treenews 0 ≡ true = ap (λ (u : Station). eqb u.round.treenews 0) (sym p.station) ∙ eq-eqb t.round.treenews 0 e in
-      did_as (did_on (λ u. said (drawn u now) []) p (record { station = q; wrote = wrote_none m j }))
+      does_as (does_on (λ u. said (drawn u now) []) p (record { station = q; wrote = writes_none m }))
       (sym (cond_false (restful s now) (said s []) (rerouted_then x now) h ∙ ap (said_after x.words) (cond_true _ (said (drawn x.station now) []) (acks_burst x.station) f)))
 
 -- ### The received list
@@ -64,22 +65,22 @@ looked_at s = eqb s.round.number 0 || eqb s.round.rxsent s.round.number
 abbrev looked : Station → Station
 looked s = with_round s (with_rxsent s.round s.round.number)
 
-module _ (s : Station) (now : Float) {t : Station} {l m : List ℕ} {i j : ℕ} (h : looked_at s ≡ false) (p : Did (rx_list_burst (looked s)) t l i m j) where
+module _ (s : Station) (now : Float) {t : Station} {o m : Output} (h : looked_at s ≡ false) (p : Does (rx_list_burst (looked s)) t o m) where
   same_idle : {b : Bool} → is_idle t.wait.turn ≡ b → is_idle (rx_list_burst (looked s)).station.wait.turn ≡ b
   same_idle e = ap (λ (u : Station). is_idle u.wait.turn) (sym p.station) ∙ e
 
-  pub list_none : {r : Station} {n : List ℕ} {k : ℕ} → is_idle t.wait.turn ≡ true → Did (rerouting_of t now) r m j n k → Did (round_then s now) r l i n k
+  pub list_none : {r : Station} {n : Output} → is_idle t.wait.turn ≡ true → Does (rerouting_of t now) r m n → Does (round_then s now) r o n
   unfolding round_then
   list_none e q =
       let x = rx_list_burst (looked s) in
-      did_as (did_on (λ u. rerouting_of u now) p q)
+      does_as (does_on (λ u. rerouting_of u now) p q)
       (sym (cond_false (looked_at s) (rerouting_of s now) (list_then x now) h ∙ cond_true _ (said_after x.words (rerouting_of x.station now)) x (same_idle e)))
 
-  pub list_said : is_idle t.wait.turn ≡ false → Did (round_then s now) t l i m j
+  pub list_said : is_idle t.wait.turn ≡ false → Does (round_then s now) t o m
   unfolding round_then
   list_said e =
       let x = rx_list_burst (looked s) in
-      did_as p
+      does_as p
       (sym (cond_false (looked_at s) (rerouting_of s now) (list_then x now) h ∙ cond_false _ (said_after x.words (rerouting_of x.station now)) x (same_idle e)))
 
 -- ### The decision
@@ -92,9 +93,9 @@ not_said act.Draw s now e = refl
 not_said act.Poll s now e = refl
 
 -- a burst to all: the station waits for the end of the sending
-pub spoken_did : (a : Act) (s : Station) (now : Float) {r : Round} {w : Wait} {l m : List ℕ} {i j : ℕ} → is_said a ≡ true
-    → r ≡ (spoken_of a s now).station.round → w ≡ wait_of Sending s.wait.deadline → Wrote l i (spoken_of a s now).words m j
-    → Did (spoken_of a s now) (with_round (with_wait s w) r) l i m j
+pub spoken_did : (a : Act) (s : Station) (now : Float) {r : Round} {w : Wait} {o m : Output} → is_said a ≡ true
+    → r ≡ (spoken_of a s now).station.round → w ≡ wait_of Sending s.wait.deadline → Writes o (spoken_of a s now).words m
+    → Does (spoken_of a s now) (with_round (with_wait s w) r) o m
 unfolding beacon_of acks_burst
 spoken_did act.Wait s now e f g h = record { station = cc; wrote = h }
 spoken_did act.Beacon s now e f g h = record { station = rw (f, g); wrote = h }
@@ -123,29 +124,29 @@ stage_by_is act.Acks s now = said_nil (acks_burst s)
 stage_by_is act.Draw s now = refl
 stage_by_is act.Poll s now = refl
 
-pub stage_by_did : (a : Act) (s : Station) (now : Float) (t : Station) (m : List ℕ) (j : ℕ) {r : Station} {l n : List ℕ} {i k : ℕ}
-    → Did (spoken_of a s now) t l i m j → Did (ended_of a t now) r m j n k → Did (stage_by a s now) r l i n k
-stage_by_did a s now t m j p q = did_as (did_on (λ u. ended_of a u now) p q) (stage_by_is a s now)
+pub stage_by_did : (a : Act) (s : Station) (now : Float) (t : Station) (m : Output) {r : Station} {o n : Output}
+    → Does (spoken_of a s now) t o m → Does (ended_of a t now) r m n → Does (stage_by a s now) r o n
+stage_by_did a s now t m p q = does_as (does_on (λ u. ended_of a u now) p q) (stage_by_is a s now)
 
 -- nobody is polled
-pub none_did : (x : Act) (t : Station) (queue : List ℕ) {f : Option ℕ} {l : List ℕ} {i : ℕ} → f ≡ front_of t.wait t.round.list x → f ≡ None → Did (word_then x t queue) t l i l i
-none_did x t queue {f} {l} {i} e n = did_as (did_none t l i) (ap (λ (g : Option ℕ). word_for g t queue) (sym n ∙ e))
+pub none_did : (x : Act) (t : Station) (queue : List ℕ) {f : Option ℕ} {o : Output} → f ≡ front_of t.wait t.round.list x → f ≡ None → Does (word_then x t queue) t o o
+none_did x t queue {f} {o} e n = does_as (does_none t o) (ap (λ (g : Option ℕ). word_for g t queue) (sym n ∙ e))
 
 -- word goes out before the poll of a slot
-pub direct_did : (x : Act) (t : Station) (queue : List ℕ) (slot to : ℕ) {r : Station} {l m : List ℕ} {i j : ℕ}
+pub direct_did : (x : Act) (t : Station) (queue : List ℕ) (slot to : ℕ) {r : Station} {o m : Output}
     → Some slot ≡ front_of t.wait t.round.list x → Some to ≡ directed_to t slot
-    → Did (direct_burst t queue to) r l i m j → Did (word_then x t queue) r l i m j
+    → Does (direct_burst t queue to) r o m → Does (word_then x t queue) r o m
 direct_did x t queue slot to e d p =
-    did_as p (ap (λ (g : Option ℕ). word_or g slot t queue) d ∙ ap (λ (g : Option ℕ). word_for g t queue) e)
+    does_as p (ap (λ (g : Option ℕ). word_or g slot t queue) d ∙ ap (λ (g : Option ℕ). word_for g t queue) e)
 
 -- the poll, with what each of its calls gives
-pub poll_did : (x : Act) (t : Station) (queue : List ℕ) {slot source i polls list : ℕ} {here : Bool} {v : Wait} {l m : List ℕ} {j k : ℕ}
+pub poll_did : (x : Act) (t : Station) (queue : List ℕ) {slot source i polls list : ℕ} {here : Bool} {v : Wait} {o m : Output}
     → Some slot ≡ front_of t.wait t.round.list x → None ≡ directed_to t slot → source ≡ source_for t slot → i ≡ index_of slot → here ≡ is_member t.used slot
-    → Wrote l j (poll_burst t.settings here (get_or t.members i no_member) slot source false) m k
+    → Writes o (poll_burst t.settings here (get_or t.members i no_member) slot source false) m
     → v ≡ poll_wait t.wait slot source → polls ≡ stop (t.totals.polls + 1) → list ≡ without_bit t.round.list slot
-    → Did (word_then x t queue) (with_round (with_totals (with_wait t v) (with_polls t.totals polls)) (with_list t.round list)) l j m k
+    → Does (word_then x t queue) (with_round (with_totals (with_wait t v) (with_polls t.totals polls)) (with_list t.round list)) o m
 poll_did x t queue {slot} {source} e d f i h w a b c =
-    did_as (record { station = rw (c, b, a, f); wrote = rw (h, i, f) at w }) (ap (λ (g : Option ℕ). word_or g slot t queue) d ∙ ap (λ (g : Option ℕ). word_for g t queue) e)
+    does_as (record { station = rw (c, b, a, f); wrote = rw (h, i, f) at w }) (ap (λ (g : Option ℕ). word_or g slot t queue) d ∙ ap (λ (g : Option ℕ). word_for g t queue) e)
 
 -- the station with the parts that the first stages leave
 abbrev pub laid : Station → ℕ → Member → ℕ → Member → Wait → Totals → Round → Station
@@ -183,14 +184,14 @@ module _ (s : Station) (ok : Bool) (now : Float) {d l : Due} {a : ℕ} {here : B
   act_is : x ≡ act_in (is_quiet late_in) (late_station s late_in now).round s.used now
   act_is = rw (p.act, p.round, late_is)
 
-  pub next_said : (queue : List ℕ) (t : Station) (o₂ : List ℕ) (i₂ : ℕ) {q : Station} {o o₁ o₃ : List ℕ} {i i₁ i₃ : ℕ}
-      → Wrote o i (late_words l s.round.closeleft s.settings (get_or s.members a no_member) here) o₁ i₁
-      → Did (stage_by x (laid s a k b c v u r) now) t o₁ i₁ o₂ i₂ → Did (word_then x t queue) q o₂ i₂ o₃ i₃
-      → Did (cond ok (said (ncs_next s now queue).station (ncs_next s now queue).words) (said s [])) q o i o₃ i₃
+  pub next_said : (queue : List ℕ) (t : Station) (o₂ : Output) {q : Station} {o o₁ o₃ : Output}
+      → Writes o (late_words l s.round.closeleft s.settings (get_or s.members a no_member) here) o₁
+      → Does (stage_by x (laid s a k b c v u r) now) t o₁ o₂ → Does (word_then x t queue) q o₂ o₃
+      → Does (cond ok (said (ncs_next s now queue).station (ncs_next s now queue).words) (said s [])) q o o₃
   unfolding next_straight
-  next_said queue t o₂ i₂ w e m =
-      let g = did_as e (ap (λ (y : Station). stage_by x y now) laid_is) in
-      let z = did_on (λ y. word_then x y queue) g m in
+  next_said queue t o₂ w e m =
+      let g = does_as e (ap (λ (y : Station). stage_by x y now) laid_is) in
+      let z = does_on (λ y. word_then x y queue) g m in
       let y = rw act_is at z in
-      let whole : Did (next_straight s ok now queue) _ _ _ _ _ = record { station = y.station; wrote = then (rw words_are at w) y.wrote } in
-      did_as whole (next_is s ok now queue)
+      let whole : Does (next_straight s ok now queue) _ _ _ = record { station = y.station; wrote = writes_then (rw words_are at w) y.wrote } in
+      does_as whole (next_is s ok now queue)

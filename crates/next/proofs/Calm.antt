@@ -10,7 +10,8 @@ use Rattle.bits.proofs.Loops.{fold_keeps, fold_keeps_below, any_none}
 use Rattle.level.specs.declared.Level.{Level}
 use Rattle.level.specs.declared.Level.TheVariants.{Unheard, Decibels}
 use Rattle.level.specs.Levels.{is_heard}
-use Rattle.out.proofs.Laws.{wrote_none}
+use Rattle.out.specs.declared.Output.{Output}
+use Rattle.out.proofs.Laws.{writes_none}
 use Rattle.stream.specs.Window.{holes_of}
 use Rattle.roster.specs.declared.Member.{Member}
 use Rattle.roster.specs.Members.{no_member, is_news, told_now}
@@ -18,12 +19,12 @@ use Rattle.roster.specs.Relays.{promotable_at, is_leaf}
 use Rattle.net.specs.declared.Station.{Station}
 use Rattle.net.specs.declared.Round.{Round}
 use Rattle.net.specs.State.{member_at, with_members, with_round, with_totals, with_list, with_rxsent, with_rxdirty, with_number, with_rounds}
-use Rattle.net.specs.Net.{plus, is_idle, Said, said, Did}
+use Rattle.net.specs.Net.{plus, is_idle, Said, said, Does}
 use Rattle.bursts.specs.Rows.{member_in, any_holes}
 use Rattle.bursts.specs.Bursts.{acks_burst, rx_list_burst, tell_of, tell_at, tell_all, list_sent, list_told}
 use Rattle.bursts.specs.Reroute.{floor_of, promote_with, promote_at, promote_all, leaf_at, leaves_of, is_down, must_move, move_at, move_all, reroute_of}
 use Rattle.bursts.proofs.Masks.{mask_where_lem}
-use Rattle.bursts.proofs.Saying.{did_as}
+use Rattle.bursts.proofs.Saying.{does_as}
 use Rattle.next.specs.Next.{list_for, drawn}
 use Rattle.next.specs.Code.Decision.{rerouted_then, rerouting_of, list_then, round_then, list_in, list_due, tell_in, told_in, list_round, eventful_in, no_list_yet}
 
@@ -192,17 +193,17 @@ module _ (s : Station) (now : Float) (idle : is_idle s.wait.turn ≡ true) (clea
       ∙ cond_true (eqb (calmed s).round.treenews 0) (said (drawn (calmed s) now) []) (acks_burst (calmed s)) (eq-eqb _ 0 (news_kept (list_due s.round) ∙ news))
 
   -- as the calls of the code give it
-  pub no_list_yet_did : {ks : List Member} {k : Round} {l : List ℕ} {i : ℕ}
+  pub no_list_yet_did : {ks : List Member} {k : Round} {o : Output}
       → ks ≡ told_in (list_due s.round) s.used s.members → k ≡ list_round s.round → no_list_yet k now ≡ true
-      → Did (round_then s now) (with_round (with_members s ks) k) l i l i
-  no_list_yet_did {ks} {k} {l} {i} a b e =
-      did_as (record { station = rw (a, b); wrote = wrote_none l i }) (sym (round_no_list_yet (rw b at e)))
+      → Does (round_then s now) (with_round (with_members s ks) k) o o
+  no_list_yet_did {ks} {k} {o} a b e =
+      does_as (record { station = rw (a, b); wrote = writes_none o }) (sym (round_no_list_yet (rw b at e)))
 
-  pub drawn_did : {ks : List Member} {k q : Round} {list rounds : ℕ} {l : List ℕ} {i : ℕ}
+  pub drawn_did : {ks : List Member} {k q : Round} {list rounds : ℕ} {o : Output}
       → ks ≡ told_in (list_due s.round) s.used s.members → k ≡ list_round s.round → no_list_yet k now ≡ false
       → q ≡ with_number k ((k.number + 1) % 2 ^ 32) (plus now s.settings.idleroundgap) false
       → list ≡ list_in ks s.used s.settings.misslimit q.number → rounds ≡ stop (s.totals.rounds + 1)
-      → Did (round_then s now) (with_totals (with_round (with_members s ks) (with_list q list)) (with_rounds s.totals rounds)) l i l i
+      → Does (round_then s now) (with_totals (with_round (with_members s ks) (with_list q list)) (with_rounds s.totals rounds)) o o
   unfolding list_for
-  drawn_did {ks} {k} {q} {list} {rounds} {l} {i} a b e c d f =
-      did_as (record { station = rw (f, d, c, b, a); wrote = wrote_none l i }) (sym (round_drawn (rw b at e)))
+  drawn_did {ks} {k} {q} {list} {rounds} {o} a b e c d f =
+      does_as (record { station = rw (f, d, c, b, a); wrote = writes_none o }) (sym (round_drawn (rw b at e)))

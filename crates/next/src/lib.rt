@@ -3,15 +3,16 @@
 
 ghost use Rattle.std.specs.Prelude.{◌≡◌, ◌+◌, ◌%◌, ◌^◌, false, [], if◌then◌else◌};
 ghost use Rattle.bits.specs.Loop.{any};
-ghost use Rattle.out.specs.Encode.{Wrote};
+ghost use Rattle.out.specs.Outputs.{Writes};
 ghost use Rattle.net.specs.State.{with_number};
-ghost use Rattle.net.specs.Net.{Did, said};
+ghost use Rattle.net.specs.Net.{Does, said};
 ghost use Rattle.bursts.specs.Reroute.{source_for};
 ghost use Rattle.next.specs.Next.{overdue_of, due_by, due_of, drawn, ncs_next};
 ghost use Rattle.next.specs.Code.Decision.{late_of, slot_of, relay_of, is_quiet, late_words, late_member, late_source, late_wait, late_polls, late_totals, close_round, forward_to, late_round, act_in, is_said, is_draw, spoken_of, rerouting_of, round_then, list_in, list_due, told_in, eventful_at, eventful_in, list_round, no_list_yet, may_poll, front_of, Ends, none_seen, look_at, to_of, asks_for, poll_wait};
 
 use bursts::{direct, reroute};
 use net::{Reply, Round, Settings, Station, Totals, Turn, Wait};
+use out::Output;
 use queue::Queue;
 use roster::{Member, relay};
 use stream::window;
@@ -19,15 +20,8 @@ use words::least;
 
 // Each stage changes parts of the station in place; where not `ok`, nothing changes.
 // `queue` is the directed queue.
-pub fn ncs_next(
-    mut s: Station,
-    ok: bool,
-    time: f64,
-    queue: &[u8],
-    o: &mut [u32],
-    at: &mut usize,
-) -> Station
-    ensures { Did (if ok then said (ncs_next s time queue.now).station (ncs_next s time queue.now).words else said s []) result o.old at.old o.new at.new }
+pub fn ncs_next(mut s: Station, ok: bool, time: f64, queue: &[u8], o: &mut Output) -> Station
+    ensures { Does (if ok then said (ncs_next s time queue.now).station (ncs_next s time queue.now).words else said s []) result o.old o.new }
 {
     let w = s.wait;
     let q = s.round;
@@ -37,7 +31,7 @@ pub fn ncs_next(
     let i = net::index(polled);
     let m = s.members[i];
     let here = net::is_member(s.used, polled);
-    *at = put_late(o, *at, l, q.closeleft, g, m, here);
+    put_late(o, l, q.closeleft, g, m, here);
     let k = late_member(m, l, here);
     s.members[i] = k;
     let a = net::index(relay_of(l));
@@ -53,13 +47,13 @@ pub fn ncs_next(
     s.round = r;
     let act = act_of(is_quiet(l), r, s.used, time);
     if is_said(act) {
-        let said = spoken(s, act, time, o, at);
+        let said = spoken(s, act, time, o);
         s.round = said;
         let sends = net::sending(v);
         s.wait = sends;
     }
     if is_draw(act) {
-        s = round_end(s, time, o, at);
+        s = round_end(s, time, o);
     }
     let now = s.wait;
     if let Some(slot) = front(now, s.round.list, act) {
@@ -72,7 +66,7 @@ pub fn ncs_next(
             seen = look(seen, s.used, j, p, f, number, slot);
         }
         if let Some(to) = to_of(seen.word, slot) {
-            s = direct::direct_burst(s, to, queue, o, at);
+            s = direct::direct_burst(s, to, queue, o);
         } else {
             let mut source: u8 = wire::ALL;
             if asks(seen.needs, slot) {
@@ -82,13 +76,13 @@ pub fn ncs_next(
             let e = net::index(slot);
             let n = s.members[e];
             let here = net::is_member(s.used, slot);
-            *at = bursts::poll_burst(h, here, n, slot, source, false, o, *at);
+            bursts::poll_burst(h, here, n, slot, source, false, o);
             let x = s.wait;
             let y = poll_wait(x, slot, source);
             s.wait = y;
             let polls = bits::one_more(s.totals.polls);
             s.totals.polls = polls;
-            let list = bits::without(s.round.list, slot as usize);
+            let list = bits::without(s.round.list, usize::from(slot));
             s.round.list = list;
         }
     }
@@ -157,7 +151,8 @@ fn late_of(d: Due, ok: bool) -> Due
     if ok { d } else { Due::Quiet }
 }
 
-// The slot of the reply that did not come; 63, which is no slot, for none.
+// The slot of the reply that did not come; 63, which is no slot, for none: `net::index` and `net::is_member` take any number, so that none
+// needs no case of its own.
 fn slot_of(d: Due) -> u8
     ensures { result ≡ slot_of d }
 {
@@ -168,7 +163,7 @@ fn slot_of(d: Due) -> u8
     }
 }
 
-// Whose traffic it was to forward; 63 for none.
+// Whose traffic it was to forward; 63 for none, as in `Reply`: `net::index` takes any number here too.
 fn relay_of(d: Due) -> u8
     ensures { result ≡ relay_of d }
 {
@@ -187,32 +182,22 @@ fn is_quiet(d: Due) -> bool
 }
 
 // K_CLOSE, the poll once more in the most robust waveform, or event 3.
-fn put_late(
-    o: &mut [u32],
-    at: usize,
-    d: Due,
-    left: u32,
-    g: Settings,
-    m: Member,
-    here: bool,
-) -> usize
-    ensures { Wrote o.old at (late_words d left g m here) o.new result }
+fn put_late(o: &mut Output, d: Due, left: u32, g: Settings, m: Member, here: bool)
+    ensures { Writes o.old (late_words d left g m here) o.new }
 {
     match d {
         Due::Close => {
-            if left == 0 {
-                return at;
+            if left != 0 {
+                o.tiny(wire::K_CLOSE, 0, u32::from(g.beaconlevel));
             }
-            out::put_tiny(o, at, wire::K_CLOSE, 0, g.beaconlevel as u32)
         }
-        Due::Again(r) => bursts::poll_burst(g, here, m, r.slot, r.relayfor, true, o, at),
+        Due::Again(r) => bursts::poll_burst(g, here, m, r.slot, r.relayfor, true, o),
         Due::Missed(r) => {
-            if !here {
-                return at;
+            if here {
+                o.missed(usize::from(r.slot));
             }
-            out::put_missed(o, at, r.slot as usize)
         }
-        Due::Free | Due::Quiet => at,
+        Due::Free | Due::Quiet => {}
     }
 }
 
@@ -367,13 +352,13 @@ fn is_draw(a: Act) -> bool
 }
 
 // The words of such a burst, and the round behind it.
-fn spoken(s: Station, a: Act, time: f64, o: &mut [u32], at: &mut usize) -> Round
-    ensures { (result ≡ (spoken_of a s time).station.round) × Wrote o.old at.old (spoken_of a s time).words o.new at.new }
+fn spoken(s: Station, a: Act, time: f64, o: &mut Output) -> Round
+    ensures { (result ≡ (spoken_of a s time).station.round) × Writes o.old (spoken_of a s time).words o.new }
 {
     let r = s.round;
     match a {
-        Act::Beacon => bursts::beacon_round(s, time, o, at),
-        Act::Acks => bursts::acks_round(s, o, at),
+        Act::Beacon => bursts::beacon_round(s, time, o),
+        Act::Acks => bursts::acks_round(s, o),
         Act::Wait | Act::Draw | Act::Poll => r,
     }
 }
@@ -419,33 +404,33 @@ fn new_round(mut s: Station, time: f64) -> Station
     s
 }
 
-fn rerouting(s: Station, time: f64, o: &mut [u32], at: &mut usize) -> Station
-    ensures { Did (rerouting_of s time) result o.old at.old o.new at.new }
+fn rerouting(s: Station, time: f64, o: &mut Output) -> Station
+    ensures { Does (rerouting_of s time) result o.old o.new }
 {
     let r = s.round;
     if !r.traffic & (0 < r.number) & (time < r.nextround) {
         return s;
     }
-    let t = reroute::reroute(s, o, at);
+    let t = reroute::reroute(s, o);
     if t.round.treenews != 0 {
-        return bursts::acks_burst(t, o, at);
+        return bursts::acks_burst(t, o);
     }
     new_round(t, time)
 }
 
 // What has arrived is said, if that is news; else boats are moved and a new list is drawn up.
-fn list_end(mut s: Station, time: f64, o: &mut [u32], at: &mut usize) -> Station
-    ensures { Did (round_then s time) result o.old at.old o.new at.new }
+fn list_end(mut s: Station, time: f64, o: &mut Output) -> Station
+    ensures { Does (round_then s time) result o.old o.new }
 {
     let n = s.round.number;
     if (n == 0) | (s.round.rxsent == n) {
-        return rerouting(s, time, o, at);
+        return rerouting(s, time, o);
     }
     s.round.rxsent = n;
-    let t = bursts::rx_list_burst(s, o, at);
+    let t = bursts::rx_list_burst(s, o);
     let w = t.wait;
     if net::is_idle(w) {
-        return rerouting(t, time, o, at);
+        return rerouting(t, time, o);
     }
     t
 }
@@ -516,8 +501,8 @@ fn no_list_yet(r: Round, time: f64) -> bool
 }
 
 // The end of a round. Mostly there is nothing to say and nobody to move: then the station stays where it is.
-fn round_end(mut s: Station, time: f64, o: &mut [u32], at: &mut usize) -> Station
-    ensures { Did (round_then s time) result o.old at.old o.new at.new }
+fn round_end(mut s: Station, time: f64, o: &mut Output) -> Station
+    ensures { Does (round_then s time) result o.old o.new }
 {
     let w = s.wait;
     let g = s.settings;
@@ -526,7 +511,7 @@ fn round_end(mut s: Station, time: f64, o: &mut [u32], at: &mut usize) -> Statio
     let ks = told_in(ms, s.used, list_due(r));
     let still = net::is_idle(w) & !r.rxdirty & (r.treenews == 0);
     if !still | eventful(ks, s.used, g) {
-        s = list_end(s, time, o, at);
+        s = list_end(s, time, o);
     } else {
         s.members = ks;
         let k = list_round(r);
@@ -588,7 +573,7 @@ fn look(seen: Seen, used: u64, j: usize, m: Member, q: Queue, number: u32, slot:
 {
     let here = bits::has(used, j);
     let below = (m.via == slot) & (slot != wire::ALL);
-    let word = here & queue::is_due(q, number) & ((j == slot as usize) | below);
+    let word = here & queue::is_due(q, number) & ((j == usize::from(slot)) | below);
     Seen {
         needs: bits::with_if(seen.needs, here & relay::needs_relay(m), j),
         word: bits::with_if(seen.word, word, j),
@@ -599,7 +584,7 @@ fn look(seen: Seen, used: u64, j: usize, m: Member, q: Queue, number: u32, slot:
 fn to_of(word: u64, slot: u8) -> Option<u8>
     ensures { result ≡ to_of word slot }
 {
-    if bits::has(word, slot as usize) {
+    if bits::has(word, usize::from(slot)) {
         return Some(slot);
     }
     let i = bits::lowest(word)?;
@@ -610,7 +595,7 @@ fn to_of(word: u64, slot: u8) -> Option<u8>
 fn asks(needs: u64, slot: u8) -> bool
     ensures { result ≡ asks_for needs slot }
 {
-    bits::without(needs, slot as usize) != 0
+    bits::without(needs, usize::from(slot)) != 0
 }
 
 // Whose traffic the polled slot is best placed to forward; 63 for none.

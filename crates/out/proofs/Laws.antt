@@ -11,7 +11,9 @@ use lib.Dec.{ltb}
 use lib.ListN.{length, take, drop, set, length-set, length-append}
 use lib.Seq.{sets, sets-eq, length-sets, set_out, take_at, drop_at}
 use borrow.Author.Tests.{ltb-true, ltb-false, lt-ltb, le-ltb}
+use Rattle.out.specs.declared.Output.{Output}
 use Rattle.out.specs.Encode.{after, Wrote}
+use Rattle.out.specs.Outputs.{Writes}
 
 -- ### The place after k words
 
@@ -137,3 +139,35 @@ still_on {ws = ws} {more = more} s e w = record {
 
 pub still_end : {l m : List ℕ} {i j : ℕ} {all rest : List ℕ} → Still l i all m j rest → rest ≡ [] → Wrote l i all m j
 still_end s e = wrote_as s.wrote (sym (s.whole ∙ rw e (append-nil s.done)))
+
+-- ### An output
+
+-- one call after another
+pub writes_then : {o m r : Output} {vs ws : List ℕ} → Writes o vs m → Writes m ws r → Writes o (vs ++ ws) r
+writes_then p q = record { same = q.same ∙ p.same; wrote = then p.wrote q.wrote }
+
+-- a call that writes nothing
+pub writes_none : (o : Output) → Writes o [] o
+writes_none o = record { same = refl; wrote = wrote_none o.words.now o.at }
+
+-- the same words, said otherwise
+pub writes_as : {o m : Output} {vs ws : List ℕ} → Writes o vs m → vs ≡ ws → Writes o ws m
+writes_as p e = record { same = p.same; wrote = wrote_as p.wrote e }
+
+-- what stands in the words that were lent, r, once the output is not used any more
+pub writes_back : {o m : Output} {ws r : List ℕ} → Writes o ws m → (o.words.ghost_name ≡ m.words.ghost_name → r ≡ m.words.now) → Wrote o.words.now o.at ws r m.at
+writes_back {o} {m} {ws} {r} p e = let k = e (sym p.same) in rw k p.wrote
+
+-- a loop of calls: of all the words, the rest is still to be written
+pub record StillWrites (o : Output) (all : List ℕ) (m : Output) (rest : List ℕ) : Type 0 where
+  pub same : m.words.ghost_name ≡ o.words.ghost_name
+  pub still : Still o.words.now o.at all m.words.now m.at rest
+
+pub writes_start : (o : Output) (all : List ℕ) → StillWrites o all o all
+writes_start o all = record { same = refl; still = still_start o.words.now o.at all }
+
+pub writes_on : {o m r : Output} {all rest ws more : List ℕ} → StillWrites o all m rest → rest ≡ ws ++ more → Writes m ws r → StillWrites o all r more
+writes_on s e w = record { same = w.same ∙ s.same; still = still_on s.still e w.wrote }
+
+pub writes_end : {o m : Output} {all rest : List ℕ} → StillWrites o all m rest → rest ≡ [] → Writes o all m
+writes_end s e = record { same = s.same; wrote = still_end s.still e }

@@ -11,8 +11,10 @@ use lib.Seq.{get_or-take, take-append_seam, drop-append_seam, take_all, length-t
 use borrow.Author.Tests.{eqb-true, ltb-true, ltb-false, eqb-false}
 use Rattle.words.specs.Words.{words_for, least}
 use Rattle.words.proofs.Read.{least_most, least_first}
-use Rattle.out.specs.Encode.{word12, pack, frame_words, ctrl_words, chunks_of, chunk_size, chunk_words, Wrote}
-use Rattle.out.proofs.Laws.{then}
+use Rattle.out.specs.declared.Output.{Output}
+use Rattle.out.specs.Encode.{word12, pack, frame_words, ctrl_words, chunks_of, chunk_size, chunk_words}
+use Rattle.out.specs.Outputs.{Writes}
+use Rattle.out.proofs.Laws.{writes_then}
 
 -- ### A payload
 
@@ -127,10 +129,6 @@ unfolding chunks_of
 chunk_none kind size [] h = refl
 chunk_none kind size (b ∷ l) h = absurd (omega arith)
 
--- the first n bytes of the rows are the first m, and a turn of the writer sends the next of them
-pub cut_rows : (n m : ℕ) (rows : List ℕ) → m ≡ least n (length rows) → take n rows ≡ take m rows
-cut_rows n m rows e = sym (take_short n (length rows) rows (omega arith)) ∙ rw e
-
 pub size_clamp : (size : ℕ) → max 1 (min size 31) ≡ chunk_size size
 size_clamp size = by (eqb size 0) (ltb size 31) refl refl
   where
@@ -139,21 +137,22 @@ size_clamp size = by (eqb size 0) (ltb size 31) refl refl
     by false true e f = let h = eqb-false size 0 e in let k = ltb-true size 31 f in omega arith
     by false false e f = let k = ltb-false size 31 f in omega arith
 
+-- a turn of the writer sends the next of the rows
 pub chunks_turn : (kind size s : ℕ) (r x t : List ℕ) → s ≡ chunk_size size → r ≡ x ++ t → length x ≡ min s (length r) → 0 < length r
     → chunk_words kind size r ≡ ctrl_words (kind ∷ x) ++ chunk_words kind size t
 chunks_turn kind size s r x t z e n h =
     let c = chunk_cut s r x t e n in
     rw (chunk_step kind size r h, ← z, c.0, c.1)
 
--- ### A frame, of what its three writers wrote
+-- ### A frame, of what its three calls wrote
 
 pub cut_room : (k n len : ℕ) (p : List ℕ) → k ≡ least n 255 → len ≡ least k (length p) → (len ≤ length p) × (len < 256)
 cut_room k n len p d e = omega (arith, least_most n 255, least_first k (length p), least_most k (length p))
 
-pub frame_done : {l m₁ m₂ m₃ : List ℕ} {i a b c : ℕ} (flags field n len : ℕ) (p : List ℕ) → len ≡ least (least n 255) (length p)
-    → Wrote l i ((0xa0000000 + flags * 256 + len) ∷ []) m₁ a → Wrote m₁ a ((0xb0000000 + field) ∷ []) m₂ b → Wrote m₂ b (pack (take len p)) m₃ c
-    → Wrote l i (frame_words flags field (take (least n 255) p)) m₃ c
+pub frame_done : {o o₁ o₂ o₃ : Output} (flags field n len : ℕ) (p : List ℕ) → len ≡ least (least n 255) (length p)
+    → Writes o ((0xa0000000 + flags * 256 + len) ∷ []) o₁ → Writes o₁ ((0xb0000000 + field) ∷ []) o₂ → Writes o₂ (pack (take len p)) o₃
+    → Writes o (frame_words flags field (take (least n 255) p)) o₃
 frame_done flags field n len p e u v w =
     let t : take (least n 255) p ≡ take len p = sym (take_short (least n 255) (length p) p (omega arith)) ∙ rw e in
     let k : length (take len p) ≡ len = length-take-le len p (omega (arith, least_most (least n 255) (length p))) in
-    rw (t, k) (then u (then v w))
+    rw (t, k) (writes_then u (writes_then v w))

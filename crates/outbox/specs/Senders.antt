@@ -31,11 +31,17 @@ no_message = record { seq = 0; total = 0; cut = 0 }
 abbrev pub message_at : Sender → ℕ → Message
 message_at s i = get_or s.messages i no_message
 
+abbrev pub total_in : Message → ℕ
+total_in m = least m.total message_room
+
+abbrev pub cut_in : Message → ℕ
+cut_in m = least m.cut (total_in m)
+
 abbrev pub total_of : Sender → ℕ → ℕ
-total_of s i = least (message_at s i).total message_room
+total_of s i = total_in (message_at s i)
 
 abbrev pub cut_of : Sender → ℕ → ℕ
-cut_of s i = least (message_at s i).cut (total_of s i)
+cut_of s i = cut_in (message_at s i)
 
 -- the first n bytes that message i has of a memory
 abbrev pub part : List ℕ → ℕ → ℕ → List ℕ

@@ -7,7 +7,7 @@ ghost use Rattle.refusal.specs.Numbers.{number_in};
 ghost use Rattle.inbox.specs.Messages.{framed};
 ghost use Rattle.outbox.specs.Outbox.{push_msg, lens, has_new, stale};
 ghost use Rattle.outbox.specs.Marks.{pieces, stale_marks};
-ghost use Rattle.outbox.specs.Senders.{count_of, total_of, cut_of, part, put, outbox, unless, post_refusal, posted_of, memory_refusal, pending_of, Eights, none};
+ghost use Rattle.outbox.specs.Senders.{count_of, total_in, cut_in, total_of, cut_of, part, put, outbox, unless, post_refusal, posted_of, memory_refusal, pending_of, Eights, none};
 
 use crate::marks;
 use refusal::Refusal;
@@ -25,6 +25,22 @@ pub struct Message {
     pub seq: u32,
     pub total: u16,
     pub cut: u16,
+}
+
+impl Message {
+    // How many bytes it has: no value of a message is wrong, and its memory ends there.
+    pub fn total(self) -> usize
+        ensures { (result ≡ total_in self) × (result ≤ 2048) }
+    {
+        usize::from(self.total).min(MESSAGE_ROOM)
+    }
+
+    // How many of them were cut.
+    pub fn cut(self) -> usize
+        ensures { (result ≡ cut_in self) × (result ≤ total_in self) × (result ≤ 2048) }
+    {
+        usize::from(self.cut).min(self.total())
+    }
 }
 
 // No value of it is wrong. A count stands beside the messages, since the memory is fixed.
@@ -57,22 +73,6 @@ pub fn count_of(s: Sender) -> usize
     ensures { (result ≡ count_of s) × (result ≤ 8) }
 {
     s.count.min(MESSAGES)
-}
-
-pub fn total_of(s: Sender, i: usize) -> usize
-    requires { i < 8 }
-    ensures { (result ≡ total_of s i) × (result ≤ 2048) }
-{
-    let total = s.messages[i].total;
-    (total as usize).min(MESSAGE_ROOM)
-}
-
-pub fn cut_of(s: Sender, i: usize) -> usize
-    requires { i < 8 }
-    ensures { (result ≡ cut_of s i) × (result ≤ total_of s i) × (result ≤ 2048) }
-{
-    let cut = s.messages[i].cut;
-    (cut as usize).min(total_of(s, i))
 }
 
 // `push_msg`: a message queued. Its marks are not touched, whatever they are.
@@ -133,7 +133,7 @@ pub fn has_new(s: Sender) -> bool
 {
     let n = count_of(s);
     for i in 0..n {
-        if cut_of(s, i) < total_of(s, i) {
+        if s.messages[i].cut() < s.messages[i].total() {
             return true;
         }
     }
@@ -161,8 +161,8 @@ fn pending_at(s: Sender, marks: &[u8], i: usize) -> usize
     ensures { (result ≡ total_of s i - cut_of s i + lens (pieces 0 (part marks.now i (cut_of s i)))) × (result ≤ 4096) }
 {
     let at = MESSAGE_ROOM * i;
-    let cut = cut_of(s, i);
-    total_of(s, i) - cut + marks::in_flight(&marks[at..at + cut])
+    let cut = s.messages[i].cut();
+    s.messages[i].total() - cut + marks::in_flight(&marks[at..at + cut])
 }
 
 // Our last burst got no answer at all.
@@ -187,6 +187,6 @@ fn stale_at(s: Sender, marks: &mut [u8], i: usize)
     ensures { marks.new ≡ put marks.old i (stale_marks (part marks.old i (cut_of s i))) }
 {
     let at = MESSAGE_ROOM * i;
-    let cut = cut_of(s, i);
+    let cut = s.messages[i].cut();
     marks::stale(&mut marks[at..at + cut]);
 }

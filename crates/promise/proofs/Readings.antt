@@ -1,5 +1,5 @@
 -- The station and the events after a kept piece; what a frame leaves of a reception's running values, and every call of the number of cells. Assumes nothing.
-use Rattle.std.specs.Prelude.{Some, None, is_some}
+use Rattle.std.specs.Prelude.{Option, Some, None, is_some}
 use mathlib.Core.Path.{◌≡◌, refl, sym, ap, ◌∙◌, subst}
 use mathlib.Core.Bool.{Bool, true, false, cond, ◌&&◌}
 use mathlib.Core.List.{List, [], ◌∷◌, ◌++◌}
@@ -13,7 +13,7 @@ use Rattle.bits.specs.Mask.{has_bit}
 use Rattle.bits.proofs.Laws.{with_other}
 use Rattle.bits.proofs.Lists.{cond_keeps, le_or_lt, eq_or_not}
 use Rattle.words.specs.Words.{Heard, lost, heard}
-use Rattle.out.specs.Encode.{event_word, message_word}
+use Rattle.out.specs.Encode.{message_word}
 use Rattle.stream.specs.declared.window.Window.{Window}
 use Rattle.stream.specs.Window.{land_of, bar_of, fresh_of}
 use Rattle.stream.specs.declared.table.Room.{Room}
@@ -27,7 +27,7 @@ use Rattle.net.specs.Net.{is_member}
 use Rattle.net.proofs.Laws.{index_lt, index_is, member_lt, member_none}
 use Rattle.frames.specs.declared.Air.{Air}
 use Rattle.frames.specs.Reading.{Reading}
-use Rattle.frames.specs.Pieces.{is_aside_leaf, heard_member, size_of, piece_member, is_relayed, piece_events, traffic_if, relay_if, unkept_at, barred_piece, kept_piece, piece_frame}
+use Rattle.frames.specs.Pieces.{is_aside_leaf, heard_member, size_of, piece_member, relayer, is_relayed, relayed_words, piece_events, traffic_if, relay_if, unkept_at, barred_piece, kept_piece, piece_frame}
 use Rattle.frames.specs.Frames.{read_frame}
 use Rattle.promise.specs.Promise.{Event2, events_in}
 use Rattle.promise.proofs.FrameCases.{frame_cases}
@@ -169,7 +169,7 @@ module _ (slot : ℕ) (r : Accepted) (x : Reading) (here : is_member x.station.u
 -- its events
 pub piece_events_lem : (a : Air) (s : Station) (slot : ℕ) (r : Accepted) → slot < 64 → (is_some r.landed ≡ true → r.cell < 64)
     → events_in (piece_events a s slot r) ≡ also_one (event_for slot r) []
-piece_events_lem a s slot r low fit = at (is_some r.landed) refl
+piece_events_lem a s slot r low fit = at (is_some r.landed) (relayer a s slot r) refl
   where
     word : List ℕ
     word = message_word slot r.cell r.number ∷ []
@@ -180,12 +180,10 @@ piece_events_lem a s slot r low fit = at (is_some r.landed) refl
     said : r.cell < 64 → events_in word ≡ one ∷ []
     said f = message_word_lem slot r.cell r.number [] low f ∙ ap (λ (l : List Event2). one ∷ l) events_none
 
-    at : (b : Bool) → is_some r.landed ≡ b
-        → events_in (cond b (cond (is_relayed a s slot r) (event_word 4 slot a.polled ∷ word) word) []) ≡ also_one (cond b (Some one) None) []
-    at true q =
-        cond_keeps (λ (ws : List ℕ). events_in ws ≡ one ∷ []) (is_relayed a s slot r) (event_word 4 slot a.polled ∷ word) word
-        (λ _. relayed_word slot a.polled word ∙ said (fit q)) (λ _. said (fit q))
-    at false q = events_none
+    at : (b : Bool) (via : Option ℕ) → is_some r.landed ≡ b → events_in (cond b (relayed_words via slot ++ word) []) ≡ also_one (cond b (Some one) None) []
+    at true (Some v) q = relayed_word slot v word ∙ said (fit q)
+    at true None q = said (fit q)
+    at false via q = events_none
 
 -- ---- the running values: frame, members seen, and the marks of the other frames; and how many cells there are
 

@@ -22,7 +22,6 @@ use Rattle.net.specs.declared.Wait.{Wait}
 use Rattle.net.specs.declared.Round.{Round}
 use Rattle.net.specs.State.{with_round, with_closing, with_table, table_of, queue_at, with_queue}
 use Rattle.net.specs.Net.{new_station, idle_wait, wait_of, done_by, on_tx_done}
-use Rattle.roster.specs.declared.Member.{Member}
 use Rattle.admit.specs.Admission.{seat_of, is_full, via_for}
 use Rattle.next.specs.Next.{ncs_next}
 use Rattle.rx.specs.Reception.{ncs_rx}
@@ -65,11 +64,11 @@ fine_quiet left r n s t store old ws q f g =
 
 -- ### Each call
 
-done_turn : (y : Turn) (v : Wait) (g : Settings) (here : Bool) (m : Member) (t : Float) (r : Run) → v.turn ≡ y → Rel r y → Rel r (done_by y v g here m t).turn
-done_turn Idle v g here m t r q e = subst (Rel r) (sym q) e
-done_turn Sending v g here m t rest q e = tt
-done_turn Sending v g here m t (turn x p a) q e = absurd e
-done_turn (Waiting p) v g here m t r q e = e
+done_turn : (y : Turn) (s : Station) (t : Float) (r : Run) → s.wait.turn ≡ y → Rel r y → Rel r (done_by y s t).turn
+done_turn Idle s t r q e = subst (Rel r) (sym q) e
+done_turn Sending s t rest q e = tt
+done_turn Sending s t (turn x p a) q e = absurd e
+done_turn (Waiting p) s t r q e = e
 
 -- a sign-off ends the slot's turn, and any other goes on
 strike_turn : (y : Turn) (v : Wait) (slot : ℕ) (r : Run) → v.turn ≡ y → Rel r y → Rel (run_without slot r) (strike_by y slot v).turn
@@ -136,7 +135,7 @@ module _ (r : Run) (n : Net) (e : Rel r n.station.wait.turn) (l : Low n.station.
   unfolding sent_of on_tx_done
   fine_sending now =
       fine_quiet left r (check1 now 0) s (on_tx_done s now) [] [] [] quiet_none
-      (fine_none r (on_tx_done s now) (done_turn s.wait.turn s.wait _ _ _ now r refl e) l) same
+      (fine_none r (on_tx_done s now) (done_turn s.wait.turn s now r refl e) l) same
 
   fine_closing : (count : ℕ) → Fine left r (close_of s count).station (said (close_of s count) [] [])
   unfolding close_of

@@ -14,7 +14,6 @@ use Rattle.level.specs.Spans.{up_to}
 use Rattle.wire.specs.Call.{unpack_call}
 use Rattle.words.specs.Words.{Burst, Parsed, malformed, parsed, parse}
 use Rattle.stream.specs.Table.{cell_count}
-use Rattle.roster.specs.declared.Member.{Member}
 use Rattle.net.specs.declared.Station.{Station}
 use Rattle.net.specs.declared.Turn.{Turn}
 use Rattle.net.specs.declared.Turn.TheVariants.{Idle, Sending, Waiting}
@@ -85,11 +84,10 @@ LevelsIn Ok [] = Unit {0}
 LevelsIn Ok (c ∷ cs) = LevelIn Ok c × LevelsIn Ok cs
 
 -- the end of a sending: what was only sent is over, and the reply to a poll is waited for
-sent_turn : (s : Station) (y : Turn) (here : Bool) (m : Member) (t : Float) → s.wait.turn ≡ y
-    → Turned s (done_by y s.wait s.settings here m t).turn s.round.list
-sent_turn s Idle here m t e = still
-sent_turn s Sending here m t e = ends
-sent_turn s (Waiting r) here m t e = subst (λ (z : Turn). Turned s z s.round.list) e still
+sent_turn : (s : Station) (y : Turn) (t : Float) → s.wait.turn ≡ y → Turned s (done_by y s t).turn s.round.list
+sent_turn s Idle t e = still
+sent_turn s Sending t e = ends
+sent_turn s (Waiting r) t e = subst (λ (z : Turn). Turned s z s.round.list) e still
 
 module _ (A : Allowed) where
   abbrev To : Station → Outcome → Type 0
@@ -130,7 +128,7 @@ module _ (A : Allowed) where
   pub sending_walk : A.turns → (s : Station) (now : Float) → To s (sent_of s now)
   unfolding sent_of on_tx_done
   sending_walk turns s now = unless_walk (check1 now 0) s [] (done (on_tx_done s now) [] [])
-      (λ _. turn A s s _ _ _ turns (sent_turn s s.wait.turn _ _ now refl) refl refl refl start)
+      (λ _. turn A s s _ _ _ turns (sent_turn s s.wait.turn now refl) refl refl refl start)
 
   pub closing_walk : (s : Station) (count : ℕ) → To s (close_of s count)
   unfolding close_of

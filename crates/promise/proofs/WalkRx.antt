@@ -1,6 +1,7 @@
 -- Admission, the frames of a reception and what its end hears are chains of single changes: those of a control frame and of the end leave the messages alone.
 -- Assumes nothing.
-use Rattle.std.specs.Prelude.{is_some}
+use Rattle.std.specs.Prelude.{Option, Some, None, is_some}
+use Rattle.std.specs.Bool.{then_some}
 use mathlib.Core.Path.{◌≡◌, refl, sym, ap, ◌∙◌}
 use mathlib.Core.Logic.{inl, inr, ⊎_elim}
 use Prim.Native.Nat.{ℕ, zero, suc, ◌+◌, ◌/◌, ◌%◌, ◌<◌}
@@ -121,18 +122,18 @@ module _ (A : Allowed) where
   -- ---- control frames
 
   module _ (a : Air) (ok : A.level a.level) where
-    caps_fields : (b : Bool) (m k : Member) (n : ℕ) → Fields A m k → Fields A m (with_caps k b n)
-    caps_fields true m k n f = also f (caps _)
-    caps_fields false m k n f = f
+    caps_fields : (n : Option ℕ) (m k : Member) → Fields A m k → Fields A m (with_caps k n)
+    caps_fields (Some n) m k f = also f (caps _)
+    caps_fields None m k f = f
 
-    version_fields : (b : Bool) (m k : Member) (n : ℕ) → Fields A m k → Fields A m (with_version k b n)
-    version_fields true m k n f = also f (version _)
-    version_fields false m k n f = f
+    version_fields : (n : Option ℕ) (m k : Member) → Fields A m k → Fields A m (with_version k n)
+    version_fields (Some n) m k f = also f (version _)
+    version_fields None m k f = f
 
     checkin_fields : (len : ℕ) (p : List ℕ) (m : Member) → Fields A m (checkin_member a len p m)
     checkin_fields len p m =
-        version_fields (ltb 9 len) m _ (get_or p 9 0)
-        (caps_fields (ltb 7 len) m _ (get_or p 7 0) (also none (received a.level (snr_from_q (get_or p 6 0)) a.time ok)))
+        version_fields (then_some (ltb 9 len) (get_or p 9 0)) m _
+        (caps_fields (then_some (ltb 7 len) (get_or p 7 0)) m _ (also none (received a.level (snr_from_q (get_or p 6 0)) a.time ok)))
 
     report_fields : (q : ℕ) (b : Bool) (m : Member) → Fields A m (report_member a q b m)
     report_fields q true m = also (also none (down q)) (walk.heard a.time)

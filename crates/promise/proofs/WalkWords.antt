@@ -1,5 +1,5 @@
 -- The words that rerouting, admission and the frames of a reception return are events alone, and how many they are at most. Assumes nothing.
-use Rattle.std.specs.Prelude.{is_some}
+use Rattle.std.specs.Prelude.{Option, Some, None, is_some}
 use mathlib.Core.Path.{◌≡◌, refl, sym, subst}
 use Prim.Native.Nat.{ℕ, zero, suc, ◌+◌, ◌-◌, ◌*◌, ◌/◌, ◌%◌, ◌≤◌, ◌<◌}
 use native.Mathlib.Omega.{arith}
@@ -26,7 +26,7 @@ use Rattle.admit.specs.declared.Seat.TheVariants.{Known, Free, Full}
 use Rattle.admit.specs.Admission.{seat_of, admit_by}
 use Rattle.frames.specs.declared.Air.{Air}
 use Rattle.frames.specs.Reading.{Reading}
-use Rattle.frames.specs.Pieces.{is_relayed, unkept_at, kept_piece, piece_frame}
+use Rattle.frames.specs.Pieces.{relayer, relayed_words, unkept_at, kept_piece, piece_frame}
 use Rattle.frames.specs.Control.{each_entry, call_at, checkin_frame, is_forwarded, report_says, report_frame, relay_of, overheard_by, overheard_entry, overheard_frame, is_kid, kid_entry, kids_frame}
 use Rattle.frames.specs.Frames.{read_frame, frame_step, read_frames}
 use Rattle.promise.proofs.FrameCases.{control_cases, frame_cases}
@@ -159,12 +159,11 @@ module _ (M : Type 0) where
       abbrev Reads : ℕ → Reading → Type 0
       Reads n x = Events M n x.words
 
-      piece_one : (b c : Bool) (slot polled cell number : ℕ)
-          → Events M 2 (cond b (cond c (event_word 4 slot polled ∷ message_word slot cell number ∷ []) (message_word slot cell number ∷ [])) [])
-      piece_one true true slot polled cell number =
-          event (event_word 4 slot polled) 2 (omega arith) (λ q. m) (omega arith) (one (message_word slot cell number) (omega arith) (λ q. m))
-      piece_one true false slot polled cell number = events_less (omega arith) (one (message_word slot cell number) (omega arith) (λ q. m))
-      piece_one false c slot polled cell number = none
+      piece_one : (b : Bool) (via : Option ℕ) (slot cell number : ℕ) → Events M 2 (cond b (relayed_words via slot ++ (message_word slot cell number ∷ [])) [])
+      piece_one true (Some v) slot cell number =
+          event (event_word 4 slot v) 2 (omega arith) (λ q. m) (omega arith) (one (message_word slot cell number) (omega arith) (λ q. m))
+      piece_one true None slot cell number = events_less (omega arith) (one (message_word slot cell number) (omega arith) (λ q. m))
+      piece_one false via slot cell number = none
 
       frame_events : (f : Heard) (n : ℕ) (x : Reading) → Reads n x → Reads (n + most_of f) (read_frame a f x)
       unfolding read_frame report_frame piece_frame
@@ -179,7 +178,7 @@ module _ (M : Type 0) where
           (cond_keeps (Reads k) (is_member s.used slot) _ x
           (λ _. cond_keeps (Reads k) r.lost _ (kept_piece a slot r x)
           (λ _. cond_keeps (λ (y : Reading). Reads k (unkept_at y)) r.bars _ x (λ _. same) (λ _. same))
-          (λ _. events_less (omega arith) (events_both h (piece_one (is_some r.landed) (is_relayed a s slot r) slot a.polled r.cell r.number))))
+          (λ _. events_less (omega arith) (events_both h (piece_one (is_some r.landed) (relayer a s slot r) slot r.cell r.number))))
           (λ _. same))
           (control_cases (Reads k) a x same slot (get_or p 0 0) (length p) p
           (events_less (omega arith) (events_both h (checkin_events (length p) p s)))

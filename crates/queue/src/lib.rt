@@ -4,17 +4,19 @@
 
 ghost use Rattle.std.specs.Prelude.{◌≡◌, ◌++◌, ◌+◌, ◌-◌, ◌≤◌, ◌<◌, length, get_or, replicate};
 ghost use Rattle.inbox.specs.Messages.{framed};
+ghost use Rattle.refusal.specs.Numbers.{number_in};
 ghost use Rattle.queue.specs.Queues.{empty_queue, first_of, is_due, sent_in, reported_to, posted_to, space_refusal, place_of, byte_at, bytes_from, put_bytes};
 
-// posted: the bytes posted in all, kept: the first of them that the queue keeps, reported: the highest number that the boat reported. round: the
-// round in which it was last sent to, where `sent`.
+use refusal::Refusal;
+
+// posted: the bytes posted in all, kept: the first of them that the queue keeps, reported: the highest number that the boat reported. sent: the
+// round in which it was last sent to.
 #[derive(Clone, Copy)]
 pub struct Queue {
     pub posted: u32,
     pub kept: u32,
     pub reported: u32,
-    pub round: u32,
-    pub sent: bool,
+    pub sent: Option<u32>,
 }
 
 // Nothing was posted.
@@ -25,8 +27,7 @@ pub fn empty() -> Queue
         posted: 0,
         kept: 0,
         reported: 0,
-        round: 0,
-        sent: false,
+        sent: None,
     }
 }
 
@@ -44,15 +45,14 @@ pub fn first(q: Queue) -> u32
 pub fn is_due(q: Queue, round: u32) -> bool
     ensures { result ≡ is_due q round }
 {
-    !(q.sent & (q.round == round)) & (first(q) < q.posted)
+    (q.sent != Some(round)) & (first(q) < q.posted)
 }
 
 pub fn sent_in(q: Queue, round: u32) -> Queue
     ensures { result ≡ sent_in q round }
 {
     let mut k = q;
-    k.round = round;
-    k.sent = true;
+    k.sent = Some(round);
     k
 }
 
@@ -72,19 +72,19 @@ pub fn reported_to(q: Queue, n: u32) -> Queue
 // ---- posting
 
 // 24: the bytes kept and the new ones pass 2,048; 25: the total passes 16,777,215. n is the message's length, to which two bytes are added.
-pub fn space_refusal(q: Queue, n: usize) -> u8
-    ensures { result ≡ space_refusal q n }
+pub fn space_refusal(q: Queue, n: usize) -> Result<(), Refusal>
+    ensures { number_in result ≡ space_refusal q n }
 {
     if 2046 < n {
-        return 24;
+        return Err(Refusal::NoSpace);
     }
     if q.kept as usize + 2048 < q.posted as usize + n + 2 {
-        return 24;
+        return Err(Refusal::NoSpace);
     }
     if 16777215 < q.posted as usize + n + 2 {
-        return 25;
+        return Err(Refusal::Total);
     }
-    0
+    Ok(())
 }
 
 // n bytes more, where they are posted.
@@ -103,7 +103,7 @@ pub fn posted_to(q: Queue, n: usize) -> Queue
 fn place(slot: u8, o: usize) -> usize
     ensures { result ≡ place_of slot o }
 {
-    2048 * slot as usize + o % 2048
+    2048 * usize::from(slot) + o % 2048
 }
 
 // Byte o of a slot's stream.

@@ -11,16 +11,15 @@ use stream::window::Window;
 
 pub mod relay;
 
-// `via` is the relay's slot, 63 for none; a flag says whether caps and version are known. `up` says which of its messages are whole;
+// `via` is the relay's slot, 63 for none: a number and no Option, since the block for C has a number there, in which every value comes back.
+// `up` says which of its messages are whole;
 // told and mark are (next, bitmap) as last sent in a received list and as when its relayers were last tried.
 #[derive(Clone, Copy)]
 pub struct Member {
     pub call: [u8; 7],
     pub via: u8,
-    pub hascaps: bool,
-    pub caps: u8,
-    pub hasversion: bool,
-    pub version: u8,
+    pub caps: Option<u8>,
+    pub version: Option<u8>,
     pub burst: u8,
     pub toldbits: u8,
     pub markbits: u8,
@@ -76,10 +75,8 @@ pub fn new_member(call: [u8; 7], via: u8, now: f64) -> Member
     Member {
         call: call,
         via: via,
-        hascaps: false,
-        caps: 0,
-        hasversion: false,
-        version: 0,
+        caps: None,
+        version: None,
         burst: 0,
         toldbits: 0,
         markbits: 0,
@@ -119,27 +116,25 @@ pub fn reached(m: Member, snrup: Level, now: f64) -> Member
 }
 
 // Capability and version, where a check-in has them.
-pub fn with_caps(m: Member, known: bool, caps: u8) -> Member
-    ensures { result ≡ with_caps m known caps }
+pub fn with_caps(m: Member, caps: Option<u8>) -> Member
+    ensures { result ≡ with_caps m caps }
 {
-    if !known {
+    let Some(byte) = caps else {
         return m;
-    }
+    };
     let mut k = m;
-    k.hascaps = true;
-    k.caps = wire::caps_of(caps);
+    k.caps = Some(wire::caps_of(byte));
     k
 }
 
-pub fn with_version(m: Member, known: bool, version: u8) -> Member
-    ensures { result ≡ with_version m known version }
+pub fn with_version(m: Member, version: Option<u8>) -> Member
+    ensures { result ≡ with_version m version }
 {
-    if !known {
+    let Some(byte) = version else {
         return m;
-    }
+    };
     let mut k = m;
-    k.hasversion = true;
-    k.version = version;
+    k.version = Some(byte);
     k
 }
 
@@ -218,7 +213,7 @@ pub fn is_news(m: Member) -> bool
 pub fn is_willing(m: Member) -> bool
     ensures { result ≡ is_willing m }
 {
-    !m.hascaps | wire::relays(m.caps)
+    m.caps.is_none_or(|caps| wire::relays(caps))
 }
 
 // The level at which it is reached: as it hears us, or as we hear it.

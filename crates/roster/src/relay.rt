@@ -1,5 +1,5 @@
 // The choices of relays (reroute, relayer_for, relay_src_for, turn_over of ncs.rs), over masks of slots and the table of who hears whom:
-// hears[r * 62 + a] is the level field at which slot r hears slot a, 0 to 62, or 63 for none.
+// hears[r * 62 + a] is the level field at which slot r hears slot a, 0 to 62, or 63 for none: a number and no Option, since the block for C has a number there, in which every value comes back.
 ghost use Rattle.std.specs.Prelude.{◌≡◌, ◌<◌};
 ghost use Rattle.roster.specs.Relays.{is_source, hears_it, could_relay, needs_relay, loud_enough, wins, better, best_step, best_of, best_low, best_high, heard_at, relayer_for, relay_src_for, any_hears, tried_with, turn_over, promotable_at, is_leaf};
 
@@ -39,6 +39,7 @@ fn loud_enough(q: u8, floor: f32) -> bool
 }
 
 // Of equal levels the one looked at first stays, the lowest slot; with LAST the one looked at last, the highest.
+// A match with an arm for each: `map_or` with a closure that reads LAST was tried and did not prove.
 fn wins<const LAST: bool>(p: Option<Pick>, q: u8) -> bool
     ensures { result ≡ wins LAST p q }
 {
@@ -71,7 +72,7 @@ fn step<const LAST: bool>(
 ) -> Option<Pick>
     ensures { result ≡ best_step LAST hears.now able a floor i p }
 {
-    if !bits::has(able, i as usize) {
+    if !bits::has(able, usize::from(i)) {
         return p;
     }
     let q = heard_at(hears, i, a);
@@ -92,6 +93,7 @@ fn best<const LAST: bool>(hears: &[u8; 3844], able: u64, a: u8, floor: f32) -> u
     }
 }
 
+// The slot, 63 for nobody: a number and no Option, since a relay's slot goes into the block for C as it is; of best_high too.
 pub fn best_low(hears: &[u8; 3844], able: u64, a: u8, floor: f32) -> u8
     ensures { result ≡ best_low hears.now able a floor }
 {
@@ -114,15 +116,16 @@ pub fn heard_at(hears: &[u8; 3844], r: u8, a: u8) -> u8
     if 62 <= a {
         return wire::UNHEARD;
     }
-    let k = r as usize * 62 + a as usize;
+    let k = usize::from(r) * 62 + usize::from(a);
     hears[k]
 }
 
 // The member to forward a's traffic: the best that is untried, else the best of all; 63 for nobody.
+// A number and no Option, since a relay's slot goes into the block for C as it is.
 pub fn relayer_for(hears: &[u8; 3844], able: u64, tried: u64, a: u8, floor: f32) -> u8
     ensures { result ≡ relayer_for hears.now able tried a floor }
 {
-    let others = bits::without(able, a as usize);
+    let others = bits::without(able, usize::from(a));
     let first = best_low(hears, bits::minus(others, tried), a, floor);
     if first != wire::ALL {
         return first;
@@ -143,7 +146,7 @@ fn is_source(
     requires { a < 62 }
     ensures { result ≡ is_source hears.now left able tried.now slot floor a }
 {
-    let at = a as usize;
+    let at = usize::from(a);
     if !bits::has(left, at) {
         return false;
     }
@@ -151,6 +154,7 @@ fn is_source(
 }
 
 // The station whose traffic `slot` should forward when polled: the first in `needs` whose relayer it is; 63 for none.
+// A number and no Option, since it goes into `relayfor`, and that into the block for C, as it is.
 pub fn relay_src_for(
     hears: &[u8; 3844],
     needs: u64,
@@ -164,7 +168,7 @@ pub fn relay_src_for(
     if 62 <= slot {
         return wire::ALL;
     }
-    let left = bits::without(needs, slot as usize);
+    let left = bits::without(needs, usize::from(slot));
     if left == 0 {
         return wire::ALL;
     }
@@ -181,7 +185,7 @@ fn hears_it(hears: &[u8; 3844], left: u64, a: u8, i: u8) -> bool
     ensures { result ≡ hears_it hears.now left a i }
 {
     let q = heard_at(hears, i, a);
-    bits::has(left, i as usize) & (q < wire::UNHEARD)
+    bits::has(left, usize::from(i)) & (q < wire::UNHEARD)
 }
 
 // Whether a member of `left` hears a.
@@ -200,8 +204,8 @@ fn any_hears(hears: &[u8; 3844], left: u64, a: u8) -> bool
 fn tried_with(hears: &[u8; 3844], used: u64, tried: u64, a: u8, slot: u8) -> u64
     ensures { result ≡ tried_with hears.now used tried a slot }
 {
-    let more = bits::with(tried, slot as usize);
-    let left = bits::minus(bits::without(used, a as usize), more);
+    let more = bits::with(tried, usize::from(slot));
+    let left = bits::minus(bits::without(used, usize::from(a)), more);
     if any_hears(hears, left, a) { more } else { 0 }
 }
 

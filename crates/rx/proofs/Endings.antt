@@ -23,9 +23,10 @@ use Rattle.net.specs.declared.Turn.{Turn}
 use Rattle.net.specs.declared.Turn.TheVariants.{Idle, Sending, Waiting}
 use Rattle.net.specs.declared.Wait.{Wait}
 use Rattle.net.specs.State.{index_of, member_at, with_members, with_wait, with_totals, with_recent, one_reply}
-use Rattle.net.specs.Net.{is_member, idle_wait, Did}
-use Rattle.out.specs.Encode.{Wrote}
-use Rattle.out.proofs.Laws.{wrote_as}
+use Rattle.net.specs.Net.{is_member, idle_wait, Does}
+use Rattle.out.specs.declared.Output.{Output}
+use Rattle.out.specs.Outputs.{Writes}
+use Rattle.out.proofs.Laws.{writes_as}
 use Rattle.net.specs.declared.Totals.{Totals}
 use Rattle.frames.specs.declared.Air.{Air}
 use Rattle.frames.specs.declared.Rx.{Rx}
@@ -183,16 +184,16 @@ module _ (a : Air) (h : Head) (s : Station) (x : Rx) where
 
 -- ### The stores of the code, one after the other
 
-pub finished : (a : Air) (h : Head) (s : Station) (x : Rx) (e : Ending) (here : Bool) (i : ℕ) (k : Member) (z : Recent) (level : ℕ) (j : ℕ) (d : Member) (v : Wait) (y : Totals) (l m : List ℕ) (end : ℕ)
+pub finished : (a : Air) (h : Head) (s : Station) (x : Rx) (e : Ending) (here : Bool) (i : ℕ) (k : Member) (z : Recent) (level : ℕ) (j : ℕ) (d : Member) (v : Wait) (y : Totals) (l m : Output)
     → e ≡ ending_by (awaited_of s.wait.turn) x.sender x.more h → here ≡ is_member s.used e.slot → i ≡ index_of e.slot
     → k ≡ end_member (get_or s.members i no_member) e here h a → z ≡ end_recent (get_or s.recent i no_recent) e here a → level ≡ end_level s.settings k here
-    → Wrote l x.at (end_words e h x.heard level) m end
+    → Writes l (end_words e h x.heard level) m
     → j ≡ index_of e.reply.relayfor → d ≡ end_source s.hears s.used (get_or (set s.members i k) j no_member) e e.reply.relayfor
     → v ≡ end_wait s.wait e
     → y ≡ end_totals s.totals e (silent_at s.settings.misslimit (get_or s.members i no_member)) (silent_at s.settings.misslimit k)
-    → Did (end_said a h s x) (with_totals (with_wait (with_members (with_recent s (set s.recent i z)) (set (set s.members i k) j d)) v) y) l x.at m end
+    → Does (end_said a h s x) (with_totals (with_wait (with_members (with_recent s (set s.recent i z)) (set (set s.members i k) j d)) v) y) l m
 unfolding end_station end_burst
-finished a h s x e here i k z level j d v y l m end pe ph pi pk pz pl w pj pd pv py = record {
+finished a h s x e here i k z level j d v y l m pe ph pi pk pz pl w pj pd pv py = record {
   station = rw (pv, py, pd, pj, pz, pk, pi, ph, pe) (end_station_lem a h s x);
-  wrote = wrote_as w (rw (pl, pk, pi, ph, pe) (end_burst_lem a h s x));
+  wrote = writes_as w (rw (pl, pk, pi, ph, pe) (end_burst_lem a h s x));
 }

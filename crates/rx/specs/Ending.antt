@@ -113,9 +113,14 @@ answer_by false r burst heard s =
 abbrev pub goes_on : Head → Bool → Reply → Bool
 goes_on h more r = (eqb (h.hi / 4 % 2) 1 || more) && ltb r.turnbursts 3
 
+-- the last report, if any, names the slot
+abbrev pub names : Option ℕ → ℕ → Bool
+names None slot = true
+names (Some x) slot = eqb x slot
+
 -- a reply needs a code of the ladder, and that the last report, if any, names the boat that was polled
-abbrev pub is_reply : Head → ℕ → Reply → Bool
-is_reply h sender r = not (is_aside h) && ltb h.code 17 && (eqb sender 256 || eqb sender r.slot)
+abbrev pub is_reply : Head → Option ℕ → Reply → Bool
+is_reply h sender r = not (is_aside h) && ltb h.code 17 && names sender r.slot
 
 abbrev pub reply_by : Turn → Air → Head → Reading → Ended
 reply_by Idle a h x = nothing_more x.station

@@ -3,7 +3,9 @@ use Rattle.std.specs.Prelude.{ℕ, ◌≡◌, Bool, false, cond, List, [], ◌++
 use Rattle.wire.specs.Kinds.{tiny, k_idle}
 use Rattle.words.specs.Words.{Burst, Parsed, malformed, parsed, parse}
 use Rattle.words.specs.declared.Head.{Head}
+use Rattle.out.specs.declared.Output.{Output}
 use Rattle.out.specs.Encode.{Wrote}
+use Rattle.out.specs.Outputs.{Writes}
 use Rattle.net.specs.declared.Station.{Station}
 use Rattle.net.specs.declared.Turn.{Turn}
 use Rattle.net.specs.State.{with_wait}
@@ -26,14 +28,14 @@ pub record Received : Type 0 where
 -- the slot whose reply this may be; none for an aside burst
 abbrev pub air_by : Turn → ℕ → Head → Float → Float → Air
 air_by turn used h level now =
-    record { level = level; time = now; aside = is_aside h; polled = cond (is_aside h) 255 (polled_by turn); start = used }
+    record { level = level; time = now; aside = is_aside h; polled = cond (is_aside h) None (polled_by turn); start = used }
 
 abbrev pub air_of : Station → Head → Float → Float → Air
 air_of s h level now = air_by s.wait.turn s.used h level now
 
 abbrev pub first_reading : Station → List ℕ → Reading
 first_reading s store =
-    record { station = s; store = store; words = []; frame = 0; heard = 0; unkept = 0; sender = 256; more = false; seen = [] }
+    record { station = s; store = store; words = []; frame = 0; heard = 0; unkept = 0; sender = None; more = false; seen = [] }
 
 -- events first, then the burst
 abbrev pub received_of : Reading → Ended → Received
@@ -75,4 +77,11 @@ pub record RxDid (d : Received) (r : Station) (t : List ℕ) (l : List ℕ) (m :
   pub station : r ≡ d.station
   pub store : t ≡ d.store
   pub wrote : Wrote l 0 d.words m j
+  pub unkept : k ≡ d.unkept
+
+-- the same of the output o, which it left as m
+pub record RxDoes (d : Received) (r : Station) (t : List ℕ) (o m : Output) (k : ℕ) : Type 0 where
+  pub station : r ≡ d.station
+  pub store : t ≡ d.store
+  pub wrote : Writes o d.words m
   pub unkept : k ≡ d.unkept

@@ -1,11 +1,12 @@
 // Reception, the end (ncs_rx of ncs.rs): the deadline that moves, a K_IDLE, the reply to a poll.
 ghost use Rattle.std.specs.Prelude.{◌≡◌, ◌+◌, ◌%◌};
-ghost use Rattle.out.specs.Encode.{Wrote};
-ghost use Rattle.rx.specs.Ending.{is_aside, is_busy, postponed, busy_wait, goes_on, is_reply, idle_member, reply_member, ack_extra};
+ghost use Rattle.out.specs.Outputs.{Writes};
+ghost use Rattle.rx.specs.Ending.{is_aside, is_busy, postponed, busy_wait, goes_on, names, is_reply, idle_member, reply_member, ack_extra};
 ghost use Rattle.rx.specs.Code.Ending.{no_reply, awaited_of, is_awaited, ends, is_answer, no_ending, idle_ending, reply_ending, replied_by, ending_by, end_member, end_recent, end_source, end_wait, end_totals, end_level, end_words};
 
 use frames::{Air, Rx};
 use net::{Reply, Settings, Totals, Turn, Wait};
+use out::Output;
 use recent::Recent;
 use roster::{Member, relay};
 use words::Head;
@@ -78,10 +79,7 @@ fn awaited_by(w: Wait) -> Option<Reply>
 fn is_awaited(w: Option<Reply>, slot: u8) -> bool
     ensures { result ≡ is_awaited w slot }
 {
-    match w {
-        Some(r) => r.slot == slot,
-        None => false,
-    }
+    w.is_some_and(|r| r.slot == slot)
 }
 
 fn ends(kind: Kind) -> bool
@@ -133,10 +131,17 @@ fn replied(r: Reply, x: Rx, h: Head) -> Ending
 }
 
 // A reply needs a code of the ladder, and that the last report, if any, names the boat that was polled.
-fn is_reply(h: Head, sender: u32, r: Reply) -> bool
+fn is_reply(h: Head, sender: Option<u8>, r: Reply) -> bool
     ensures { result ≡ is_reply h sender r }
 {
-    !is_aside(h) & (h.code < 17) & ((sender == 256) | (sender == r.slot as u32))
+    !is_aside(h) & (h.code < 17) & names(sender, r.slot)
+}
+
+// The last report, if any, names the slot.
+fn names(sender: Option<u8>, slot: u8) -> bool
+    ensures { result ≡ names sender slot }
+{
+    sender.is_none_or(|x| x == slot)
 }
 
 // More to come, and the turn has bursts left.
@@ -285,14 +290,14 @@ pub fn end_totals(t: Totals, e: Ending, before: bool, after: bool) -> Totals
 }
 
 // K_POLLACK where the turn goes on, else K_ACK, after the events.
-pub fn put_end(o: &mut [u32], at: usize, e: Ending, h: Head, heard: u64, lev: u32) -> usize
-    ensures { Wrote o.old at (end_words e h heard lev) o.new result }
+pub fn put_end(o: &mut Output, e: Ending, h: Head, heard: u64, lev: u32)
+    ensures { Writes o.old (end_words e h heard lev) o.new }
 {
     if !is_answer(e.kind) {
-        return at;
+        return;
     }
     let kind = if e.more { wire::K_POLLACK } else { wire::K_ACK };
-    out::put_tiny(o, at, kind, ack_extra(e.slot, h.hi, heard), lev)
+    o.tiny(kind, ack_extra(e.slot, h.hi, heard), lev);
 }
 
 pub fn ack_level(g: Settings, m: Member, here: bool) -> u32
@@ -309,5 +314,5 @@ pub fn ack_level(g: Settings, m: Member, here: bool) -> u32
 fn ack_extra(slot: u8, hi: u32, heard: u64) -> u32
     ensures { result ≡ ack_extra slot (hi % 4) heard }
 {
-    slot as u32 % 64 + 64 * (hi % 4) + 256 * (heard % 64) as u32
+    u32::from(slot) % 64 + 64 * (hi % 4) + 256 * (heard % 64) as u32
 }

@@ -4,11 +4,13 @@
 ghost use Rattle.std.specs.Prelude.{◌≡◌, true, ◌*◌, ◌<◌, ◌≤◌, length, Some};
 ghost use Rattle.inbox.specs.Sizes.{cell_size};
 ghost use Rattle.words.specs.Words.{parse, shape_of};
-ghost use Rattle.rx.specs.Reception.{air_by, RxDid, rx_of};
+ghost use Rattle.rx.specs.Reception.{air_by, RxDoes, rx_of};
 ghost use Rattle.rx.specs.Code.Reception.{head_for, many_of, burst_read};
 
+use frames::payload::Payload;
 use frames::{Air, control, pieces};
 use net::{Station, Wait};
+use out::Output;
 use words::Head;
 
 pub mod ending;
@@ -22,12 +24,11 @@ pub fn ncs_rx(
     level: f32,
     time: f64,
     lent: &mut [u8],
-    o: &mut [u32],
-    at: &mut usize,
+    o: &mut Output,
     mask: &mut u64,
 ) -> Station
     requires { ok ≡ true → (shape_of (parse words.now) ≡ Some n) × (cell_size * s.count ≤ length lent.old) }
-    ensures { RxDid (rx_of ok words.now s level time lent.old) result lent.new o.old o.new at.new mask.new }
+    ensures { RxDoes (rx_of ok words.now s level time lent.old) result lent.new o.old o.new mask.new }
 {
     let h = head_or(words, ok);
     let w = s.wait;
@@ -35,7 +36,7 @@ pub fn ncs_rx(
     let a = air_of(w, s.used, h, level, time);
     let v = ending::busy_wait(w, h, g, time);
     s.wait = v;
-    read_burst(s, h, a, words, many_of(h, n), lent, o, at, mask)
+    read_burst(s, h, a, words, many_of(h, n), lent, o, mask)
 }
 
 // The n frames of the burst that the words are, and then the end. A piece and a report touch one member, in place; the other control
@@ -47,70 +48,76 @@ fn read_burst(
     words: &[u32],
     n: usize,
     lent: &mut [u8],
-    o: &mut [u32],
-    at: &mut usize,
+    o: &mut Output,
     mask: &mut u64,
 ) -> Station
     requires { 0 < n → (shape_of (parse words.now) ≡ Some n) × (cell_size * s.count ≤ length lent.old) }
-    ensures { RxDid (burst_read a h n words.now s lent.old) result lent.new o.old o.new at.new mask.new }
+    ensures { RxDoes (burst_read a h n words.now s lent.old) result lent.new o.old o.new mask.new }
 {
     let mut x = frames::first_rx();
     // A while: x counts the frames itself, with the word where the next one stands; a for would count them a second time.
     while x.frame < n {
-        let f = frames::frame_at(words, x.word);
+        let Some(f) = frames::frame_at(words, x.word) else {
+            x = frames::pass(x);
+            continue;
+        };
+        let payload = Payload {
+            words,
+            at: x.word,
+            len: f.len,
+        };
         if f.ty == wire::T_UP {
             let i = net::index(f.slot);
             let m = s.members[i];
             let here = net::is_member(s.used, f.slot);
             let p = pieces::piece_of(m, here, f, &s.owners, s.busy, s.landed, s.count);
             let c = pieces::cell_of(p);
-            let d = pieces::take(p, s.cells[c], words, x.word, f.len, lent);
+            let d = pieces::take(p, s.cells[c], &payload, lent);
             let cell = d.cell;
             s.cells[c] = cell;
             s.owners[c] = pieces::owner_after(s.owners[c], d, p);
             s.busy = pieces::busy_after(s.busy, d, p, c);
             s.landed = pieces::landed_after(s.landed, d, p, c);
             s.members[i] = pieces::member_after(m, d, p, a);
-            let relayed = pieces::is_relayed(d, p, a, s.used);
-            s.round = pieces::round_after(s.round, d, relayed);
-            s.totals = pieces::totals_after(s.totals, relayed);
-            x.at = pieces::landed_events(o, x.at, d, p, c, relayed, a.polled);
+            let via = pieces::relayer(d, p, a, s.used);
+            s.round = pieces::round_after(s.round, d, via);
+            s.totals = pieces::totals_after(s.totals, via);
+            pieces::landed_events(o, d, p, c, via);
             x = pieces::next_piece(x, f, d);
             continue;
         }
-        let mut end = x.at;
         // The first byte of a control frame decides its meaning; bytes not listed do nothing.
-        let first = frames::control_byte(words, x.word, f);
+        let first = frames::control_byte(f, &payload);
         match first {
             wire::C_CHECKIN => {
                 if 7 <= f.len {
-                    s = control::checkin(s, a, words, x.word, f.len, o, &mut end);
+                    s = control::checkin(s, a, &payload, o);
                 }
             }
             wire::C_REPORT => {
                 if 12 <= f.len {
-                    let slot = control::byte_in(words, x.word, f.len, 1);
+                    let slot = payload.byte(1);
                     let here = net::is_member(s.used, slot);
                     let i = net::index(slot);
                     let m = s.members[i];
                     let forwarded = control::is_forwarded(m, here, a);
-                    let q = control::byte_in(words, x.word, f.len, 2);
-                    s.members[i] = control::report_member(m, here, forwarded, a, q);
-                    control::report_hears(&mut s.hears, here, slot, words, x.word, f.len);
-                    s.queues[i] = control::report_queue(s.queues[i], here, words, x.word, f.len);
-                    let pending = control::is_pending(words, x.word, f.len);
+                    if here {
+                        s.members[i] = control::report_member(m, forwarded, a, payload.byte(2));
+                        control::report_hears(&mut s.hears, slot, &payload);
+                        s.queues[i] = control::report_queue(s.queues[i], &payload);
+                    }
+                    let pending = payload.is_pending();
                     x = control::report_rx(x, forwarded, slot, pending);
                 }
             }
             wire::C_OVERHEARD => {
-                s = control::overheard(s, f.slot, a, words, x.word, f.len, o, &mut end);
+                s = control::overheard(s, f.slot, a, &payload, o);
             }
             wire::C_KIDS => {
-                s = control::kids(s, f.slot, a, words, x.word, f.len, o, &mut end);
+                s = control::kids(s, f.slot, a, &payload, o);
             }
             _ => {}
         }
-        x.at = end;
         x = frames::next_frame(x, f);
     }
     *mask = x.unkept;
@@ -124,7 +131,7 @@ fn read_burst(
     let k = ending::end_member(m, e, here, h, a);
     s.members[i] = k;
     s.recent[i] = ending::end_recent(s.recent[i], e, here, a);
-    *at = ending::put_end(o, x.at, e, h, x.heard, ending::ack_level(g, k, here));
+    ending::put_end(o, e, h, x.heard, ending::ack_level(g, k, here));
     let source = e.reply.relayfor;
     let b = net::index(source);
     let c = s.members[b];
@@ -157,7 +164,7 @@ fn air_of(w: Wait, used: u64, h: Head, level: f32, time: f64) -> Air
         level: level,
         time: time,
         aside: aside,
-        polled: if aside { 255 } else { slot },
+        polled: if aside { None } else { slot },
         start: used,
     }
 }

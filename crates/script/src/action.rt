@@ -17,7 +17,8 @@ pub enum Command {
 }
 
 // What the program holds beside the station. command: the command whose words are being read; cells: how many are lent; now and level: the clock
-// and the level from here on. drive: every command is there, not only the tape's; panel: the panel's questions too.
+// and the level from here on. drive: every command is there, not only the tape's; panel: the panel's questions too. (Two flags, and no enum of three
+// programs: each command asks one of them alone.)
 #[derive(Clone, Copy)]
 pub struct Control {
     pub drive: bool,

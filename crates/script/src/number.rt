@@ -5,12 +5,6 @@ ghost use Rattle.std.specs.Float.Ieee.{nan_bits};
 ghost use Rattle.bits.specs.Loop.{any};
 ghost use Rattle.script.specs.Numbers.{u32_at, u64_at, float_of, bits32, bits64};
 
-fn wide(x: u8) -> u32
-    ensures { (result ≡ x) × (result < 256) }
-{
-    x as u32
-}
-
 // The u32 at `at`; 0 where the payload has none.
 pub fn u32_at(p: &[u8; 255], at: usize) -> u32
     ensures { result ≡ u32_at p.now at }
@@ -18,7 +12,7 @@ pub fn u32_at(p: &[u8; 255], at: usize) -> u32
     if 251 < at {
         return 0;
     }
-    wide(p[at]) + 256 * wide(p[at + 1]) + 65536 * wide(p[at + 2]) + 16777216 * wide(p[at + 3])
+    u32::from_le_bytes([p[at], p[at + 1], p[at + 2], p[at + 3]])
 }
 
 fn u64_at(p: &[u8; 255], at: usize) -> u64
@@ -27,7 +21,7 @@ fn u64_at(p: &[u8; 255], at: usize) -> u64
     if 247 < at {
         return 0;
     }
-    u32_at(p, at) as u64 + 4294967296 * u32_at(p, at + 4) as u64
+    u64::from(u32_at(p, at)) + 4294967296 * u64::from(u32_at(p, at + 4))
 }
 
 // A float of one of IEEE 754's formats, and its pattern.

@@ -29,8 +29,9 @@ pub fn joined(alloc: Global, words: &[u32]) -> Result<Vec<u8>, Error> {
         return Err(Error::Malformed);
     }
     let mut rest = words;
+    // A while: a step is as long as its frame.
     while !rest.is_empty() {
-        let len = payload_len(words::item_at(rest, 0))?;
+        let len = payload_len(words::item_at(rest))?;
         body.extend_from_slice(&words::payload(rest, 0, len)[..len])?;
         if MOST < body.len() {
             return Err(Error::Malformed);
@@ -43,7 +44,7 @@ pub fn joined(alloc: Global, words: &[u32]) -> Result<Vec<u8>, Error> {
 
 // One frame: the numbers in its payload, each lowest byte first.
 pub fn numbers(alloc: Global, words: &[u32]) -> Result<Vec<u32>, Error> {
-    let item = words::item_at(words, 0);
+    let item = words::item_at(words);
     let len = payload_len(item)?;
     if words::size_of(item) != words.len() {
         return Err(Error::Malformed);

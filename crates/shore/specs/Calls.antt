@@ -1,5 +1,5 @@
 -- What a host gives at the start, and what each exported call gives back: the entry point's own answer, with the station as a block.
-use Rattle.std.specs.Prelude.{ℕ, ◌≡◌, Bool, List, replicate, Result, Ok, Err}
+use Rattle.std.specs.Prelude.{ℕ, ◌≡◌, Bool, List, replicate, Result, Ok, Err, is_some, unwrap_or}
 use Rattle.refusal.specs.declared.Refusal.{Refusal}
 use Rattle.refusal.specs.Numbers.{number_of, number_in}
 use Rattle.level.specs.declared.Level.{Level}
@@ -42,7 +42,7 @@ poorest_of (Err r) = record { level = reading_of Unheard; refusal = number_of r 
 
 abbrev pub shown_of : Entry → Shown
 shown_of e =
-    record { lastheard = time_of e.lastheard; snrup = reading_of e.snrup; snrdown = reading_of e.snrdown; cap = e.cap; missed = e.missed; bytesin = e.bytesin; here = flag_of e.here; call = e.call; via = e.via; hascaps = flag_of e.hascaps; caps = e.caps; hasversion = flag_of e.hasversion; version = e.version }
+    record { lastheard = time_of e.lastheard; snrup = reading_of e.snrup; snrdown = reading_of e.snrdown; cap = e.cap; missed = e.missed; bytesin = e.bytesin; here = flag_of e.here; call = e.call; via = e.via; hascaps = flag_of (is_some e.caps); caps = unwrap_or e.caps 0; hasversion = flag_of (is_some e.version); version = unwrap_or e.version 0 }
 
 -- a boat's messages landed, and the bytes posted to it
 abbrev pub counts_of : Station → ℕ → Counts

@@ -184,13 +184,13 @@ pub fn shown_of(e: Entry) -> Shown
         cap: e.cap,
         missed: e.missed,
         bytesin: e.bytesin,
-        here: e.here as u8,
+        here: u8::from(e.here),
         call: call,
         via: e.via,
-        hascaps: e.hascaps as u8,
-        caps: e.caps,
-        hasversion: e.hasversion as u8,
-        version: e.version,
+        hascaps: u8::from(e.caps.is_some()),
+        caps: e.caps.unwrap_or(0),
+        hasversion: u8::from(e.version.is_some()),
+        version: e.version.unwrap_or(0),
     }
 }
 
@@ -250,7 +250,7 @@ pub fn checked_of(answer: Result<bool, Refusal>) -> Checked
     match answer {
         Ok(accepted) => Checked {
             refusal: 0,
-            accepted: accepted as u8,
+            accepted: u8::from(accepted),
         },
         Err(r) => Checked {
             refusal: u8::from(r),

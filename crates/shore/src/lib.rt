@@ -1,5 +1,6 @@
 // The station for a host in C or Rust: it holds a block of numbers and arrays, and there is one function for each entry point. Each takes the block by value
 // and gives back the one to go on with; a refused call gives back what it was given, and every lent memory keeps every value.
+// C reads what is given back: a refusal, a flag and a boat that is not there are numbers.
 #![tactic(auto)]
 
 ghost use Rattle.std.specs.Prelude.{◌≡◌, length, take, drop};

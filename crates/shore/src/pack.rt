@@ -129,10 +129,10 @@ fn boat_of(m: Member) -> Boat
     Boat {
         call,
         via: m.via,
-        hascaps: u8::from(m.hascaps),
-        caps: m.caps,
-        hasversion: u8::from(m.hasversion),
-        version: m.version,
+        hascaps: u8::from(m.caps.is_some()),
+        caps: m.caps.unwrap_or(0),
+        hasversion: u8::from(m.version.is_some()),
+        version: m.version.unwrap_or(0),
         burst: m.burst,
         toldbits: m.toldbits,
         markbits: m.markbits,
@@ -156,8 +156,8 @@ fn line_of(q: Queue) -> Line
         posted: q.posted,
         kept: q.kept,
         reported: q.reported,
-        round: q.round,
-        sent: u8::from(q.sent),
+        round: q.sent.unwrap_or(0),
+        sent: u8::from(q.sent.is_some()),
     }
 }
 

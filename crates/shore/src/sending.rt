@@ -1,4 +1,5 @@
 // The sending end for a host: its numbers by value, the messages' bytes and their marks in two memories that the caller lends.
+// C reads the structs: a refusal and a flag are numbers in them, as in `answer`.
 ghost use Rattle.std.specs.Prelude.{◌≡◌, cond, List, [], ℕ, ◌≤◌, length, eqb};
 ghost use Rattle.out.specs.Encode.{Wrote};
 ghost use Rattle.outbox.specs.Outbox.{push_msg, ack, held, stale, has_new, with_msgs, take_out};
@@ -214,5 +215,5 @@ pub fn shore_sender_has_new(o: Outgoing) -> u8
 {
     let s = sender_of(o);
     let new = outbox::sender::has_new(s);
-    new as u8
+    u8::from(new)
 }

@@ -116,10 +116,8 @@ fn member_of(m: Boat) -> Member
     Member {
         call,
         via: m.via,
-        hascaps: m.hascaps != 0,
-        caps: m.caps,
-        hasversion: m.hasversion != 0,
-        version: m.version,
+        caps: (m.hascaps != 0).then_some(m.caps),
+        version: (m.hasversion != 0).then_some(m.version),
         burst: m.burst,
         toldbits: m.toldbits,
         markbits: m.markbits,
@@ -143,8 +141,7 @@ fn queue_of(q: Line) -> Queue
         posted: q.posted,
         kept: q.kept,
         reported: q.reported,
-        round: q.round,
-        sent: q.sent != 0,
+        sent: (q.sent != 0).then_some(q.round),
     }
 }
 

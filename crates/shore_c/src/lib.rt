@@ -1,4 +1,5 @@
 // The functions that a host in C or Rust links: each is the one of `shore` of its name, under the same clauses.
+// A refusal, a flag and a boat that is not there are numbers, since C reads them.
 #![tactic(auto)]
 
 ghost use Rattle.std.specs.Prelude.{◌≡◌, length, take, drop};

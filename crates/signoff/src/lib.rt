@@ -22,7 +22,7 @@ fn bereft(m: Member, slot: u8, limit: u32) -> Member
     ensures { result ≡ bereft slot limit m }
 {
     let mut k = m;
-    k.tried = bits::without(m.tried, slot as usize);
+    k.tried = bits::without(m.tried, usize::from(slot));
     if m.via == slot {
         k.snrup = Level::Unheard;
         k.via = wire::ALL;
@@ -102,7 +102,7 @@ fn strike_wait(w: Wait, slot: u8) -> Wait
 fn strike_round(mut r: Round, slot: u8) -> Round
     ensures { result ≡ strike_round slot r }
 {
-    let i = slot as usize;
+    let i = usize::from(slot);
     r.toack = bits::without(r.toack, i);
     r.treenews = bits::without(r.treenews, i);
     r.list = bits::without(r.list, i);
@@ -114,7 +114,7 @@ fn clear_all(mut s: Station, slot: u8) -> Station
 {
     for c in 0..64 {
         let o = s.owners[c];
-        let yes = bits::has(s.busy, c) & (o / 4294967296 == slot as u64);
+        let yes = bits::has(s.busy, c) & (o / 4294967296 == u64::from(slot));
         s.landed = bits::without_if(s.landed, yes, c);
         s.busy = bits::without_if(s.busy, yes, c);
     }
@@ -125,7 +125,7 @@ fn unhear_all(mut s: Station, slot: u8) -> Station
     requires { slot < 62 }
     ensures { result ≡ with_hears s (unhear_all slot s.hears) }
 {
-    let a = slot as usize;
+    let a = usize::from(slot);
     for i in 0..62 {
         s.hears[a * 62 + i] = wire::UNHEARD;
         s.hears[i * 62 + a] = wire::UNHEARD;
@@ -134,6 +134,7 @@ fn unhear_all(mut s: Station, slot: u8) -> Station
 }
 
 // A boat signs off.
+// (A slot below 62: past it the definition names places of other boats, so a value in its stead would be no plainer.)
 pub fn sign_off(mut s: Station, slot: u8) -> Station
     requires { slot < 62 }
     ensures { result ≡ sign_off s slot }
@@ -146,7 +147,7 @@ pub fn sign_off(mut s: Station, slot: u8) -> Station
     s.round = q;
     s = clear_all(s, slot);
     s = unhear_all(s, slot);
-    let i = slot as usize;
+    let i = usize::from(slot);
     let m = s.members[i];
     let k = vacant();
     let limit = s.settings.misslimit;

@@ -1,54 +1,55 @@
--- A direct admission as the code stores it: where it is refused, the boat's seat is none. Assumes nothing.
-use mathlib.Core.Path.{◌≡◌, refl, ap, ◌∙◌, subst}
-use mathlib.Core.Bool.{Bool, true, false, not, cond}
+-- A direct admission as the code stores it. Assumes nothing.
+use mathlib.Core.Path.{◌≡◌, refl, sym, subst}
+use mathlib.Core.Bool.{Bool, true, false, cond}
 use mathlib.Core.List.{List, []}
 use Prim.Native.Nat.{ℕ}
-use lib.Dec.{eqb}
 use lib.Ieee.{Float}
-use lib.ListN.{get_or}
 use Rattle.bits.specs.Mask.{with_bit}
+use Rattle.out.specs.declared.Output.{Output}
+use Rattle.out.specs.Outputs.{Writes}
 use Rattle.out.specs.Encode.{Wrote}
-use Rattle.out.proofs.Laws.{wrote_as}
+use Rattle.out.proofs.Laws.{writes_back}
 use Rattle.recent.specs.declared.Recent.{Recent}
-use Rattle.recent.specs.Readings.{no_recent, empty}
+use Rattle.recent.specs.Readings.{empty}
 use Rattle.queue.specs.declared.Queue.{Queue}
 use Rattle.queue.specs.Queues.{empty_queue}
 use Rattle.roster.specs.declared.Member.{Member}
-use Rattle.roster.specs.Members.{no_member, new_member}
+use Rattle.roster.specs.Members.{new_member}
 use Rattle.net.specs.declared.Station.{Station}
-use Rattle.net.specs.State.{index_of}
-use Rattle.net.specs.Net.{Said, said, Did}
+use Rattle.net.specs.State.{index_of, with_round, with_toack}
+use Rattle.net.specs.Net.{said, Did}
 use Rattle.admit.specs.declared.Seat.{Seat}
-use Rattle.admit.specs.declared.Seat.TheVariants.{Full}
-use Rattle.admit.specs.Admission.{is_full, slot_of, admit_events, admit_by}
-use Rattle.admit.specs.Code.Seats.{is_free, stored_at}
-use Rattle.admit.proofs.Seats.{seat_station, seat_words_lem}
+use Rattle.admit.specs.declared.Seat.TheVariants.{Known, Free, Full}
+use Rattle.admit.specs.Admission.{admit_events, admit_by, via_for}
+use Rattle.admit.specs.Code.Seats.{stored_at}
 
-module _ (s : Station) (call : List ℕ) (via : ℕ) (now : Float) where
-  none_by : (b : Bool) (found : Seat) → admit_by (cond b found Full) s call via now ≡ cond b (admit_by found s call via now) (said s [])
-  none_by true found = refl
-  none_by false found = refl
+-- what stands in the words that were lent, r, where the output n is as the call left it, m
+pub left_back : {o m n : Output} {ws r : List ℕ} → n ≡ m → Writes o ws m → (o.words.ghost_name ≡ n.words.ghost_name → r ≡ n.words.now) → Wrote o.words.now o.at ws r n.at
+left_back {o} {ws = ws} q w e = writes_back (subst (λ (k : Output). Writes o ws k) (sym q) w) e
 
-  member_in : (seat : Seat) (fresh full : Bool) (slot i : ℕ) (k : Member) (z : Recent) (y : Queue) (used acks : ℕ) {l m : List ℕ} {j : ℕ}
-      → fresh ≡ is_free seat → full ≡ is_full seat → slot ≡ slot_of seat → i ≡ index_of slot
-      → k ≡ cond fresh (new_member call via now) (get_or s.members i no_member) → z ≡ cond fresh empty (get_or s.recent i no_recent)
-      → y ≡ cond fresh empty_queue (get_or s.queues i empty_queue) → used ≡ cond fresh (with_bit s.used i) s.used
-      → acks ≡ cond (not full) (with_bit s.round.toack i) s.round.toack
-      → Wrote l 0 (cond fresh (admit_events slot via) []) m j
-      → Did (admit_by seat s call via now) (stored_at s i k z y used acks) l 0 m j
-  member_in seat fresh full slot i k z y used acks ef el es ei ek ez ey eu ea w =
-      record {
-        station = rw (ea, eu, ey, ez, ek, ei, es, el, ef) (seat_station seat s call via now);
-        wrote = wrote_as w (rw (es, ef) (seat_words_lem seat s call via now));
-      }
+module _ (s : Station) (call : List ℕ) (relay : ℕ) (now : Float) (ok : Bool) (found : Seat) {l m : List ℕ} {j : ℕ} where
+  -- a boat that is known
+  pub admit_known : (c i acks : ℕ) → ok ≡ true → found ≡ Known c → i ≡ index_of c → acks ≡ with_bit s.round.toack i → Wrote l 0 [] m j
+      → Did (cond ok (admit_by found s call (via_for s found relay) now) (said s [])) (with_round s (with_toack s.round acks)) l 0 m j
+  admit_known c i acks eo e ei ea w = rw (eo, e, ea, ei) (record { station = refl; wrote = w })
 
-  pub admit_stored : (n : ℕ) (found seat : Seat) (fresh full : Bool) (slot i : ℕ) (k : Member) (z : Recent) (y : Queue) (used acks : ℕ) {l m : List ℕ} {j : ℕ}
-      → seat ≡ cond (eqb n 0) found Full → fresh ≡ is_free seat → full ≡ is_full seat → slot ≡ slot_of seat → i ≡ index_of slot
-      → k ≡ cond fresh (new_member call via now) (get_or s.members i no_member) → z ≡ cond fresh empty (get_or s.recent i no_recent)
-      → y ≡ cond fresh empty_queue (get_or s.queues i empty_queue) → used ≡ cond fresh (with_bit s.used i) s.used
-      → acks ≡ cond (not full) (with_bit s.round.toack i) s.round.toack
-      → Wrote l 0 (cond fresh (admit_events slot via) []) m j
-      → Did (cond (eqb n 0) (admit_by found s call via now) (said s [])) (stored_at s i k z y used acks) l 0 m j
-  admit_stored n found seat fresh full slot i k z y used acks {l} {m} {j} e ef el es ei ek ez ey eu ea w =
-      subst (λ (d : Said). Did d (stored_at s i k z y used acks) l 0 m j) (ap (λ (t : Seat). admit_by t s call via now) e ∙ none_by (eqb n 0) found)
-      (member_in seat fresh full slot i k z y used acks ef el es ei ek ez ey eu ea w)
+  -- a newcomer in slot c
+  pub admit_free : (c i via : ℕ) (k : Member) (z : Recent) (y : Queue) (used acks : ℕ)
+      → ok ≡ true → found ≡ Free c → i ≡ index_of c → via ≡ via_for s (Free c) relay
+      → k ≡ new_member call via now → z ≡ empty → y ≡ empty_queue → used ≡ with_bit s.used i → acks ≡ with_bit s.round.toack i
+      → Wrote l 0 (admit_events c via) m j
+      → Did (cond ok (admit_by found s call (via_for s found relay) now) (said s [])) (stored_at s i k z y used acks) l 0 m j
+  admit_free c i via k z y used acks eo e ei ev ek ez ey eu ea w =
+      rw (eo, e, ea, eu, ey, ez, ek, ei, ← ev) (record { station = refl; wrote = w })
+
+  -- no seat is left
+  pub admit_full : found ≡ Full → Wrote l 0 [] m j → Did (cond ok (admit_by found s call (via_for s found relay) now) (said s [])) s l 0 m j
+  admit_full e w = rw e (at ok)
+    where
+      at : (t : Bool) → Did (cond t (said s []) (said s [])) s l 0 m j
+      at true = record { station = refl; wrote = w }
+      at false = record { station = refl; wrote = w }
+
+  -- a call that is refused
+  pub admit_refused : ok ≡ false → Wrote l 0 [] m j → Did (cond ok (admit_by found s call (via_for s found relay) now) (said s [])) s l 0 m j
+  admit_refused eo w = rw eo (record { station = refl; wrote = w })

@@ -5,11 +5,10 @@ ghost use Rattle.std.specs.Prelude.{IfOk, cond, true, ◌+◌, ◌/◌, ◌≤�
 ghost use Rattle.refusal.specs.Numbers.{number_in};
 ghost use Rattle.bits.specs.Mask.{without_bit};
 ghost use Rattle.stream.specs.Table.{cell_count};
-ghost use Rattle.queue.specs.Queues.{posted_to, space_refusal};
+ghost use Rattle.queue.specs.Queues.{posted_to};
 ghost use Rattle.net.specs.State.{with_closing};
 ghost use Rattle.std.proofs.lemmas.List.Edits.{sets};
 ghost use Rattle.words.specs.Words.{parse, shape_of};
-ghost use Rattle.admit.specs.declared.Seat.TheVariants.{Full};
 ghost use Rattle.station.specs.Entries.{start_refusal, check1, close_refusal, cell_refusal, check_relay, admit_refusal, next_refusal, post_refusal, receive_check, frames_or65, answered, heard_of, start_of, admit_of, receive_of, next_of, post_of, sent_of, close_of, read_refusal, reading_of, free_of};
 ghost use Rattle.station.specs.SignOff.{sign_off_refusal, sign_off_of};
 ghost use Rattle.station.specs.Worst.{worst_of};
@@ -18,6 +17,7 @@ use admit::Seat;
 use config::Given;
 use level::Level;
 use net::Station;
+use out::Output;
 use queue::Queue;
 use refusal::Refusal;
 
@@ -113,13 +113,6 @@ fn admit_refusal(room: usize, time: f64, used: u64, relay: u8, full: bool) -> Re
     relay_refusal(used, relay, full_refusal(full))
 }
 
-// Where a call is refused, no seat is taken.
-fn seat_if(seat: Seat, ok: bool) -> Seat
-    ensures { result ≡ cond ok seat Full }
-{
-    if ok { seat } else { Seat::Full }
-}
-
 // Direct admission: five packed bytes, and a relay slot or 63.
 pub fn admit(mut s: Station, packed: [u8; 5], relay: u8, time: f64, o: &mut [u32]) -> Answered
     ensures { (result ≡ answered (admit_of s packed relay time (length o.old)) (length o.old))
@@ -128,27 +121,29 @@ pub fn admit(mut s: Station, packed: [u8; 5], relay: u8, time: f64, o: &mut [u32
     let call = wire::calls::unpack_call(packed);
     let found = admit::seat_of(s, call);
     let no = admit_refusal(o.len(), time, s.used, relay, admit::is_full(found));
-    let via = admit::via_for(s, found, relay);
-    let seat = seat_if(found, no.is_ok());
-    let fresh = admit::is_free(seat);
-    let slot = admit::slot_of(seat);
-    let i = net::index(slot);
-    let m = s.members[i];
-    let k = admit::member_if(m, fresh, call, via, time);
-    s.members[i] = k;
-    let r = s.recent[i];
-    let z = net::recent_if(r, fresh);
-    s.recent[i] = z;
-    let q = s.queues[i];
-    let y = admit::queue_if(q, fresh);
-    s.queues[i] = y;
-    s.used = bits::with_if(s.used, fresh, i);
-    let acks = bits::with_if(s.round.toack, !admit::is_full(seat), i);
-    s.round.toack = acks;
-    let at = admit::events_if(o, 0, fresh, slot, via);
+    let mut out = Output { words: o, at: 0 };
+    if no.is_ok() {
+        match found {
+            Seat::Known(slot) => {
+                let i = net::index(slot);
+                s.round.toack = bits::with(s.round.toack, i);
+            }
+            Seat::Free(slot) => {
+                let i = net::index(slot);
+                let via = admit::via_for(s, slot, relay);
+                s.members[i] = roster::new_member(call, via, time);
+                s.recent[i] = recent::empty();
+                s.queues[i] = queue::empty();
+                s.used = bits::with(s.used, i);
+                s.round.toack = bits::with(s.round.toack, i);
+                admit::admit_events(&mut out, slot, via);
+            }
+            Seat::Full => {}
+        }
+    }
     Answered {
         station: s,
-        answer: no.and(Ok(at)),
+        answer: no.and(Ok(out.at)),
     }
 }
 
@@ -207,13 +202,13 @@ pub fn receive(
 {
     let n = frames_in(words);
     let no = receive_refusal(o.len(), lent.len(), s.count, time, snr, 64 < n);
-    let mut at: usize = 0;
+    let mut out = Output { words: o, at: 0 };
     let mut mask: u64 = 0;
     let ok = no.is_ok();
-    let t = rx::ncs_rx(s, ok, words, n, snr, time, lent, o, &mut at, &mut mask);
+    let t = rx::ncs_rx(s, ok, words, n, snr, time, lent, &mut out, &mut mask);
     Heard {
         station: t,
-        answer: no.and(Ok(at)),
+        answer: no.and(Ok(out.at)),
         mask: mask,
     }
 }
@@ -248,11 +243,11 @@ pub fn next(s: Station, time: f64, lent: &[u8], o: &mut [u32]) -> Answered
         × (o.new ≡ sets o.old 0 (next_of s time lent.now (length o.old)).words) }
 {
     let no = next_refusal(o.len(), lent.len(), time);
-    let mut at: usize = 0;
-    let t = next::ncs_next(s, no.is_ok(), time, lent, o, &mut at);
+    let mut out = Output { words: o, at: 0 };
+    let t = next::ncs_next(s, no.is_ok(), time, lent, &mut out);
     Answered {
         station: t,
-        answer: no.and(Ok(at)),
+        answer: no.and(Ok(out.at)),
     }
 }
 
@@ -351,20 +346,6 @@ pub fn free(mut s: Station, cell: usize) -> Answered
 
 // ---- posting
 
-// Whether n bytes more have room in the queue of a slot.
-fn space_refusal(q: Queue, n: usize) -> Result<(), Refusal>
-    ensures { number_in result ≡ space_refusal q n }
-{
-    let no = queue::space_refusal(q, n);
-    if no == 24 {
-        return Err(Refusal::NoSpace);
-    }
-    if no == 25 {
-        return Err(Refusal::Total);
-    }
-    Ok(())
-}
-
 fn post_refusal(lent: usize, used: u64, slot: u8, q: Queue, n: usize) -> Result<(), Refusal>
     ensures { number_in result ≡ post_refusal lent used slot q n }
 {
@@ -375,7 +356,7 @@ fn post_refusal(lent: usize, used: u64, slot: u8, q: Queue, n: usize) -> Result<
         return Err(Refusal::Slot);
     }
     if net::is_member(used, slot) {
-        return space_refusal(q, n);
+        return queue::space_refusal(q, n);
     }
     Err(Refusal::NoMember)
 }

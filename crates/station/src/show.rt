@@ -6,6 +6,7 @@ use level::Level;
 use net::Station;
 
 // RosterEntry of net.rs: the boat in a slot. `cap` is its level cap.
+// `here` is a flag and no Option, since C's stands in it: beside it C gets what the slot holds, of one above 61 what slot 0 holds.
 #[derive(Clone, Copy)]
 pub struct Entry {
     pub here: bool,
@@ -17,10 +18,8 @@ pub struct Entry {
     pub lastheard: Option<f64>,
     pub missed: u32,
     pub bytesin: u32,
-    pub hascaps: bool,
-    pub caps: u8,
-    pub hasversion: bool,
-    pub version: u8,
+    pub caps: Option<u8>,
+    pub version: Option<u8>,
 }
 
 // The boat in a slot; `here` is false where there is none, and the rest is then no boat's.
@@ -43,9 +42,7 @@ pub fn roster_entry(s: Station, slot: u8) -> Entry
         lastheard: lastheard,
         missed: m.missed,
         bytesin: m.bytesin,
-        hascaps: m.hascaps,
         caps: m.caps,
-        hasversion: m.hasversion,
         version: m.version,
     }
 }

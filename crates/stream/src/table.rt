@@ -7,6 +7,7 @@ ghost use Rattle.stream.specs.Table.{owner_of, is_own, cell_count, own_cell, roo
 use inbox::cell::Cell;
 use inbox::keep;
 use inbox::keep::Kept;
+use inbox::piece::Piece;
 
 // Where a piece goes: the cell of its message, a free one, or no cell is left.
 #[derive(Clone, Copy)]
@@ -28,7 +29,7 @@ pub struct Taken {
 pub fn owner_of(slot: u8, number: u32) -> u64
     ensures { result ≡ owner_of slot number }
 {
-    slot as u64 * 4294967296 + number as u64
+    u64::from(slot) * 4294967296 + u64::from(number)
 }
 
 // Where a piece of the message `owner` goes.
@@ -41,7 +42,7 @@ pub fn room_for(owners: &[u64; 64], busy: u64, landed: u64, count: usize, owner:
     room_of(own, free)
 }
 
-// The cell that the room names; 0 where there is none.
+// The cell that the room names; where there is none, 0, which is then stored back as it was: one way for both.
 pub fn place_of(room: Room) -> usize
     ensures { result ≡ place_of room }
 {
@@ -65,21 +66,19 @@ pub fn take(
     cell: Cell,
     barred: bool,
     number: u32,
-    offset: u16,
-    piece: &[u8],
+    piece: Piece,
 ) -> Taken
-    requires room_bound { (place_of room < 64) × (cell_size * place_of room + cell_size ≤ length store.old) }
-    requires piece_len_bound { length piece.now ≤ 255 }
-    ensures { took result store.new ≡ take_of barred store.old room cell number offset piece.now }
+    requires { (place_of room < 64) × (cell_size * place_of room + cell_size ≤ length store.old) }
+    ensures { took result store.new ≡ take_of barred store.old room cell number piece.entry.offset piece.entry.bytes.now }
 {
     let c = place_of(room);
     let old = cell_for(room, cell);
     let some = has_room(room);
-    let n = piece.len() as u8;
-    let over = is_over(store, room, cell, barred, offset, piece);
-    let kept = keep::keeping(number, offset, n, over, some, old);
+    let n = piece.bytes.len() as u8;
+    let over = is_over(store, room, cell, barred, piece);
+    let kept = keep::keeping(number, piece.offset, n, over, some, old);
     if changed(kept) {
-        return put(store, c, old, offset, piece);
+        return put(store, c, old, piece);
     }
     left(cell, kept)
 }
@@ -165,28 +164,27 @@ fn cell_for(room: Room, cell: Cell) -> Cell
 }
 
 // Whether a piece's message claims too much: its number is barred, or the piece would show a length above 2,046.
-fn is_over(store: &[u8], room: Room, cell: Cell, barred: bool, offset: u16, piece: &[u8]) -> bool
-    requires room_bound { (place_of room < 64) × (cell_size * place_of room + cell_size ≤ length store.now) }
-    requires piece_len_bound { length piece.now ≤ 255 }
-    ensures { result ≡ is_over barred store.now room cell offset piece.now }
+fn is_over(store: &[u8], room: Room, cell: Cell, barred: bool, piece: Piece) -> bool
+    requires { (place_of room < 64) × (cell_size * place_of room + cell_size ≤ length store.now) }
+    ensures { result ≡ is_over barred store.now room cell piece.entry.offset piece.entry.bytes.now }
 {
     if barred {
         return true;
     }
     match room {
-        Room::Own(c) => inbox::store::shows_in(store, c, cell, offset, piece),
-        Room::Free(_) => inbox::cell::shows_first(offset, piece),
-        Room::Full => inbox::cell::shows_first(offset, piece),
+        Room::Own(c) => inbox::store::shows_in(store, c, cell, piece),
+        Room::Free(_) => inbox::cell::shows_first(piece),
+        Room::Full => inbox::cell::shows_first(piece),
     }
 }
 
 // A kept piece joined into cell c.
-fn put(store: &mut [u8], c: usize, cell: Cell, offset: u16, piece: &[u8]) -> Taken
+fn put(store: &mut [u8], c: usize, cell: Cell, piece: Piece) -> Taken
     requires c_bound { (c < 64) × (cell_size * c + cell_size ≤ length store.old) }
-    requires piece_len_bound { (length piece.now ≤ 255) × (offset + length piece.now ≤ message_room) }
-    ensures { took result store.new ≡ put_of store.old c cell offset piece.now }
+    requires end_bound { piece.offset + length piece.bytes.now ≤ message_room }
+    ensures { took result store.new ≡ put_of store.old c cell piece.entry.offset piece.entry.bytes.now }
 {
-    let after = inbox::store::join_in(store, c, cell, offset, piece);
+    let after = inbox::store::join_in(store, c, cell, piece);
     let landed = inbox::store::landed_at(store, c, after);
     Taken {
         cell: after,
@@ -196,7 +194,7 @@ fn put(store: &mut [u8], c: usize, cell: Cell, offset: u16, piece: &[u8]) -> Tak
 }
 
 // A piece that changed nothing.
-fn left(cell: Cell, kept: Kept) -> Taken
+pub fn left(cell: Cell, kept: Kept) -> Taken
     ensures { result ≡ left_of cell kept }
 {
     Taken {

@@ -122,7 +122,7 @@ fn with(low: u64, high: u64, d: usize) -> (u64, u64)
     }
 }
 
-// One on: the number next is whole.
+// One on: the number next is whole. (Halves and numbers, no shift of 128 bits: the C structure has halves, the definition numbers.)
 fn slid(w: Window) -> Window
     ensures { result ≡ slid_of w.next (marks_of w) (bars_of w) }
 {

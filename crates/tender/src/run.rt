@@ -20,10 +20,6 @@ pub struct Run {
     alloc: Global,
 }
 
-fn one_more(count: &mut usize) {
-    *count = count.saturating_add(1);
-}
-
 // The head is K_ACK or K_POLLACK to slot 0 for the burst with this number.
 fn is_ack(head: Head, id: u32) -> bool {
     head.code == 62
@@ -51,7 +47,7 @@ impl Run {
         let max = (self.dice.draw() % 216) as usize + 40;
         let room = (self.dice.draw() % 9) as usize + 1;
         self.id = (self.id % 4 + 1) % 4;
-        one_more(&mut self.counts.bursts);
+        self.counts.bursts = bits::one_more(self.counts.bursts);
         self.shore.wait(2.0);
         self.boat.burst(self.alloc, self.id, max, room)
     }
@@ -60,7 +56,7 @@ impl Run {
     // eight: the boat has heard the first answer.
     fn arrives(&mut self, burst: &[u32]) -> Result<Option<Head>, AllocError> {
         if self.dice.one_in(8) {
-            one_more(&mut self.counts.gone);
+            self.counts.gone = bits::one_more(self.counts.gone);
             let _not_again = self.dice.draw();
             return Ok(None);
         }
@@ -68,7 +64,7 @@ impl Run {
         self.counts.lost = self.counts.lost.saturating_add(arrived.lost);
         let head = self.shore.hears(&arrived.words)?;
         if self.dice.one_in(8) && head.is_some() {
-            one_more(&mut self.counts.twice);
+            self.counts.twice = bits::one_more(self.counts.twice);
             let _second = self.shore.hears(&arrived.words)?;
         }
         Ok(head)
@@ -77,7 +73,7 @@ impl Run {
     // The burst before comes behind it, one time in eight.
     fn late(&mut self) -> Result<(), AllocError> {
         if self.dice.one_in(8) && !self.before.is_empty() {
-            one_more(&mut self.counts.late);
+            self.counts.late = bits::one_more(self.counts.late);
             let _late = self.shore.hears(&self.before)?;
         }
         Ok(())

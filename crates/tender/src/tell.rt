@@ -26,10 +26,10 @@ impl fmt::Display for Landed {
 pub struct Counts {
     pub landed: usize,
     pub pending: usize,
-    pub bursts: usize,
-    pub gone: usize,
-    pub late: usize,
-    pub twice: usize,
+    pub bursts: u32,
+    pub gone: u32,
+    pub late: u32,
+    pub twice: u32,
     pub lost: usize,
 }
 

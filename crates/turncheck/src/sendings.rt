@@ -33,7 +33,7 @@ fn head(words: &[u32], room: usize) -> Result<Part, Fault>
 fn frame(words: &[u32], room: usize) -> Result<Part, Fault>
     ensures { IfOk result (λ p. (0 < p.size) × (p.size ≤ length words.now)) }
 {
-    let item = words::item_at(words, 0);
+    let item = words::item_at(words);
     let size = words::size_of(item);
     if matches!(item, Item::Frame { .. }) && 0 < room && 0 < size && size <= words.len() {
         return Ok(Part {

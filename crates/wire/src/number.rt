@@ -19,7 +19,7 @@ fn widen_at(s: u8, next: u32) -> Option<u32>
     requires { next ≤ numbers }
     ensures { result ≡ widened_at s next }
 {
-    let d = (s as u32 + 256 - next % 256) % 256;
+    let d = (u32::from(s) + 256 - next % 256) % 256;
     if d < 128 {
         return Some(next + d);
     }

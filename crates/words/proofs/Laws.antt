@@ -36,8 +36,8 @@ unfolding payload_ok
 payload_rest ws at n h = rw (drop_of_length-le ws h)
 
 -- a part of the words, to their end
-pub payload_from : (ws : List ℕ) (at i n : ℕ) → at ≡ i → payload_ok (take (length ws - at) (drop at ws)) n ≡ payload_ok (drop i ws) n
-payload_from ws at i n e = rw (← e) (ap (λ (l : List ℕ). payload_ok l n) (take_all (length ws - at) (drop at ws) (rw length-drop (omega arith))))
+pub from_all : (ws : List ℕ) (at : ℕ) → take (length ws - at) (drop at ws) ≡ drop at ws
+from_all ws at = take_all (length ws - at) (drop at ws) (rw length-drop (omega arith))
 
 pub payload_none : (l : List ℕ) → payload_ok l 0 ≡ true
 unfolding payload_ok
@@ -46,6 +46,20 @@ payload_none (w ∷ ws) = refl
 
 pub payload_done : (l : List ℕ) (n : ℕ) → n ≡ 0 → payload_ok l n ≡ true
 payload_done l n e = rw e (payload_none l)
+
+-- the words behind the first
+abbrev pub behind : List ℕ → List ℕ
+behind ws = take (length ws - 1) (drop 1 ws)
+
+pub behind_two : (ws : List ℕ) → behind (behind ws) ≡ drop 2 ws
+behind_two ws = from_all (behind ws) 1 ∙ ap (drop 1) (from_all ws 1) ∙ drop-drop 1 1 ws
+
+pub behind_length : (ws : List ℕ) → length (behind ws) ≡ length ws - 1
+behind_length ws = ap length (from_all ws 1) ∙ length-drop 1 ws
+
+pub behind_first : (ws : List ℕ) → get_or (behind ws) 0 0 ≡ get_or ws 1 0
+behind_first [] = refl
+behind_first (w ∷ ws) = ap (λ (l : List ℕ). get_or l 0 0) (from_all (w ∷ ws) 1)
 
 module _ (ws : List ℕ) (at : ℕ) where
   pub item_end : length ws ≤ at → item_at (drop at ws) ≡ End

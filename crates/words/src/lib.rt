@@ -37,14 +37,14 @@ pub fn shape_of(words: &[u32]) -> Option<usize>
     }
     let mut at = 1;
     for n in 0..64 {
-        let i = item_at(words, at);
+        let i = item_at(&words[at..]);
         let size = size_of(i);
         if size == 0 {
             return last(i, n);
         }
         at += size;
     }
-    last(item_at(words, at), 64)
+    last(item_at(&words[at..]), 64)
 }
 
 // The fields of word 8.
@@ -58,7 +58,8 @@ pub fn head_of(w: u32) -> Head
     }
 }
 
-// What stands at `at`, with no look at the payload: for a walk over a burst that `shape_of` found well formed.
+// What stands at `at`, with no look at the payload: for a walk over a burst that `shape_of` found well formed. (Words and a place, not the words from
+// there on, as `payload_byte` and `payload`: such a walk does not say that the place lies within the words.)
 pub fn peek(words: &[u32], at: usize) -> Item
     ensures { result ≡ peek_at (drop at words.now) }
 {
@@ -102,19 +103,20 @@ pub fn payload_byte(words: &[u32], at: usize, j: usize) -> u8
     byte_of(word_or_zero(words, at + 2 + j / 3), j % 3)
 }
 
-// The five bytes of that payload from byte j on: a packed call.
-pub fn five(words: &[u32], at: usize, j: usize) -> [u8; 5]
-    ensures { result ≡ five_at (drop at words.now) j }
+// The five bytes from byte j on of the payload of the frame at the head of the words: a packed call. (Each by its index: a part of `payload` would
+// first copy 255.)
+pub fn five(words: &[u32], j: usize) -> [u8; 5]
+    ensures { result ≡ five_at words.now j }
 {
     if words.len() <= j / 3 {
         return [0, 0, 0, 0, 0];
     }
     [
-        payload_byte(words, at, j),
-        payload_byte(words, at, j + 1),
-        payload_byte(words, at, j + 2),
-        payload_byte(words, at, j + 3),
-        payload_byte(words, at, j + 4),
+        payload_byte(words, 0, j),
+        payload_byte(words, 0, j + 1),
+        payload_byte(words, 0, j + 2),
+        payload_byte(words, 0, j + 3),
+        payload_byte(words, 0, j + 4),
     ]
 }
 
@@ -140,32 +142,32 @@ pub fn payload(words: &[u32], at: usize, n: usize) -> [u8; 255]
     out
 }
 
-// What stands at `at`, the payload checked.
-pub fn item_at(words: &[u32], at: usize) -> Item
-    ensures { result ≡ item_at (drop at words.now) }
+// What stands at the head of the words, the payload checked.
+pub fn item_at(words: &[u32]) -> Item
+    ensures { result ≡ item_at words.now }
 {
-    let Some(&w) = words.get(at) else {
+    let [w, rest @ ..] = words else {
         return Item::End;
     };
-    if w == 0xd000_0000 {
+    if *w == 0xd000_0000 {
         return Item::Lost;
     }
-    if w / 65536 != 0xa000 {
+    if *w / 65536 != 0xa000 {
         return Item::Bad;
     }
-    let Some(&v) = words.get(at + 1) else {
+    let [v, payload @ ..] = rest else {
         return Item::Bad;
     };
-    if v / 16777216 != 176 {
+    if *v / 16777216 != 176 {
         return Item::Bad;
     }
-    let len = (w % 256) as usize;
-    if !payload_ok(&words[at + 2..], len) {
+    let len = (*w % 256) as usize;
+    if !payload_ok(payload, len) {
         return Item::Bad;
     }
     Item::Frame {
-        flags: w / 256 % 256,
-        field: v % 16777216,
+        flags: *w / 256 % 256,
+        field: *v % 16777216,
         len,
     }
 }
@@ -221,13 +223,13 @@ fn last(i: Item, n: usize) -> Option<usize>
 
 // w is a word 8.
 #[tactic(auto, using(std::proofs::lemmas::Bool::Decides::nat_tests), unfolding(crate::specs::Words::head_ok))]
-fn head_ok(w: u32) -> bool
+pub fn head_ok(w: u32) -> bool
     ensures { result ≡ head_ok w }
 {
     w / 268435456 == 8 && w / 65536 % 2 == 0
 }
 
-// w is a word 12 that holds the next of left bytes, its spare ones zero.
+// w is a word 12 that holds the next of left bytes, its spare ones zero. (An arm for each number of spare bytes: each tests others.)
 #[tactic(auto, using(std::proofs::lemmas::Bool::Decides::nat_tests), unfolding(crate::specs::Words::word_ok))]
 fn word_ok(w: u32, left: usize) -> bool
     ensures { result ≡ word_ok w left }

@@ -1,12 +1,13 @@
 -- Assumes nothing.
 use borrow.Author.Tests.{eq-eqb, ne_eqb}
-use Rattle.out.proofs.Laws.{then}
+use Rattle.out.proofs.Laws.{writes_then}
 use Rattle.admit.proofs.admit_events.Goals as goal
-
-pub returns-then-direct : goal.returns-then-direct
-returns-then-direct c =
-    rw (eq-eqb _ _ c.if-direct.true) c.put_event.ensures
+use Rattle.admit.proofs.admit_events.Goals.{then-via-ne-ALL, else-via-ne-ALL}
 
 pub returns : goal.returns
 returns c =
-    rw (ne_eqb _ _ c.if-direct.false) (then c.put_event-next.ensures c.put_event-2.ensures)
+    let last = rw c.from-i.ensures at c.event-2.ensures in
+    elim c.if-via-ne-ALL.branch [
+      | then-via-ne-ALL w ↦ rw (ne_eqb _ _ w.if-via-ne-ALL.true) (writes_then (rw c.from-i.ensures at w.event.ensures) (rw w.o-is at last))
+      | else-via-ne-ALL w ↦ rw (eq-eqb _ _ w.if-via-ne-ALL.false) (rw w.o-is at last)
+    ]

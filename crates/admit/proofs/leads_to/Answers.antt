@@ -1,11 +1,7 @@
-use mathlib.Core.Path.{refl, sym, ◌∙◌}
+use mathlib.Core.Path.{sym, ◌∙◌}
 use native.Mathlib.Omega.{arith}
-use Rattle.net.proofs.Laws.{index_lt}
 use Rattle.admit.proofs.Laws.{leads_there, leads_off, leads_on, leads_end}
 use Rattle.admit.proofs.leads_to.Goals as goal
-
-pub loop-init : goal.loop-init
-loop-init c = refl
 
 pub returns-then-at-to : goal.returns-then-at-to
 returns-then-at-to c =
@@ -16,12 +12,6 @@ pub returns-then-not-is_member : goal.returns-then-not-is_member
 returns-then-not-is_member c =
     let l = c.loop in
     sym (leads_off _ _ _ _ (omega arith) c.if-at-to.false (sym c.is_member.ensures ∙ c.if-not-is_member.true)) ∙ l.invariant
-
-pub offset_bounds-ms-i : goal.offset_bounds-ms-i
-offset_bounds-ms-i c = omega (arith, rw (← c.index-i.ensures) at (index_lt c.loop.at))
-
-pub bounds-ms-i : goal.bounds-ms-i
-bounds-ms-i c = omega (arith, rw (← c.index-i.ensures) at (index_lt c.loop.at))
 
 pub loop-preserved : goal.loop-preserved
 loop-preserved c =

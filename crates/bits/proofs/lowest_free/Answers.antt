@@ -8,9 +8,6 @@ use Rattle.bits.proofs.Laws.{free_below, free_next}
 use Rattle.bits.proofs.Loops.{first_at, first_none}
 use Rattle.bits.proofs.lowest_free.Goals as goal
 
-pub overflow_cast-slot : goal.overflow_cast-slot
-overflow_cast-slot c = omega (arith, trailing_le 64 (2 ^ 64 - 1 - c.args.mask))
-
 pub returns-then-slot-count : goal.returns-then-slot-count
 unfolding lowest_free
 returns-then-slot-count c =

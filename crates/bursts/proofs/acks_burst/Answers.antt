@@ -2,12 +2,6 @@
 use Rattle.bursts.specs.Bursts.{acks_burst}
 use Rattle.bursts.proofs.acks_burst.Goals as goal
 
-pub acks_round-r-requires : goal.acks_round-r-requires
-acks_round-r-requires c = tt
-
-pub sending-v-requires : goal.sending-v-requires
-sending-v-requires c = tt
-
 pub returns : goal.returns
 unfolding acks_burst
 returns c =

@@ -1,10 +1,7 @@
-use mathlib.Core.Path.{refl, sym, ◌∙◌}
+use mathlib.Core.Path.{sym, ◌∙◌}
 use native.Mathlib.Omega.{arith}
 use Rattle.bursts.proofs.Waiting.{beyond_turn, beyond_end}
 use Rattle.bursts.proofs.beyond_nine.Goals as goal
-
-pub loop-init : goal.loop-init
-loop-init c = refl
 
 pub loop-preserved : goal.loop-preserved
 loop-preserved c =

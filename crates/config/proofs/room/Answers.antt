@@ -11,11 +11,11 @@ loop-n-init c = refl
 
 pub returns-then-not-fits : goal.returns-then-not-fits
 returns-then-not-fits c =
-    sym (room_stop _ _ _ _ c.loop-n-test.true c.if-not-fits.true) ∙ c.loop-n.invariant
+    sym (room_stop _ _ _ _ c.loop-n-test.true (rw c.from.ensures at c.if-not-fits.true)) ∙ c.loop-n.invariant
 
 pub loop-n-preserved : goal.loop-n-preserved
 loop-n-preserved c =
-    sym (room_more _ _ _ _ c.loop-n-test.true c.if-not-fits.false) ∙ c.loop-n.invariant
+    sym (room_more _ _ _ _ c.loop-n-test.true (rw c.from.ensures at c.if-not-fits.false)) ∙ c.loop-n.invariant
 
 pub returns : goal.returns
 returns c =

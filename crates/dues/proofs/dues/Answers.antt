@@ -1,7 +1,7 @@
 use native.Mathlib.Omega.{arith}
 use mathlib.Core.Path.{refl, sym, ◌∙◌}
 use Rattle.dues.specs.Dues.{dues_of}
-use Rattle.dues.proofs.Lines.{reckoned_start, line_lt, reckoned_turn, credit_below, taking_below, reckoned_end, figures_many, credit_most, takings_most}
+use Rattle.dues.proofs.Lines.{reckoned_start, reckoned_turn, credit_below, taking_below, reckoned_end, figures_many, credit_most, takings_most}
 use Rattle.dues.proofs.dues.Goals as goal
 
 pub returns-then-not-figures_ok : goal.returns-then-not-figures_ok
@@ -14,9 +14,6 @@ loop-i-init c =
 
 pub bounds-figures-i : goal.bounds-figures-i
 bounds-figures-i c = let l = c.loop-i in omega (arith, figures_many _ l.invariant.0)
-
-pub bounds-credits-v : goal.bounds-credits-v
-bounds-credits-v c = omega (arith, line_lt c.args.s c.loop-i.i _ c.index-v.ensures)
 
 pub overflow_add-credits : goal.overflow_add-credits
 overflow_add-credits c =
@@ -37,7 +34,7 @@ pub loop-i-preserved : goal.loop-i-preserved
 loop-i-preserved c =
     let l = c.loop-i in
     let h = c.loop-i-test.true in
-    (l.invariant.0, reckoned_turn _ _ _ _ _ l.i h l.invariant.1 _ _ _ _ c.charge_in-cents.ensures c.index-v.ensures c.tenth_to.ensures c.taking.ensures)
+    (l.invariant.0, rw c.from-takings.ensures (reckoned_turn _ _ _ _ _ l.i h l.invariant.1 _ _ _ _ c.charge_in-cents.ensures c.index-v.ensures c.tenth_to.ensures c.taking.ensures))
 
 pub returns : goal.returns
 returns c = let l = c.loop-i in reckoned_end _ _ _ _ _ l.i c.loop-i-test.false l.invariant.0 l.invariant.1

@@ -7,15 +7,15 @@ use Rattle.frames.proofs.frame_at.Goals as goal
 
 pub returns-in-End : goal.returns-in-End
 unfolding frame_of
-returns-in-End c = rw (c.lost_frame.ensures, ← c.peek.ensures, c.in-End.is)
+returns-in-End c = rw (← c.peek.ensures, c.in-End.is)
 
 pub returns-in-Bad : goal.returns-in-Bad
 unfolding frame_of
-returns-in-Bad c = rw (c.lost_frame-in-Bad.ensures, ← c.peek.ensures, c.in-Bad.is)
+returns-in-Bad c = rw (← c.peek.ensures, c.in-Bad.is)
 
 pub returns-in-Lost : goal.returns-in-Lost
 unfolding frame_of
-returns-in-Lost c = rw (c.lost_frame-in-Lost.ensures, ← c.peek.ensures, c.in-Lost.is)
+returns-in-Lost c = rw (← c.peek.ensures, c.in-Lost.is)
 
 pub returns-in-Frame : goal.returns-in-Frame
 returns-in-Frame c =

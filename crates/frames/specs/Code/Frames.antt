@@ -1,5 +1,5 @@
 -- A frame as the code reads it from the words, and what it does by its kind. Nothing here has to be believed: law `read_kind` shows that it is `read_frame`.
-use Rattle.std.specs.Prelude.{ℕ, ◌+◌, ◌/◌, ◌%◌, true, false, not, cond, ◌&&◌, List, eqb, leb}
+use Rattle.std.specs.Prelude.{ℕ, ◌+◌, ◌/◌, ◌%◌, not, cond, ◌&&◌, List, eqb, leb, Option, Some, None}
 use Rattle.wire.specs.Kinds.{t_up, t_ctrl, c_checkin, c_report, c_overheard, c_kids}
 use Rattle.words.specs.Words.{words_for}
 use Rattle.words.specs.declared.Item.{Item}
@@ -11,16 +11,15 @@ use Rattle.frames.specs.Reading.{Reading, also_said}
 use Rattle.frames.specs.Pieces.{piece_frame}
 use Rattle.frames.specs.Control.{checkin_frame, report_frame, overheard_frame, kids_frame}
 
--- of a lost frame, and where no frame stands, one word is passed
-abbrev pub lost_frame : Frame
-lost_frame = record { lost = true; ty = 3; slot = 63; field = 0; len = 0; size = 1 }
+abbrev pub frame_in : ℕ → ℕ → ℕ → Frame
+frame_in flags field len = record { ty = flags / 64; slot = flags % 64; field = field; len = len; size = 2 + words_for len }
 
-unfoldable pub frame_of : Item → Frame
-frame_of item.End = lost_frame
-frame_of item.Bad = lost_frame
-frame_of item.Lost = lost_frame
-frame_of (item.Frame flags field len) =
-    record { lost = false; ty = flags / 64; slot = flags % 64; field = field; len = len; size = 2 + words_for len }
+-- none for a lost one, and where no frame stands
+unfoldable pub frame_of : Item → Option Frame
+frame_of item.End = None
+frame_of item.Bad = None
+frame_of item.Lost = None
+frame_of (item.Frame flags field len) = Some (frame_in flags field len)
 
 -- b is the payload's first byte; 0 means nothing
 abbrev pub control_byte : Frame → ℕ → ℕ

@@ -1,9 +1,9 @@
 -- A boat's piece as the code takes it, one element of the station at a time. Nothing here has to be believed: law `piece_whole` shows that it is `piece_frame`.
-use Rattle.std.specs.Prelude.{ℕ, ◌+◌, ◌*◌, ◌/◌, ◌%◌, ◌<◌, ◌≤◌, Bool, true, false, not, cond, ◌&&◌, ◌||◌, List, [], ◌∷◌, ◌++◌, eqb, get_or, set, Option, Some, None, is_some}
+use Rattle.std.specs.Prelude.{ℕ, ◌+◌, ◌*◌, ◌/◌, ◌%◌, ◌<◌, ◌≤◌, Bool, true, false, not, cond, ◌&&◌, ◌||◌, List, [], ◌∷◌, ◌++◌, get_or, set, Option, Some, None, is_some}
 use Rattle.bits.specs.Mask.{with_bit, without_bit}
 use Rattle.bits.specs.Stop.{stop}
 use Rattle.wire.specs.Numbers.{widened}
-use Rattle.out.specs.Encode.{event_word, message_word}
+use Rattle.out.specs.Encode.{message_word}
 use Rattle.inbox.specs.declared.cell.Cell.{Cell}
 use Rattle.inbox.specs.declared.keep.Kept.TheVariants.{Needless}
 use Rattle.inbox.specs.Sizes.{cell_size}
@@ -19,12 +19,11 @@ use Rattle.net.specs.declared.Station.{Station}
 use Rattle.net.specs.declared.Round.{Round}
 use Rattle.net.specs.declared.Totals.{Totals}
 use Rattle.net.specs.State.{index_of, with_traffic, with_rxdirty, with_relays}
-use Rattle.net.specs.Net.{is_member}
 use Rattle.frames.specs.declared.Air.{Air}
 use Rattle.frames.specs.declared.Rx.{Rx}
 use Rattle.frames.specs.declared.pieces.Piece.{Piece}
 use Rattle.frames.specs.Reading.{Reading}
-use Rattle.frames.specs.Pieces.{size_of, heard_member}
+use Rattle.frames.specs.Pieces.{size_of, heard_member, other_of, relayed_words}
 
 -- nothing is done with its bytes: no member in its slot, or its number is none, or its message is handed over
 abbrev pub unwanted_of : ℕ → Bool → Piece
@@ -66,7 +65,7 @@ with_if mask given c = cond given (with_bit mask c) mask
 -- a piece that was not kept is noted
 abbrev pub kept_rx : Rx → Taken → Rx
 kept_rx x d =
-    record { word = x.word; frame = x.frame; at = x.at; sender = x.sender; more = x.more; heard = x.heard; unkept = with_if x.unkept (is_lost d.kept) x.frame }
+    record { word = x.word; frame = x.frame; sender = x.sender; more = x.more; heard = x.heard; unkept = with_if x.unkept (is_lost d.kept) x.frame }
 
 -- the message claims too much and has a cell: it is given back
 abbrev pub frees : Taken → Piece → Bool
@@ -86,28 +85,27 @@ member_after m d p a =
     cond (not p.here || is_lost d.kept) (cond (bars d.kept) (barred_one m p.number) m)
     (cond (is_some d.landed) (landed_one (heard_member a m p.slot) p.number (stop (size_of d.landed))) (heard_member a m p.slot))
 
-abbrev pub relayed_by : Taken → Piece → Air → ℕ → Bool
-relayed_by d p a used = is_some d.landed && not (eqb a.polled p.slot) && is_member used a.polled
+-- the boat that brought what landed and is not its sender
+abbrev pub relayer : Taken → Piece → Air → ℕ → Option ℕ
+relayer d p a used = cond (is_some d.landed) (other_of a.polled used p.slot) None
 
-abbrev pub round_after : Round → Taken → Bool → Round
-round_after r d relayed = with_rxdirty (with_traffic r (r.traffic || is_some d.landed)) (r.rxdirty || relayed)
+abbrev pub round_after : Round → Taken → Option ℕ → Round
+round_after r d via = with_rxdirty (with_traffic r (r.traffic || is_some d.landed)) (r.rxdirty || is_some via)
 
-abbrev pub totals_after : Totals → Bool → Totals
-totals_after t relayed = cond relayed (with_relays t (stop (t.relays + 1))) t
+abbrev pub totals_after : Totals → Option ℕ → Totals
+totals_after t via = cond (is_some via) (with_relays t (stop (t.relays + 1))) t
 
-abbrev pub landed_events : Taken → Piece → ℕ → Bool → ℕ → List ℕ
-landed_events d p c relayed polled =
-    cond (is_some d.landed)
-    (cond relayed (event_word 4 p.slot polled ∷ message_word p.slot c p.number ∷ []) (message_word p.slot c p.number ∷ [])) []
+abbrev pub landed_events : Taken → Piece → ℕ → Option ℕ → List ℕ
+landed_events d p c via = cond (is_some d.landed) (relayed_words via p.slot ++ (message_word p.slot c p.number ∷ [])) []
 
 -- the station after the stores of a piece of the boat at i, offered to cell c
-abbrev pub stored_station : Air → Piece → Taken → ℕ → ℕ → Bool → Station → Station
-stored_station a p d i c relayed s =
+abbrev pub stored_station : Air → Piece → Taken → ℕ → ℕ → Option ℕ → Station → Station
+stored_station a p d i c via s =
     record {
       settings = s.settings;
       wait = s.wait;
-      round = round_after s.round d relayed;
-      totals = totals_after s.totals relayed;
+      round = round_after s.round d via;
+      totals = totals_after s.totals via;
       used = s.used;
       busy = busy_after s.busy d p c;
       landed = landed_after s.landed d p c;
@@ -125,11 +123,11 @@ abbrev pub stored_piece : Air → ℕ → Piece → Took → Reading → Reading
 stored_piece a slot p k x =
     let d = k.taken in
     let c = place_of p.room in
-    let relayed = relayed_by d p a x.station.used in
+    let via = relayer d p a x.station.used in
     record {
-      station = stored_station a p d (index_of slot) c relayed x.station;
+      station = stored_station a p d (index_of slot) c via x.station;
       store = k.store;
-      words = x.words ++ landed_events d p c relayed a.polled;
+      words = x.words ++ landed_events d p c via;
       frame = x.frame;
       heard = x.heard;
       unkept = with_if x.unkept (is_lost d.kept) x.frame;

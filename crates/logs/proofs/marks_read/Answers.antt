@@ -1,13 +1,10 @@
 -- Assumes nothing.
-use mathlib.Core.Path.{refl, sym, ◌∙◌}
+use mathlib.Core.Path.{sym, ◌∙◌}
 use native.Mathlib.Omega.{arith}
 use Rattle.std.specs.Prelude.{Some, None}
 use Rattle.logs.specs.Steps.{mark_step}
 use Rattle.logs.proofs.Parts.{walk_end, walk_step}
 use Rattle.logs.proofs.marks_read.Goals as goal
-
-pub loop-w-init : goal.loop-w-init
-loop-w-init c = refl
 
 pub loop-w-preserved : goal.loop-w-preserved
 loop-w-preserved c =

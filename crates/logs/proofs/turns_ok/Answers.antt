@@ -1,4 +1,4 @@
-use mathlib.Core.Path.{refl, sym, ap, ◌∙◌}
+use mathlib.Core.Path.{sym, ap, ◌∙◌}
 use native.Mathlib.Omega.{arith}
 use Rattle.std.specs.Prelude.{Some, None, is_some}
 use Rattle.logs.specs.Reading.{entries_of}
@@ -7,9 +7,6 @@ use Rattle.logs.proofs.Parts.{walk_end, walk_step}
 use Rattle.logs.proofs.Walks.{turns_walk}
 use Rattle.logs.proofs.Exact.{exact}
 use Rattle.logs.proofs.turns_ok.Goals as goal
-
-pub loop-w-init : goal.loop-w-init
-loop-w-init c = refl
 
 pub loop-w-preserved : goal.loop-w-preserved
 loop-w-preserved c =

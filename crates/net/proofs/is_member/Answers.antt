@@ -4,4 +4,4 @@ use Rattle.net.proofs.is_member.Goals as goal
 
 pub returns : goal.returns
 unfolding is_member
-returns c = rw c.has.ensures
+returns c = rw (c.has.ensures, c.from.ensures)

@@ -4,9 +4,6 @@ use Rattle.bits.proofs.Lists.{cond_true, cond_false}
 use Rattle.next.specs.Next.{act_of}
 use Rattle.next.proofs.act_of.Goals as goal
 
-pub returns-then-quiet-time : goal.returns-then-quiet-time
-returns-then-quiet-time c = sym (cond_true _ _ _ c.if-quiet-time.true)
-
 pub returns-then-time-r : goal.returns-then-time-r
 unfolding act_of
 returns-then-time-r c = sym (cond_false _ _ _ c.if-quiet-time.false ∙ cond_true _ _ _ c.if-time-r.true)
@@ -18,9 +15,6 @@ returns-then-r c = sym (cond_false _ _ _ c.if-quiet-time.false ∙ cond_false _ 
 pub returns-then-r-ne0 : goal.returns-then-r-ne0
 unfolding act_of
 returns-then-r-ne0 c = sym (cond_false _ _ _ c.if-quiet-time.false ∙ cond_false _ _ _ c.if-time-r.false ∙ cond_false _ _ _ c.if-r.false ∙ cond_true _ _ _ (ap not (ne_eqb _ _ c.if-r-ne0.true)))
-
-pub members-requires : goal.members-requires
-members-requires c = tt
 
 pub returns-then-members-eq0 : goal.returns-then-members-eq0
 unfolding act_of

@@ -1,18 +1,7 @@
-use Rattle.std.proofs.Common.{get_or, sym, refl, ◌∙◌, arith}
-use Rattle.roster.specs.Members.{no_member}
+use Rattle.std.proofs.Common.{sym, ◌∙◌}
 use Rattle.bits.proofs.Loops.{any_pass, any_stop, any_end}
-use Rattle.net.proofs.Laws.{index_lt}
 use Rattle.next.specs.Code.Decision.{eventful_in}
 use Rattle.next.proofs.eventful.Goals as goal
-
-pub loop-i-init : goal.loop-i-init
-loop-i-init c = refl
-
-pub offset_bounds-ms-v : goal.offset_bounds-ms-v
-offset_bounds-ms-v c = omega (arith, rw (← c.index-v.ensures) at (index_lt (get_or c.args.ms c.loop-i.i no_member).via))
-
-pub bounds-ms-v : goal.bounds-ms-v
-bounds-ms-v c = omega (arith, rw (← c.index-v.ensures) at (index_lt (get_or c.args.ms c.loop-i.i no_member).via))
 
 pub returns-then-eventful_at : goal.returns-then-eventful_at
 returns-then-eventful_at c =

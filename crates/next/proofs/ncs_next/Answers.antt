@@ -1,56 +1,20 @@
-use Rattle.std.proofs.Common.{◌≡◌, ℕ, Bool, true, false, cond, List, [], sym, ap, ◌∙◌, arith}
+use Rattle.std.proofs.Common.{◌≡◌, Bool, true, false, cond, [], sym, ap, ◌∙◌}
+use Rattle.out.specs.declared.Output.{Output}
 use Rattle.net.specs.declared.Station.{Station}
 use Rattle.net.specs.State.{index_of}
-use Rattle.net.specs.Net.{Did, said, is_member}
-use Rattle.net.proofs.Laws.{index_lt}
+use Rattle.net.specs.Net.{Does, said, is_member}
 use Rattle.bursts.specs.Reroute.{source_for}
 use Rattle.bursts.proofs.Directing.{directed_lt}
-use Rattle.bursts.proofs.Saying.{did_as}
+use Rattle.bursts.proofs.Saying.{does_as}
 use Rattle.next.specs.Next.{ncs_next}
 use Rattle.next.specs.Code.Decision.{act_in, word_then}
 use Rattle.next.proofs.Looks.{looking_start, looking_turn, looked, to_is, source_is}
-use Rattle.next.proofs.Calls.{did_none, not_said, spoken_did, not_draw, is_draw_lem, stage_by_did, laid, none_did, direct_did, poll_did, next_said}
+use Rattle.next.proofs.Calls.{does_none, not_said, spoken_did, not_draw, is_draw_lem, stage_by_did, laid, none_did, direct_did, poll_did, next_said}
 use Rattle.next.proofs.ncs_next.Goals as goal
 use Rattle.next.proofs.ncs_next.Goals.{After-front, then-asks, else-asks, then-is_said, else-is_said, then-is_draw, else-is_draw}
 
-pub offset_bounds-s-i : goal.offset_bounds-s-i
-offset_bounds-s-i c = omega (arith, rw (← c.index-i.ensures) at (index_lt c.slot_of-polled.result))
-
-pub bounds-s-i : goal.bounds-s-i
-bounds-s-i c = omega (arith, rw (← c.index-i.ensures) at (index_lt c.slot_of-polled.result))
-
-pub offset_bounds-s-i-2 : goal.offset_bounds-s-i-2
-offset_bounds-s-i-2 c = omega (arith, rw (← c.index-i.ensures) at (index_lt c.slot_of-polled.result))
-
-pub bounds-s-i-2 : goal.bounds-s-i-2
-bounds-s-i-2 c = omega (arith, rw (← c.index-i.ensures) at (index_lt c.slot_of-polled.result))
-
-pub offset_bounds-s-a : goal.offset_bounds-s-a
-offset_bounds-s-a c = omega (arith, rw (← c.index-a.ensures) at (index_lt c.relay_of.result))
-
-pub bounds-s-a : goal.bounds-s-a
-bounds-s-a c = omega (arith, rw (← c.index-a.ensures) at (index_lt c.relay_of.result))
-
-pub offset_bounds-s-a-2 : goal.offset_bounds-s-a-2
-offset_bounds-s-a-2 c = omega (arith, rw (← c.index-a.ensures) at (index_lt c.relay_of.result))
-
-pub bounds-s-a-2 : goal.bounds-s-a-2
-bounds-s-a-2 c = omega (arith, rw (← c.index-a.ensures) at (index_lt c.relay_of.result))
-
 pub loop-j-init : goal.loop-j-init
 loop-j-init c = rw c.none_seen-seen.ensures (looking_start _ _ _ c.end_of-end.ensures.most)
-
-pub offset_bounds-s-j : goal.offset_bounds-s-j
-offset_bounds-s-j c = omega (arith, c.loop-j.invariant.most)
-
-pub bounds-s-j : goal.bounds-s-j
-bounds-s-j c = omega (arith, c.loop-j.invariant.most)
-
-pub offset_bounds-s-j-in-loop-j : goal.offset_bounds-s-j-in-loop-j
-offset_bounds-s-j-in-loop-j c = omega (arith, c.loop-j.invariant.most)
-
-pub bounds-s-j-in-loop-j : goal.bounds-s-j-in-loop-j
-bounds-s-j-in-loop-j c = omega (arith, c.loop-j.invariant.most)
 
 pub loop-j-preserved : goal.loop-j-preserved
 loop-j-preserved c = looking_turn c.loop-j-test.true c.loop-j.invariant c.look-seen.ensures
@@ -60,16 +24,10 @@ direct_burst-s-requires c =
     let saw = looked c.end_of-end.ensures c.loop-j-test.false c.loop-j.invariant in
     directed_lt c.if-is_draw.s c.in-Some.slot c.in-Some-to_of.to (sym (to_is saw (sym c.in-Some-to_of.is ∙ c.to_of.ensures)))
 
-pub offset_bounds-s-e : goal.offset_bounds-s-e
-offset_bounds-s-e c = omega (arith, rw (← c.index-e.ensures) at (index_lt c.in-Some.slot))
-
-pub bounds-s-e : goal.bounds-s-e
-bounds-s-e c = omega (arith, rw (← c.index-e.ensures) at (index_lt c.in-Some.slot))
-
 -- the stages before the poll, and what follows them
-before : (c : After-front) {q : Station} {m : List ℕ} {j : ℕ}
-    → Did (word_then c.act_of-act.result c.if-is_draw.s c.args.queue.now) q c.if-is_draw.o c.if-is_draw.at m j
-    → Did (cond c.args.ok (said (ncs_next c.args.s c.args.time c.args.queue.now).station (ncs_next c.args.s c.args.time c.args.queue.now).words) (said c.args.s [])) q c.args.o.now c.args.at.now m j
+before : (c : After-front) {q : Station} {m : Output}
+    → Does (word_then c.act_of-act.result c.if-is_draw.s c.args.queue.now) q c.if-is_draw.o m
+    → Does (cond c.args.ok (said (ncs_next c.args.s c.args.time c.args.queue.now).station (ncs_next c.args.s c.args.time c.args.queue.now).words) (said c.args.s [])) q c.args.o.now m
 before c p =
     let a = c.args in
     let st = laid a.s c.index-i.result c.late_member-k.result c.index-a.result c.late_source-c.result c.late_wait-v.result c.late_totals-u.result c.late_round-r.result in
@@ -94,16 +52,15 @@ before c p =
     a.queue.now
     c.if-is_draw.s
     c.if-is_draw.o
-    c.if-is_draw.at
     c.put_late.ensures
-    (stage_by_did act st a.time c.if-is_said.s c.if-is_said.o c.if-is_said.at
+    (stage_by_did act st a.time c.if-is_said.s c.if-is_said.o
     (elim c.if-is_said.branch [
-      | then-is_said w ↦ rw (w.s-is, w.o-is, w.at-is) (spoken_did act st a.time (sym c.is_said.ensures ∙ w.if-is_said.true) w.spoken-said.ensures.0 w.sending-sends.ensures w.spoken-said.ensures.1)
-      | else-is_said w ↦ rw (w.s-is, w.o-is, w.at-is) (did_as (did_none _ _ _) (not_said act st a.time (sym c.is_said.ensures ∙ w.if-is_said.false)))
+      | then-is_said w ↦ rw (w.s-is, w.o-is) (spoken_did act st a.time (sym c.is_said.ensures ∙ w.if-is_said.true) w.spoken-said.ensures.0 w.sending-sends.ensures w.spoken-said.ensures.1)
+      | else-is_said w ↦ rw (w.s-is, w.o-is) (does_as (does_none _ _) (not_said act st a.time (sym c.is_said.ensures ∙ w.if-is_said.false)))
     ])
     (elim c.if-is_draw.branch [
-      | then-is_draw w ↦ rw (w.s-is, w.o-is, w.at-is) (did_as w.round_end-s.ensures (is_draw_lem act c.if-is_said.s a.time (sym c.is_draw.ensures ∙ w.if-is_draw.true)))
-      | else-is_draw w ↦ rw (w.s-is, w.o-is, w.at-is) (did_as (did_none _ _ _) (not_draw act c.if-is_said.s a.time (sym c.is_draw.ensures ∙ w.if-is_draw.false)))
+      | then-is_draw w ↦ rw (w.s-is, w.o-is) (does_as w.round_end-s.ensures (is_draw_lem act c.if-is_said.s a.time (sym c.is_draw.ensures ∙ w.if-is_draw.true)))
+      | else-is_draw w ↦ rw (w.s-is, w.o-is) (does_as (does_none _ _) (not_draw act c.if-is_said.s a.time (sym c.is_draw.ensures ∙ w.if-is_draw.false)))
     ]))
     p
 
@@ -131,4 +88,4 @@ returns-after-asks c =
     ] in
     before (goal.at.returns-after-asks c).After-front
     (poll_did c.act_of-act.result c.if-is_draw.s c.args.queue.now (sym c.in-Some.is ∙ c.front.ensures) (to_is saw (sym c.in_default-to_of.is ∙ c.to_of.ensures)) source c.index-e.ensures c.is_member-here-in_default-to_of.ensures
-    c.poll_burst.ensures c.poll_wait-y.ensures c.one_more-polls.ensures c.without-list.ensures)
+    c.poll_burst.ensures c.poll_wait-y.ensures c.one_more-polls.ensures (rw c.from.ensures at c.without-list.ensures))

@@ -4,9 +4,6 @@ use Rattle.bits.specs.Mask.{has_bit, lowest_bit}
 use Rattle.bits.proofs.Loops.{first_lt}
 use Rattle.next.proofs.to_of.Goals as goal
 
-pub returns-then-has : goal.returns-then-has
-returns-then-has c = rw (← c.has.ensures, c.if-has.true)
-
 pub overflow_cast-result : goal.overflow_cast-result
 unfolding lowest_bit
 overflow_cast-result c = omega (arith, first_lt (has_bit c.args.word) 64 c.in_ok-i.i (sym c.lowest.ensures ∙ c.in_ok-i.was))

@@ -11,9 +11,6 @@ pub returns-then-n-eq0 : goal.returns-then-n-eq0
 returns-then-n-eq0 c =
     rw (c.if-before.true, c.if-after.false) (omega (arith, tally_less c.args.n))
 
-pub overflow_sub-result : goal.overflow_sub-result
-overflow_sub-result c = omega arith
-
 pub returns-then-before : goal.returns-then-before
 returns-then-before c =
     rw (c.if-before.true, c.if-after.false) (sym (tally_less c.args.n))

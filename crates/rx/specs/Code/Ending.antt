@@ -65,14 +65,14 @@ idle_ending w h =
 abbrev pub reply_ending : Reply → Bool → Ending
 reply_ending r more = record { kind = kind.Answer; slot = r.slot; over = not more; more = more; reply = r }
 
-abbrev pub replied_by : Reply → ℕ → Bool → Head → Ending
+abbrev pub replied_by : Reply → Option ℕ → Bool → Head → Ending
 replied_by r sender more h = cond (is_reply h sender r) (reply_ending r (goes_on h more r)) no_ending
 
-abbrev pub full_ending : Option Reply → ℕ → Bool → Head → Ending
+abbrev pub full_ending : Option Reply → Option ℕ → Bool → Head → Ending
 full_ending None sender more h = no_ending
 full_ending (Some r) sender more h = replied_by r sender more h
 
-unfoldable pub ending_by : Option Reply → ℕ → Bool → Head → Ending
+unfoldable pub ending_by : Option Reply → Option ℕ → Bool → Head → Ending
 ending_by w sender more h =
     cond (eqb h.code tiny) (cond (eqb h.hi k_idle) (idle_ending w h) no_ending) (full_ending w sender more h)
 

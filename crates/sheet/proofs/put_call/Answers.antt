@@ -2,8 +2,7 @@ use mathlib.Core.Path.{◌≡◌, sym, ap, ◌∙◌}
 use mathlib.Core.List.{List, []}
 use Prim.Native.Nat.{ℕ, ◌+◌, ◌*◌, ◌-◌, ◌<◌}
 use native.Mathlib.Omega.{arith}
-use lib.ListN.{length, get_or, drop, length-drop}
-use lib.Seq.{length-take-le}
+use lib.ListN.{length, get_or}
 use Rattle.wire.specs.Call.{packed, unpacked}
 use Rattle.std.proofs.lemmas.Slice.{put_mid-paste}
 use Rattle.sheet.specs.Sheet.{short_calls}
@@ -13,13 +12,6 @@ use Rattle.sheet.proofs.put_call.Goals as goal
 -- what is read from the number of call k
 is_call : (k : ℕ) {v : ℕ} {r : List ℕ} → k < 1407 → v ≡ packed (get_or short_calls k []) → r ≡ unpacked v → r ≡ get_or short_calls k []
 is_call k h e f = f ∙ ap unpacked e ∙ number_back k h
-
-pub copy_from_slice-requires : goal.copy_from_slice-requires
-copy_from_slice-requires c =
-    let a = c.args in
-    let u = c.unpack_number in
-    let n : length u.result ≡ 7 = ap length (is_call a.k c.requires.0 c.number_at.ensures u.ensures) ∙ seven a.k c.requires.0 in
-    length-take-le (7 * a.k + 7 - 7 * a.k) (drop (7 * a.k) a.out.now) (omega (arith, length-drop (7 * a.k) a.out.now)) ∙ omega arith
 
 pub returns : goal.returns
 returns c =

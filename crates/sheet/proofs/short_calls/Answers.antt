@@ -4,7 +4,7 @@ use Prim.Native.Nat.{ℕ, ◌+◌, ◌*◌, ◌<◌}
 use native.Mathlib.Omega.{arith}
 use lib.ListN.{length, get_or, drop}
 use lib.Seq.{paste, take_all}
-use borrow.Author.Tests.{lt-ltb, le-ltb}
+use borrow.Author.Tests.{le-ltb}
 use Rattle.sheet.specs.Sheet.{short_calls, sheet}
 use Rattle.sheet.proofs.Rows.{paste_on}
 use Rattle.sheet.proofs.Theorems.{bytes, on_sheet}
@@ -21,12 +21,6 @@ whole : (d : List ℕ) (k : ℕ) → k ≡ 1407 → paste d 0 sheet (7 * k) ≡ 
 whole d k e =
     let n : 7 * k ≡ 9849 = omega arith in
     ap (λ (i : ℕ). paste d 0 sheet i) n ∙ ap (λ (s : List ℕ). s ++ drop 9849 d) (take_all 9849 sheet (omega (arith, bytes)))
-
-pub returns-then-out-lt-SHEET : goal.returns-then-out-lt-SHEET
-returns-then-out-lt-SHEET c = let a = c.args in rw (lt-ltb (length a.out.now) 9849 (omega arith)) (refl, refl)
-
-pub loop-k-init : goal.loop-k-init
-loop-k-init c = (refl, refl)
 
 pub loop-k-preserved : goal.loop-k-preserved
 loop-k-preserved c =

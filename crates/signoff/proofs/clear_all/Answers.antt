@@ -23,7 +23,7 @@ unfolding clear_at
 loop-c-preserved c =
     let l = c.loop-c in
     let slot = c.args.slot in
-    let h = c.loop-c-test.true in rw (c.without_if-in-loop-c.ensures, c.without_if.ensures, c.has.ensures)
+    let h = c.loop-c-test.true in rw (c.without_if-in-loop-c.ensures, c.without_if.ensures, c.from.ensures, c.has.ensures)
     (ap (λ (t : Table). with_table l.s (fold (clear_at slot) (64 - (l.c + 1)) (l.c + 1) t)) (table_step (table_of l.s) l.c (is_cell_of (table_of l.s) slot l.c))
     ∙ sym (ap (with_table l.s) (fold_turn (clear_at slot) 64 l.c (table_of l.s) h)) ∙ l.invariant)
 

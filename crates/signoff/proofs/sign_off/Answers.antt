@@ -1,13 +1,6 @@
 -- Assumes nothing.
-use native.Mathlib.Omega.{arith}
 use Rattle.signoff.specs.SignOff.{sign_off}
 use Rattle.signoff.proofs.sign_off.Goals as goal
-
-pub offset_bounds-s-i-4 : goal.offset_bounds-s-i-4
-offset_bounds-s-i-4 c = omega (arith, c.requires)
-
-pub bounds-s-i-4 : goal.bounds-s-i-4
-bounds-s-i-4 c = omega (arith, c.requires)
 
 pub returns : goal.returns
 unfolding sign_off
@@ -23,4 +16,5 @@ returns c =
       c.clear_all-s.ensures,
       c.strike_round-q.ensures,
       c.strike_wait-v.ensures,
+      c.from-i.ensures,
     )

@@ -1,49 +1,16 @@
 -- Assumes nothing.
-use native.Mathlib.Omega.{arith}
+use mathlib.Core.Path.{◌≡◌, sym, ◌∙◌}
+use lib.Dec.{eqb}
+use borrow.Author.Rules.{rules}
+use Rattle.out.proofs.Laws.{writes_none}
 use Rattle.refusal.specs.Numbers.{number_in}
-use Rattle.net.proofs.Laws.{index_lt}
-use Rattle.admit.specs.Admission.{admit_by}
+use Rattle.admit.specs.Admission.{via_for, admit_by}
 use Rattle.station.specs.Entries.{admit_of}
 use Rattle.station.proofs.Laws.{next_with}
-use Rattle.station.proofs.Admitted.{admit_stored}
+use Rattle.station.proofs.Admitted.{left_back, admit_known, admit_free, admit_full, admit_refused}
 use Rattle.station.proofs.Numbers.{answer_is, passed_is}
 use Rattle.station.proofs.admit.Goals as goal
-
-pub offset_bounds-s-i : goal.offset_bounds-s-i
-offset_bounds-s-i c = omega (arith, rw (← c.index-i.ensures) at (index_lt c.slot_of-slot.result))
-
-pub bounds-s-i : goal.bounds-s-i
-bounds-s-i c = omega (arith, rw (← c.index-i.ensures) at (index_lt c.slot_of-slot.result))
-
-pub offset_bounds-s-i-2 : goal.offset_bounds-s-i-2
-offset_bounds-s-i-2 c = omega (arith, rw (← c.index-i.ensures) at (index_lt c.slot_of-slot.result))
-
-pub bounds-s-i-2 : goal.bounds-s-i-2
-bounds-s-i-2 c = omega (arith, rw (← c.index-i.ensures) at (index_lt c.slot_of-slot.result))
-
-pub offset_bounds-s-i-3 : goal.offset_bounds-s-i-3
-offset_bounds-s-i-3 c = omega (arith, rw (← c.index-i.ensures) at (index_lt c.slot_of-slot.result))
-
-pub bounds-s-i-3 : goal.bounds-s-i-3
-bounds-s-i-3 c = omega (arith, rw (← c.index-i.ensures) at (index_lt c.slot_of-slot.result))
-
-pub offset_bounds-s-i-4 : goal.offset_bounds-s-i-4
-offset_bounds-s-i-4 c = omega (arith, rw (← c.index-i.ensures) at (index_lt c.slot_of-slot.result))
-
-pub bounds-s-i-4 : goal.bounds-s-i-4
-bounds-s-i-4 c = omega (arith, rw (← c.index-i.ensures) at (index_lt c.slot_of-slot.result))
-
-pub offset_bounds-s-i-5 : goal.offset_bounds-s-i-5
-offset_bounds-s-i-5 c = omega (arith, rw (← c.index-i.ensures) at (index_lt c.slot_of-slot.result))
-
-pub bounds-s-i-5 : goal.bounds-s-i-5
-bounds-s-i-5 c = omega (arith, rw (← c.index-i.ensures) at (index_lt c.slot_of-slot.result))
-
-pub offset_bounds-s-i-6 : goal.offset_bounds-s-i-6
-offset_bounds-s-i-6 c = omega (arith, rw (← c.index-i.ensures) at (index_lt c.slot_of-slot.result))
-
-pub bounds-s-i-6 : goal.bounds-s-i-6
-bounds-s-i-6 c = omega (arith, rw (← c.index-i.ensures) at (index_lt c.slot_of-slot.result))
+use Rattle.station.proofs.admit.Goals.{then-is_ok+in-Known, then-is_ok+in-Free, then-is_ok+in-Full, else-is_ok}
 
 pub returns : goal.returns
 unfolding admit_of
@@ -51,7 +18,20 @@ returns c =
     let a = c.args in
     let no = c.admit_refusal-no.result in
     let n = number_in no in
-    rw (c.and.ensures, answer_is no _, ← c.unpack_call-call.ensures, ← c.seat_of-found.ensures, ← c.is_full.ensures, ← c.admit_refusal-no.ensures, ← c.via_for-via.ensures)
-    (next_with n a.s (admit_by c.seat_of-found.result a.s c.unpack_call-call.result c.via_for-via.result a.time)
-    (admit_stored a.s c.unpack_call-call.result c.via_for-via.result a.time n c.seat_of-found.result _ _ _ _ _ _ _ _ _ _ (rw (c.is_ok.ensures.value, passed_is no) at c.seat_if-seat.ensures) c.is_free-fresh.ensures c.is_full-2.ensures
-    c.slot_of-slot.ensures c.index-i.ensures c.member_if-k.ensures c.recent_if-z.ensures c.queue_if-y.ensures c.with_if.ensures c.with_if-acks.ensures c.events_if-at.ensures))
+    let call = c.unpack_call-call.result in
+    let found = c.seat_of-found.result in
+    let ok = eqb n 0 in
+    let passed : ok ≡ c.is_ok.result = sym (c.is_ok.ensures.value ∙ passed_is no) in
+    rw (c.and.ensures, answer_is no _, ← c.unpack_call-call.ensures, ← c.seat_of-found.ensures, ← c.is_full.ensures, ← c.admit_refusal-no.ensures)
+    (next_with n a.s (admit_by found a.s call (via_for a.s found a.relay) a.time)
+    (elim c.if-is_ok.branch [
+      | then-is_ok+in-Known w ↦
+          rw w.s-is
+          (admit_known a.s call a.relay a.time ok found _ _ _ (passed ∙ w.if-is_ok.true) w.in-Known.is w.index-i.ensures w.with-s.ensures (left_back w.out-is (writes_none _) (search rules)))
+      | then-is_ok+in-Free w ↦
+          rw w.s-is
+          (admit_free a.s call a.relay a.time ok found _ _ _ _ _ _ _ _ (passed ∙ w.if-is_ok.true) w.in-Free.is w.index-i-in-Free.ensures w.via_for-via.ensures
+          w.new_member.ensures w.empty.ensures w.empty-in-Free.ensures w.with.ensures w.with-s-in-Free.ensures (left_back w.out-is w.admit_events.ensures (search rules)))
+      | then-is_ok+in-Full w ↦ rw w.s-is (admit_full a.s call a.relay a.time ok found w.in-Full.is (left_back w.out-is (writes_none _) (search rules)))
+      | else-is_ok w ↦ rw w.s-is (admit_refused a.s call a.relay a.time ok found (passed ∙ w.if-is_ok.false) (left_back w.out-is (writes_none _) (search rules)))
+    ]))

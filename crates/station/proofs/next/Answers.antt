@@ -1,4 +1,6 @@
 -- Assumes nothing.
+use borrow.Author.Rules.{rules}
+use Rattle.out.proofs.Laws.{writes_back}
 use Rattle.refusal.specs.Numbers.{number_in}
 use Rattle.net.specs.Net.{said}
 use Rattle.next.specs.Next.{ncs_next}
@@ -12,6 +14,7 @@ unfolding next_of
 returns c =
     let n = c.next_refusal-no in
     let a = c.args in
+    let did = rw (c.is_ok.ensures.value, passed_is n.result) at c.ncs_next-t.ensures in
     rw (c.and.ensures, answer_is n.result _, ← n.ensures)
     (next_with (number_in n.result) a.s (said (ncs_next a.s a.time a.lent.now).station (ncs_next a.s a.time a.lent.now).words)
-    (rw (c.is_ok.ensures.value, passed_is n.result) at c.ncs_next-t.ensures))
+    (record { station = did.station; wrote = writes_back did.wrote (search rules) }))

@@ -1,27 +1,18 @@
 -- `j` is where the ways round the storing of the message meet. Assumes nothing.
-use mathlib.Core.Path.{◌≡◌, sym, ap, ◌∙◌}
+use mathlib.Core.Path.{◌≡◌, sym, ◌∙◌}
 use mathlib.Core.List.{[]}
 use Prim.Native.Nat.{◌+◌}
-use native.Mathlib.Omega.{arith}
 use lib.ListN.{length, get_or}
 use Rattle.refusal.specs.Numbers.{number_in}
 use Rattle.inbox.specs.Messages.{framed}
 use Rattle.out.specs.Encode.{after}
 use Rattle.queue.specs.Queues.{empty_queue, posted_to, put_bytes}
-use Rattle.queue.proofs.Laws.{length_put}
 use Rattle.net.specs.State.{queue_at, with_queue}
-use Rattle.net.proofs.Laws.{index_lt}
 use Rattle.station.specs.Entries.{post_refusal, post_of}
 use Rattle.station.proofs.Laws.{answered_unless, post_ok, post_if, post_yes, post_no}
 use Rattle.station.proofs.Numbers.{answer_is, passed_is, passed, stopped}
 use Rattle.station.proofs.post.Goals as goal
 use Rattle.station.proofs.post.Goals.{then-ok, else-ok}
-
-pub offset_bounds-s-i : goal.offset_bounds-s-i
-offset_bounds-s-i c = omega (arith, rw (← c.index-i.ensures) at (index_lt c.args.slot))
-
-pub bounds-s-i : goal.bounds-s-i
-bounds-s-i c = omega (arith, rw (← c.index-i.ensures) at (index_lt c.args.slot))
 
 pub put-requires : goal.put-requires
 put-requires c =
@@ -37,19 +28,6 @@ post_queue-k-requires c =
     let i = c.index-i.result in
     let no = c.post_refusal-no.result in
     λ z. (post_ok (length a.lent.now) a.s.used a.slot (get_or a.s.queues i empty_queue) (length a.message.now) (sym c.post_refusal-no.ensures ∙ passed no (sym c.is_ok-ok.ensures.value ∙ z))).total
-
-pub offset_bounds-s-i-2 : goal.offset_bounds-s-i-2
-offset_bounds-s-i-2 c = omega (arith, rw (← c.index-i.ensures) at (index_lt c.args.slot))
-
-pub bounds-s-i-2 : goal.bounds-s-i-2
-bounds-s-i-2 c = omega (arith, rw (← c.index-i.ensures) at (index_lt c.args.slot))
-
-pub shape_of-lent : goal.shape_of-lent
-shape_of-lent c =
-    elim c.if-ok.branch [
-      | then-ok w ↦ ap length w.lent-is ∙ ap length w.put.ensures ∙ length_put _ _ _ _
-      | else-ok w ↦ ap length w.lent-is
-    ]
 
 pub returns : goal.returns
 unfolding post_of after

@@ -1,9 +1,7 @@
 -- Assumes nothing.
-use native.Mathlib.Omega.{arith}
 use mathlib.Core.Path.{ap, ◌∙◌}
 use Rattle.std.proofs.lemmas.Result.{err_from_is_err_and}
 use Rattle.refusal.specs.Numbers.{number_of}
-use Rattle.net.proofs.Laws.{index_lt}
 use Rattle.station.specs.SignOff.{sign_off_refusal}
 use Rattle.station.specs.Worst.{worst_of}
 use Rattle.station.proofs.Laws.{refused_by}
@@ -14,12 +12,6 @@ unfolding worst_of
 returns-in_err-sign_refusal c =
     let p = err_from_is_err_and c.from_residual.result c.from_residual.ensures.1 in
     rw p.1 (refused_by (sign_off_refusal c.args.s.used c.args.slot) p.0 _ (ap number_of p.2 ∙ c.in_err-sign_refusal.ensures))
-
-pub offset_bounds-rs-i : goal.offset_bounds-rs-i
-offset_bounds-rs-i c = omega (arith, rw (← c.index-i.ensures) at (index_lt c.args.slot))
-
-pub bounds-rs-i : goal.bounds-rs-i
-bounds-rs-i c = omega (arith, rw (← c.index-i.ensures) at (index_lt c.args.slot))
 
 pub returns : goal.returns
 unfolding worst_of

@@ -1,8 +1,8 @@
 use mathlib.Core.Path.{◌≡◌, sym, ap, ◌∙◌}
 use native.Mathlib.Omega.{arith}
 use borrow.Author.Tests.{eqb-true, eqb-false}
-use Rattle.words.specs.Words.{shape_of, last_shape}
-use Rattle.words.proofs.Laws.{shape_end, shape_more, shape_full, item_within, parse_none, parse_head_bad, parse_head}
+use Rattle.words.specs.Words.{item_at, shape_of, last_shape}
+use Rattle.words.proofs.Laws.{shape_end, shape_more, shape_full, item_within, parse_none, parse_head_bad, parse_head, from_all}
 use Rattle.words.proofs.shape_of.Goals as goal
 
 pub returns-then-is_empty : goal.returns-then-is_empty
@@ -25,25 +25,24 @@ loop-n-init c =
 pub returns-then-size-eq0 : goal.returns-then-size-eq0
 returns-then-size-eq0 c =
     let i = c.item_at-i in
+    let e = i.ensures ∙ ap item_at (from_all c.args.words.now c.loop-n.at) in
     let s = c.size_of-size in
     c.last.ensures
-    ∙ sym (c.loop-n.invariant.1 ∙ shape_end c.args.words.now c.loop-n.at c.loop-n.n i.result s.result i.ensures s.ensures (omega arith) c.if-size-eq0.true)
-
-pub overflow_add-at : goal.overflow_add-at
-overflow_add-at c =
-    omega (arith, item_within c.args.words.now c.loop-n.at _ _ c.loop-n.invariant.0 c.item_at-i.ensures c.size_of-size.ensures)
+    ∙ sym (c.loop-n.invariant.1 ∙ shape_end c.args.words.now c.loop-n.at c.loop-n.n i.result s.result e s.ensures (omega arith) c.if-size-eq0.true)
 
 pub loop-n-preserved : goal.loop-n-preserved
 loop-n-preserved c =
     let i = c.item_at-i in
+    let e = i.ensures ∙ ap item_at (from_all c.args.words.now c.loop-n.at) in
     let s = c.size_of-size in (
-      item_within c.args.words.now c.loop-n.at i.result s.result c.loop-n.invariant.0 i.ensures s.ensures,
-      c.loop-n.invariant.1 ∙ shape_more c.args.words.now c.loop-n.at c.loop-n.n i.result s.result i.ensures s.ensures (omega arith) c.if-size-eq0.false,
+      item_within c.args.words.now c.loop-n.at i.result s.result c.loop-n.invariant.0 e s.ensures,
+      c.loop-n.invariant.1 ∙ shape_more c.args.words.now c.loop-n.at c.loop-n.n i.result s.result e s.ensures (omega arith) c.if-size-eq0.false,
     )
 
 pub returns : goal.returns
 returns c =
     let i = c.item_at in
+    let w = i.ensures ∙ ap item_at (from_all c.args.words.now c.loop-n.at) in
     let e : c.loop-n.n ≡ 64 = omega arith in
     c.last-2.ensures
-    ∙ sym (c.loop-n.invariant.1 ∙ shape_full c.args.words.now c.loop-n.at c.loop-n.n i.result i.ensures (omega arith) ∙ ap (last_shape i.result) e)
+    ∙ sym (c.loop-n.invariant.1 ∙ shape_full c.args.words.now c.loop-n.at c.loop-n.n i.result w (omega arith) ∙ ap (last_shape i.result) e)

@@ -7,4 +7,4 @@ use Rattle.bursts.proofs.Saying.{Going}
 use Rattle.bursts.proofs.reroute.move_leaves.Given as goal
 
 abbrev pub invariant-loop-c : goal.invariant-loop-c
-invariant-loop-c l = (l.free ≡ able_of l.s) × Going (move_at l.leaves) (move_all (said l.initial.s [])) l.initial.o l.at l.c l.s l.o l.end
+invariant-loop-c l = (l.free ≡ able_of l.s) × Going (move_at l.leaves) (move_all (said l.initial.s [])) l.initial.o l.c l.s l.o

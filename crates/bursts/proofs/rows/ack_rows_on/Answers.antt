@@ -1,23 +1,22 @@
-use mathlib.Core.Path.{refl}
-use native.Mathlib.Omega.{arith}
-use Rattle.bursts.proofs.Filling.{front_most, rows_from, rows_turn, rows_end}
-use borrow.Author.Rules.{rules}
+use Rattle.std.proofs.Common.{refl}
+use Rattle.bursts.proofs.Filling.{rows_start, rows_told, rows_untold, rows_end}
+use Rattle.bursts.proofs.rows.ack_rows_on.Goals.{then-has-len, else-has-len}
 use Rattle.bursts.proofs.rows.ack_rows_on.Goals as goal
 
 pub loop-i-init : goal.loop-i-init
-loop-i-init c = (refl, rows_from _ _ 6 _ _ (omega arith))
-
-pub ack_row-n-requires : goal.ack_row-n-requires
-ack_row-n-requires c =
-    let l = c.loop-i in
-    let a = c.args in
-    omega (arith, l.invariant.1.most, l.invariant.0, front_most a.from a.rows.now)
+loop-i-init g c = rows_start _ _ 6 _
 
 pub loop-i-preserved : goal.loop-i-preserved
-loop-i-preserved c =
+loop-i-preserved g c =
     let l = c.loop-i in
     let h = c.loop-i-test.true in
-    (search rules, rows_turn _ _ 6 refl h l.invariant.1 (rw (← l.invariant.1.count, ← c.has.ensures) c.ack_row-n.ensures))
+    elim c.if-has-len.branch [
+      | then-has-len w ↦
+          rw w.rows-is
+          (rows_told _ _ 6 refl h l.invariant (rw (← c.len.ensures.value, ← c.has.ensures) w.if-has-len.true) w.ack_row.ensures)
+      | else-has-len w ↦
+          rw w.rows-is (rows_untold _ _ 6 h l.invariant (rw (← c.len.ensures.value, ← c.has.ensures) w.if-has-len.false))
+    ]
 
 pub returns : goal.returns
-returns c = rows_end _ _ 6 c.loop-i-test.false c.loop-i.invariant.1
+returns g c = rows_end _ _ 6 c.loop-i-test.false c.loop-i.invariant

@@ -1,10 +1,7 @@
-use mathlib.Core.Path.{refl, sym, ◌∙◌}
+use mathlib.Core.Path.{sym, ◌∙◌}
 use Rattle.bits.proofs.Loops.{any_pass, any_stop, any_end}
 use Rattle.bursts.specs.Rows.{hole_at}
 use Rattle.bursts.proofs.rows.any_holes.Goals as goal
-
-pub loop-i-init : goal.loop-i-init
-loop-i-init c = refl
 
 pub returns-then-has-holes : goal.returns-then-has-holes
 returns-then-has-holes c =

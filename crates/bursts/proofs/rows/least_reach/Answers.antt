@@ -1,25 +1,11 @@
 use mathlib.Core.Path.{refl, sym, ap, ◌∙◌}
-use native.Mathlib.Omega.{arith}
 use Rattle.bits.proofs.Loops.{fold_turn, fold_end}
-use Rattle.net.proofs.Laws.{index_lt}
-use Rattle.bursts.specs.Rows.{or_floor, least_reach, member_in}
+use Rattle.bursts.specs.Rows.{or_floor, least_reach}
 use Rattle.bursts.proofs.rows.least_reach.Goals as goal
 
 pub loop-i-init : goal.loop-i-init
 unfolding least_reach
 loop-i-init c = refl
-
-pub offset_bounds-ms-v : goal.offset_bounds-ms-v
-offset_bounds-ms-v c =
-    let e = c.index-v.ensures in
-    let h = index_lt (member_in c.args.s c.loop-i.i).via in
-    omega (arith, rw (← e) at h)
-
-pub bounds-ms-v : goal.bounds-ms-v
-bounds-ms-v c =
-    let e = c.index-v.ensures in
-    let h = index_lt (member_in c.args.s c.loop-i.i).via in
-    omega (arith, rw (← e) at h)
 
 pub loop-i-preserved : goal.loop-i-preserved
 loop-i-preserved c =

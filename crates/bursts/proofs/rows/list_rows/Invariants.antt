@@ -5,4 +5,4 @@ use Rattle.bursts.proofs.Filling.{Rows}
 use Rattle.bursts.proofs.rows.list_rows.Given as goal
 
 abbrev pub invariant-loop-i : goal.invariant-loop-i
-invariant-loop-i l = Rows (list_at l.s) (list_row l.s) 3 [] l.i l.n l.rows
+invariant-loop-i l = Rows (list_at l.s) (list_row l.s) 3 [] l.i l.rows.items

@@ -9,4 +9,4 @@ use Rattle.bursts.proofs.Filling.{Rows}
 use Rattle.bursts.proofs.rows.tree_rows.Given as goal
 
 abbrev pub invariant-loop-i : goal.invariant-loop-i
-invariant-loop-i l = Rows (λ k bs. has_bit l.mask k && (not (eqb (get_or l.ms k no_member).via 63) || has_bit l.moved k)) (λ k. k ∷ (get_or l.ms k no_member).via ∷ []) 2 [] l.i l.n l.rows
+invariant-loop-i l = Rows (λ k bs. has_bit l.mask k && (not (eqb (get_or l.ms k no_member).via 63) || has_bit l.moved k)) (λ k. k ∷ (get_or l.ms k no_member).via ∷ []) 2 [] l.i l.rows.items

@@ -1,50 +1,28 @@
 -- Assumes nothing.
-use native.Mathlib.Omega.{arith}
-use Rattle.net.proofs.Laws.{index_lt}
-use Rattle.frames.specs.Control.{payload_in}
-use Rattle.frames.proofs.Entries.{checkin_stored}
+use mathlib.Core.Path.{sym, ap, ◌∙◌}
+use Rattle.recent.specs.declared.Recent.{Recent}
+use Rattle.recent.specs.Readings.{noted}
+use Rattle.frames.specs.Control.{payload_of, checkin_member}
+use Rattle.frames.proofs.Entries.{checkin_known, checkin_free, checkin_full}
 use Rattle.frames.proofs.control.checkin.Goals as goal
-
-pub offset_bounds-s-i : goal.offset_bounds-s-i
-offset_bounds-s-i c = omega (arith, rw (← c.index-i.ensures) at (index_lt c.slot_of-slot.result))
-
-pub bounds-s-i : goal.bounds-s-i
-bounds-s-i c = omega (arith, rw (← c.index-i.ensures) at (index_lt c.slot_of-slot.result))
-
-pub offset_bounds-s-i-2 : goal.offset_bounds-s-i-2
-offset_bounds-s-i-2 c = omega (arith, rw (← c.index-i.ensures) at (index_lt c.slot_of-slot.result))
-
-pub bounds-s-i-2 : goal.bounds-s-i-2
-bounds-s-i-2 c = omega (arith, rw (← c.index-i.ensures) at (index_lt c.slot_of-slot.result))
-
-pub offset_bounds-s-i-3 : goal.offset_bounds-s-i-3
-offset_bounds-s-i-3 c = omega (arith, rw (← c.index-i.ensures) at (index_lt c.slot_of-slot.result))
-
-pub bounds-s-i-3 : goal.bounds-s-i-3
-bounds-s-i-3 c = omega (arith, rw (← c.index-i.ensures) at (index_lt c.slot_of-slot.result))
-
-pub offset_bounds-s-i-4 : goal.offset_bounds-s-i-4
-offset_bounds-s-i-4 c = omega (arith, rw (← c.index-i.ensures) at (index_lt c.slot_of-slot.result))
-
-pub bounds-s-i-4 : goal.bounds-s-i-4
-bounds-s-i-4 c = omega (arith, rw (← c.index-i.ensures) at (index_lt c.slot_of-slot.result))
-
-pub offset_bounds-s-i-5 : goal.offset_bounds-s-i-5
-offset_bounds-s-i-5 c = omega (arith, rw (← c.index-i.ensures) at (index_lt c.slot_of-slot.result))
-
-pub bounds-s-i-5 : goal.bounds-s-i-5
-bounds-s-i-5 c = omega (arith, rw (← c.index-i.ensures) at (index_lt c.slot_of-slot.result))
-
-pub offset_bounds-s-i-6 : goal.offset_bounds-s-i-6
-offset_bounds-s-i-6 c = omega (arith, rw (← c.index-i.ensures) at (index_lt c.slot_of-slot.result))
-
-pub bounds-s-i-6 : goal.bounds-s-i-6
-bounds-s-i-6 c = omega (arith, rw (← c.index-i.ensures) at (index_lt c.slot_of-slot.result))
+use Rattle.frames.proofs.control.checkin.Goals.{in-Known, in-Free, in-Full}
 
 pub returns : goal.returns
 returns c =
     let b = c.args in
-    checkin_stored b.a b.len (payload_in b.words.now b.at b.len) b.s _ _ _ _ _ _ _ _ _ _ _ _ _
-    c.call_in-call.ensures c.seat_of-seat.ensures c.is_free-fresh.ensures c.is_full-sits.ensures c.slot_of-slot.ensures c.index-i.ensures
-    c.member_if-new.ensures c.checkin_member-k.ensures c.recent_if-none.ensures c.noted_if-z.ensures c.queue_if-y.ensures
-    c.with_if.ensures c.with_if-acks.ensures c.events_if.ensures
+    let len = b.p.now.len in
+    let p = payload_of b.p.now in
+    let call = c.call-call in
+    let seat = sym c.seat_of-seat.ensures in
+    elim c.match-seat.branch [
+      | in-Known w ↦
+          rw (w.o-is, w.s-is)
+          (checkin_known b.a len p b.s call.result _ _ _ _ _ _ call.ensures (seat ∙ w.in-Known.is) w.index-i.ensures w.checkin_member.ensures w.noted.ensures w.with-s.ensures)
+      | in-Free w ↦
+          rw (w.o-is, w.s-is)
+          (checkin_free b.a len p b.s call.result _ _ _ _ _ _ _ call.ensures (seat ∙ w.in-Free.is) w.index-i-in-Free.ensures
+          (w.checkin_member-in-Free.ensures ∙ ap (checkin_member b.a len p) w.new_member.ensures)
+          (w.noted-in-Free.ensures ∙ ap (λ (r : Recent). noted r b.a.level) w.empty.ensures) w.empty-in-Free.ensures w.with.ensures w.with-s-in-Free.ensures
+          w.admit_events.ensures)
+      | in-Full w ↦ rw (w.o-is, w.s-is) (checkin_full b.a len p b.s call.result _ call.ensures (seat ∙ w.in-Full.is))
+    ]

@@ -1,18 +1,7 @@
 -- Assumes nothing.
-use borrow.Author.Tests.{le-leb, lt-leb}
-use Rattle.out.proofs.Laws.{wrote_none}
+use borrow.Author.Tests.{le-leb}
+use Rattle.out.proofs.Laws.{writes_none}
 use Rattle.frames.proofs.control.kid_event.Goals as goal
 
-pub returns-then-not-ok : goal.returns-then-not-ok
-returns-then-not-ok c = rw c.if-not-ok.true (wrote_none _ _)
-
-pub returns-then-b-ge128 : goal.returns-then-b-ge128
-returns-then-b-ge128 c = rw (c.if-not-ok.false, le-leb _ _ c.if-b-ge128.true) (wrote_none _ _)
-
-pub returns : goal.returns
-returns c =
-    rw (
-      c.if-not-ok.false,
-      lt-leb _ _ c.if-b-ge128.false,
-    )
-    c.put_missed.ensures
+pub returns-else-b-lt128 : goal.returns-else-b-lt128
+returns-else-b-lt128 c = rw (le-leb _ _ c.if-b-lt128.false) (writes_none _)

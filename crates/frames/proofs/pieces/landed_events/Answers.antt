@@ -1,24 +1,11 @@
 -- Assumes nothing.
-use Rattle.out.proofs.Laws.{then, wrote_none}
+use Rattle.out.proofs.Laws.{writes_then, writes_none}
 use Rattle.frames.proofs.pieces.landed_events.Goals as goal
 
 pub returns-then-not-is_some : goal.returns-then-not-is_some
-returns-then-not-is_some c = rw (← c.is_some.ensures, c.if-not-is_some.true) (wrote_none _ _)
+returns-then-not-is_some c = rw (← c.is_some.ensures, c.if-not-is_some.true) (writes_none _)
 
-pub returns-then-relayed : goal.returns-then-relayed
-returns-then-relayed c =
-    rw (
-      ← c.is_some.ensures,
-      c.if-not-is_some.false,
-      c.if-relayed.true,
-    )
-    (then c.put_event-next.ensures c.put_message.ensures)
-
-pub returns : goal.returns
-returns c =
-    rw (
-      ← c.is_some.ensures,
-      c.if-not-is_some.false,
-      c.if-relayed.false,
-    )
-    c.put_message-2.ensures
+pub returns-in-Some : goal.returns-in-Some
+returns-in-Some c =
+    rw (← c.is_some.ensures, c.if-not-is_some.false, c.in-Some.is)
+    (writes_then (rw c.from-slot.ensures at c.event.ensures) (rw c.from-slot.ensures at c.message.ensures))

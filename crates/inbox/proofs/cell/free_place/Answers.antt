@@ -1,4 +1,4 @@
-use mathlib.Core.Path.{refl, sym, ◌∙◌}
+use mathlib.Core.Path.{sym, ◌∙◌}
 use native.Mathlib.Omega.{arith}
 use borrow.Author.Tests.{le-leb, lt-leb}
 use Rattle.inbox.specs.Cells.{end_at}
@@ -6,9 +6,6 @@ use Rattle.inbox.proofs.Search.{seek_turn_here, seek_turn_on, seek_end, found_so
 use borrow.Author.Rules.{rules}
 use Rattle.inbox.proofs.cell.free_place.Invariants.{ends}
 use Rattle.inbox.proofs.cell.free_place.Goals as goal
-
-pub loop-k-init : goal.loop-k-init
-loop-k-init c = (c.from-joined.ensures, refl)
 
 pub returns-then-end_of-joined : goal.returns-then-end_of-joined
 returns-then-end_of-joined c =

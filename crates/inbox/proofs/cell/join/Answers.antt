@@ -14,21 +14,14 @@ returns-then-end-joined c =
     let a = c.args in
     let j = c.from-joined.ensures in
     let s = c.from-start.ensures in
-    sym (accept_old a.cell a.bytes.now a.offset a.piece.now (omega arith))
+    sym (accept_old a.cell a.bytes.now a.piece.offset a.piece.bytes.now (omega arith))
 
 pub returns-then-piece-eq0 : goal.returns-then-piece-eq0
 returns-then-piece-eq0 c =
     let a = c.args in
     let j = c.from-joined.ensures in
     let s = c.from-start.ensures in
-    sym (accept_empty a.cell a.bytes.now a.offset a.piece.now (omega arith) c.if-piece-eq0.true)
-
-pub settle_all-requires : goal.settle_all-requires
-settle_all-requires c =
-    let a = c.args in
-    let s = c.from-start.ensures in
-    let k = c.copy_in.auto.dst in
-    omega arith
+    sym (accept_empty a.cell a.bytes.now a.piece.offset a.piece.bytes.now (omega arith) c.if-piece-eq0.true)
 
 pub returns-then-start-joined : goal.returns-then-start-joined
 returns-then-start-joined c =
@@ -38,8 +31,8 @@ returns-then-start-joined c =
     let m = c.copy_in in
     let t = c.settle_all in
     t.ensures
-    ∙ ap (λ (x : List ℕ). settle 2048 (held (grown_to a.cell (s.result + length a.piece.now)) x)) m.ensures
-    ∙ sym (join_step a.cell a.bytes.now a.offset a.piece.now j.result s.result j.ensures s.ensures (search rules) c.if-piece-eq0.false (search rules))
+    ∙ ap (λ (x : List ℕ). settle 2048 (held (grown_to a.cell (s.result + length a.piece.bytes.now)) x)) m.ensures
+    ∙ sym (join_step a.cell a.bytes.now a.piece.offset a.piece.bytes.now j.result s.result j.ensures s.ensures (search rules) c.if-piece-eq0.false (search rules))
 
 pub returns : goal.returns
 returns c =
@@ -47,4 +40,4 @@ returns c =
     let j = c.from-joined.ensures in
     let s = c.from-start.ensures in
     let t = c.wait in
-    t.ensures ∙ sym (accept_wait a.cell a.bytes.now a.offset a.piece.now (omega arith) c.if-piece-eq0.false (omega arith))
+    t.ensures ∙ sym (accept_wait a.cell a.bytes.now a.piece.offset a.piece.bytes.now (omega arith) c.if-piece-eq0.false (omega arith))

@@ -9,9 +9,6 @@ use Rattle.inbox.proofs.cell.next_place.Invariants.{place_of}
 use Rattle.inbox.proofs.cell.next_place.Goals as goal
 use Rattle.inbox.proofs.cell.next_place.Goals.{then-better_place, else-better_place}
 
-pub loop-k-init : goal.loop-k-init
-loop-k-init c = (refl, refl)
-
 pub loop-k-preserved : goal.loop-k-preserved
 loop-k-preserved c =
     let a = c.args in

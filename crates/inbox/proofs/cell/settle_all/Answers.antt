@@ -24,14 +24,6 @@ overflow_sub-joined c =
     let g = goes_at l.c p.k q.0 q.1 in
     omega arith
 
-pub overflow_add-k-in-loop-k : goal.overflow_add-k-in-loop-k
-overflow_add-k-in-loop-k c =
-    let l = c.loop-k in
-    let p = c.in-Some in
-    let q = found_is _ p.k p.ensures in
-    let g = goes_at l.c p.k q.0 q.1 in
-    omega arith
-
 pub overflow_sub-end : goal.overflow_sub-end
 overflow_sub-end c =
     let l = c.loop-k in

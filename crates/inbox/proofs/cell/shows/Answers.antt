@@ -4,30 +4,28 @@ use Prim.Native.Nat.{ℕ, ◌+◌, ◌*◌, ◌-◌}
 use native.Mathlib.Omega.{arith}
 use lib.Dec.{ltb}
 use lib.ListN.{get_or}
-use Rattle.inbox.specs.Cells.{held}
-use Rattle.inbox.specs.Messages.{shows_of}
-use Rattle.inbox.proofs.Claims.{shows_two, shows_old, shows_wait, shows_here, one_byte}
+use Rattle.inbox.proofs.Claims.{shows_two, shows_old, shows_wait, shows_here}
 use Rattle.inbox.proofs.cell.shows.Goals as goal
 
 pub returns-then-joined-ge2 : goal.returns-then-joined-ge2
 returns-then-joined-ge2 c =
     let a = c.args in
     let j = c.from-joined.ensures in
-    c.is_over.ensures ∙ sym (shows_two a.cell a.bytes.now a.offset a.piece.now (omega arith) (omega arith))
+    c.is_over.ensures ∙ sym (shows_two a.cell a.bytes.now a.piece.offset a.piece.bytes.now (omega arith) (omega arith))
 
 pub returns-then-joined-start : goal.returns-then-joined-start
 returns-then-joined-start c =
     let a = c.args in
     let j = c.from-joined.ensures in
     let s = c.from-start.ensures in
-    sym (shows_wait a.cell a.bytes.now a.offset a.piece.now (omega arith) (omega arith))
+    sym (shows_wait a.cell a.bytes.now a.piece.offset a.piece.bytes.now (omega arith) (omega arith))
 
 pub returns-then-end-joined : goal.returns-then-end-joined
 returns-then-end-joined c =
     let a = c.args in
     let j = c.from-joined.ensures in
     let s = c.from-start.ensures in
-    sym (shows_old a.cell a.bytes.now a.offset a.piece.now (omega arith) (omega arith))
+    sym (shows_old a.cell a.bytes.now a.piece.offset a.piece.bytes.now (omega arith) (omega arith))
 
 pub returns-then-joined-eq1 : goal.returns-then-joined-eq1
 returns-then-joined-eq1 c =
@@ -36,31 +34,20 @@ returns-then-joined-eq1 c =
     let s = c.from-start.ensures in
     let x = get_or a.bytes.now 0 0 in
     c.is_over-then-joined-eq1.ensures
-    ∙ ap (λ (i : ℕ). ltb 2046 (x + 256 * get_or a.piece.now (1 - i) 0)) s
+    ∙ ap (λ (i : ℕ). ltb 2046 (x + 256 * get_or a.piece.bytes.now (1 - i) 0)) s
     ∙ sym
-    (shows_here a.cell a.bytes.now a.offset a.piece.now (omega arith) (omega arith) (omega arith) (omega arith) x
+    (shows_here a.cell a.bytes.now a.piece.offset a.piece.bytes.now (omega arith) (omega arith) (omega arith) (omega arith) x
     (λ z. refl) (λ z. absurd (omega arith)))
-
-pub returns-then-end-eq1 : goal.returns-then-end-eq1
-returns-then-end-eq1 c =
-    let a = c.args in
-    let j = c.from-joined.ensures in
-    let s = c.from-start.ensures in
-    let l = c.if-joined-start.false in
-    let z : 0 ≡ a.offset = omega arith in
-    c.shows_next.ensures
-    ∙ ap (shows_of (held a.cell a.bytes.now) 0) (one_byte a.piece.now (omega arith))
-    ∙ ap (λ (i : ℕ). shows_of (held a.cell a.bytes.now) i a.piece.now) z
 
 pub returns : goal.returns
 returns c =
     let a = c.args in
     let j = c.from-joined.ensures in
     let s = c.from-start.ensures in
-    let x = get_or a.piece.now 0 0 in
-    let z : 1 ≡ 1 - a.offset = omega arith in
+    let x = get_or a.piece.bytes.now 0 0 in
+    let z : 1 ≡ 1 - a.piece.offset = omega arith in
     c.is_over-2.ensures
-    ∙ ap (λ (i : ℕ). ltb 2046 (x + 256 * get_or a.piece.now i 0)) z
+    ∙ ap (λ (i : ℕ). ltb 2046 (x + 256 * get_or a.piece.bytes.now i 0)) z
     ∙ sym
-    (shows_here a.cell a.bytes.now a.offset a.piece.now (omega arith) (omega arith) (omega arith) (omega arith) x
+    (shows_here a.cell a.bytes.now a.piece.offset a.piece.bytes.now (omega arith) (omega arith) (omega arith) (omega arith) x
     (λ y. absurd (omega arith)) (λ y. refl))

@@ -11,4 +11,4 @@ pub returns : goal.returns
 unfolding store
 returns c =
     let a = c.args in
-    ap (λ (x : List ℕ). held (stored a.cell a.k a.offset (length a.piece.now)) x) c.copy_in.ensures
+    ap (λ (x : List ℕ). held (stored a.cell a.k a.piece.offset (length a.piece.bytes.now)) x) c.copy_in.ensures

@@ -11,4 +11,4 @@ pub returns : goal.returns
 returns c =
     let a = c.args in
     let q : 6400 * a.c + 6400 - 6400 * a.c ≡ 6400 = omega arith in
-    c.shows.ensures ∙ ap (λ (n : ℕ). shows_of (held a.cell (take n (drop (6400 * a.c) a.store.now))) a.offset a.piece.now) q
+    c.shows.ensures ∙ ap (λ (n : ℕ). shows_of (held a.cell (take n (drop (6400 * a.c) a.store.now))) a.piece.offset a.piece.bytes.now) q

@@ -10,12 +10,6 @@ use Rattle.outbox.proofs.leave.drop_finished.Goals as goal
 pub loop-i-init : goal.loop-i-init
 loop-i-init c = let a = c.args in (search rules, refl, refl, refl, c.requires.0, c.requires.1, L.msgs_begin a.s.now a.bytes.now a.marks.now (O.retain O.unfinished) (S.count_of a.s.now))
 
-pub unfinished_at-requires : goal.unfinished_at-requires
-unfinished_at-requires c = let i = c.loop-i.invariant in let n = c.count_of.ensures in let f = c.loop-i-test.true in (omega arith, omega arith)
-
-pub loop-i-smaller-then-unfinished_at : goal.loop-i-smaller-then-unfinished_at
-loop-i-smaller-then-unfinished_at c = let i = c.loop-i.invariant in let n = c.count_of.ensures in let f = c.loop-i-test.true in omega arith
-
 pub loop-i-preserved-then-unfinished_at : goal.loop-i-preserved-then-unfinished_at
 loop-i-preserved-then-unfinished_at c =
     let l = c.loop-i in
@@ -23,16 +17,6 @@ loop-i-preserved-then-unfinished_at c =
     let n = c.count_of.ensures in
     let f = c.loop-i-test.true in
     (omega arith, i.1, i.2, i.3, i.4, i.5, leaving.keep_turn O.unfinished l.s l.bytes l.marks l.i (omega arith) (sym (c.unfinished_at.ensures l.bytes (omega arith)) ∙ c.if-unfinished_at.true) ∙ i.6)
-
-pub drop_at-requires : goal.drop_at-requires
-drop_at-requires c = let i = c.loop-i.invariant in let n = c.count_of.ensures in let f = c.loop-i-test.true in (omega arith, (omega arith, omega arith))
-
-pub loop-i-smaller : goal.loop-i-smaller
-loop-i-smaller c =
-    let l = c.loop-i in
-    let n = c.count_of.ensures in
-    let f = c.loop-i-test.true in
-    let d = leaving.dropped_count O.unfinished l.s l.bytes l.marks l.i (omega arith) c.drop_at.ensures in omega arith
 
 pub loop-i-preserved : goal.loop-i-preserved
 loop-i-preserved c =
@@ -50,12 +34,6 @@ loop-i-preserved c =
       i.5,
       leaving.drop_turn O.unfinished l.s l.bytes l.marks l.i (omega arith) k.ensures (sym (c.unfinished_at.ensures l.bytes (omega arith)) ∙ c.if-unfinished_at.false) ∙ i.6,
     )
-
-pub shape_of-bytes : goal.shape_of-bytes
-shape_of-bytes c = c.loop-i.invariant.2
-
-pub shape_of-marks : goal.shape_of-marks
-shape_of-marks c = c.loop-i.invariant.3
 
 pub returns : goal.returns
 returns c =

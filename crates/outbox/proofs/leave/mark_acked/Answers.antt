@@ -1,5 +1,5 @@
 use mathlib.Core.Path.{refl, sym, ap, ◌∙◌, subst}
-use mathlib.Core.List.{List, []}
+use mathlib.Core.List.{List}
 use Prim.Native.Nat.{ℕ, ◌≤◌}
 use native.Mathlib.Omega.{arith}
 use lib.ListN.{length}
@@ -18,18 +18,6 @@ loop-i-init c =
     let a = c.args in
     (n.ensures.0, n.ensures.1, c.requires, refl, λ bytes. L.msgs_begin a.s bytes a.marks.now (O.acked a.seq a.off) n.result)
 
-pub ack_at-requires : goal.ack_at-requires
-ack_at-requires c = let l = c.loop-i.invariant in (omega arith, subst (λ (x : List ℕ). 16384 ≤ length x) (sym l.3) l.2)
-
-pub shape_of-marks-then-s-i : goal.shape_of-marks-then-s-i
-shape_of-marks-then-s-i c =
-    let a = c.args in
-    let l = c.loop-i in
-    let i = l.invariant in
-    let k = c.ack_at in
-    let r : 16384 ≤ length l.marks = subst (λ (x : List ℕ). 16384 ≤ length x) (sym i.3) i.2 in
-    T.act_length (λ x. M.ack_marks x a.off) (A.ack_length a.off) a.s [] l.marks k.new.marks c.count_of-n.result l.i (omega arith) i.1 r k.ensures ∙ ap length i.3
-
 pub returns-then-s-i : goal.returns-then-s-i
 returns-then-s-i c =
     let a = c.args in
@@ -46,9 +34,6 @@ loop-i-preserved c =
     let l = c.loop-i in
     let i = l.invariant in
     (i.0, i.1, i.2, i.3, λ bytes. leaving.acked_pass a.s bytes l.marks a.seq a.off c.count_of-n.result l.i (omega arith) i.1 c.if-s-i.false ∙ i.4 bytes)
-
-pub shape_of-marks : goal.shape_of-marks
-shape_of-marks c = ap length c.loop-i.invariant.3
 
 pub returns : goal.returns
 returns c =

@@ -9,9 +9,6 @@ use Rattle.outbox.specs.Outbox.{some}
 use borrow.Author.Rules.{rules}
 use Rattle.outbox.proofs.marks.any.Goals as goal
 
-pub loop-m-init : goal.loop-m-init
-loop-m-init c = refl
-
 pub returns-then-flies : goal.returns-then-flies
 returns-then-flies c =
     let a = c.args in

@@ -8,9 +8,6 @@ use Rattle.outbox.proofs.Said as P
 use borrow.Author.Rules.{rules}
 use Rattle.outbox.proofs.marks.in_flight.Goals as goal
 
-pub loop-m-init : goal.loop-m-init
-loop-m-init c = let a = c.args in (search rules, omega (arith, P.flight_start a.marks.now))
-
 pub loop-m-preserved : goal.loop-m-preserved
 loop-m-preserved c =
     let a = c.args in

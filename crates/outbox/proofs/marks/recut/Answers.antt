@@ -1,15 +1,11 @@
-use mathlib.Core.Path.{refl, ◌∙◌}
+use mathlib.Core.Path.{◌∙◌}
 use Prim.Native.Nat.{◌+◌}
 use native.Mathlib.Omega.{arith}
 use lib.ListN.{get_or, drop, length-set}
 use Rattle.outbox.specs.Marks as M
 use Rattle.outbox.proofs.Walk.{walk_turn, walk_end}
 use Rattle.outbox.proofs.Said as P
-use borrow.Author.Rules.{rules}
 use Rattle.outbox.proofs.marks.recut.Goals as goal
-
-pub loop-i-init : goal.loop-i-init
-loop-i-init c = (refl, search rules, refl)
 
 pub loop-i-preserved : goal.loop-i-preserved
 loop-i-preserved c =

@@ -9,9 +9,6 @@ use borrow.Author.Tests.{ne_eqb}
 use borrow.Author.Rules.{rules}
 use Rattle.outbox.proofs.marks.run.Goals as goal
 
-pub loop-k-init : goal.loop-k-init
-loop-k-init c = omega arith
-
 pub returns-then-marks-k-ne-ON : goal.returns-then-marks-k-ne-ON
 returns-then-marks-k-ne-ON c =
     let a = c.args in

@@ -1,4 +1,4 @@
-use mathlib.Core.Path.{refl, ◌∙◌}
+use mathlib.Core.Path.{◌∙◌}
 use Prim.Native.Nat.{◌+◌}
 use native.Mathlib.Omega.{arith}
 use lib.ListN.{get_or, drop}
@@ -6,9 +6,6 @@ use Rattle.outbox.specs.Marks as M
 use Rattle.outbox.proofs.Walk.{walk_turn, walk_end}
 use Rattle.outbox.proofs.Said as P
 use Rattle.outbox.proofs.marks.stale.Goals as goal
-
-pub loop-m-init : goal.loop-m-init
-loop-m-init c = refl
 
 pub loop-m-preserved : goal.loop-m-preserved
 loop-m-preserved c =

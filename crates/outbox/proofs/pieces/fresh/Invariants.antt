@@ -5,7 +5,7 @@ use Rattle.outbox.proofs.Passes as P
 use Rattle.outbox.proofs.pieces.fresh.Given as goal
 
 abbrev pub invariant-loop-c : goal.invariant-loop-c
-invariant-loop-c l = P.Cutting l.max l.seq l.whole l.initial.out l.initial.at l.initial.left l.cut l.initial.marks l.out l.marks l.at l.left l.c
+invariant-loop-c l = P.Cutting l.max l.seq l.whole l.initial.o l.initial.left l.cut l.initial.marks l.o l.marks l.left l.c
 
 abbrev pub decreases-loop-c : goal.decreases-loop-c
 decreases-loop-c l = length l.whole - l.c

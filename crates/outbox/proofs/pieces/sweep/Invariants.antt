@@ -3,4 +3,4 @@ use Rattle.outbox.proofs.Passes as P
 use Rattle.outbox.proofs.pieces.sweep.Given as goal
 
 abbrev pub invariant-loop-i : goal.invariant-loop-i
-invariant-loop-i l = P.Sweeping l.mark l.seq l.whole l.initial.out l.initial.v.at l.initial.v.left l.initial.marks l.out l.marks l.v.at l.v.left l.i
+invariant-loop-i l = P.Sweeping l.mark l.seq l.whole l.initial.o l.initial.left l.initial.marks l.o l.marks l.left l.i

@@ -2,7 +2,6 @@
 use mathlib.Core.Path.{sym, ap, ◌∙◌}
 use mathlib.Core.List.{List}
 use Prim.Native.Nat.{ℕ}
-use native.Mathlib.Omega.{arith}
 use lib.ListN.{length}
 use Rattle.outbox.specs.declared.sender.Sender.{Sender}
 use Rattle.outbox.specs.Outbox as O
@@ -10,20 +9,6 @@ use Rattle.outbox.specs.Senders as S
 use Rattle.outbox.proofs.Sending as W
 use Rattle.outbox.proofs.Turns as T
 use Rattle.outbox.proofs.sender.post.Goals as goal
-
-pub returns-in_err-check_post-clause-outbox : goal.returns-in_err-check_post-clause-outbox
-returns-in_err-check_post-clause-outbox c =
-    let a = c.args in
-    λ marks. T.kept c.from_residual.result (S.outbox a.s.now a.bytes.now marks) (O.push_msg (S.outbox a.s.now a.bytes.now marks) a.body.now) c.from_residual.ensures.0
-
-pub overflow_mul-s : goal.overflow_mul-s
-overflow_mul-s c = let a = c.args in let o = T.post_open a.s.now (length a.bytes.now) (length a.body.now) (sym c.in_ok-check_post.ensures) in omega arith
-
-pub put_message-requires : goal.put_message-requires
-put_message-requires c = let a = c.args in let o = T.post_open a.s.now (length a.bytes.now) (length a.body.now) (sym c.in_ok-check_post.ensures) in (o.1, omega arith)
-
-pub add-requires : goal.add-requires
-add-requires c = let a = c.args in let o = T.post_open a.s.now (length a.bytes.now) (length a.body.now) (sym c.in_ok-check_post.ensures) in (o.2, o.1)
 
 pub returns : goal.returns
 returns c =

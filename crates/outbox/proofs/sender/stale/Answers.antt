@@ -4,8 +4,8 @@ use Prim.Native.Nat.{ℕ}
 use native.Mathlib.Omega.{arith}
 use lib.ListN.{length}
 use lib.Dec.{ltb}
-use borrow.Author.Tests.{lt-ltb, le-ltb}
-use Rattle.bits.proofs.Lists.{cond_true, cond_false}
+use borrow.Author.Tests.{le-ltb}
+use Rattle.bits.proofs.Lists.{cond_false}
 use Rattle.outbox.specs.Outbox as O
 use Rattle.outbox.specs.Marks as M
 use Rattle.outbox.specs.Senders as S
@@ -15,21 +15,11 @@ use Rattle.outbox.proofs.Turns as T
 use borrow.Author.Rules.{rules}
 use Rattle.outbox.proofs.sender.stale.Goals as goal
 
-pub returns-then-marks-lt-MEMORY : goal.returns-then-marks-lt-MEMORY
-returns-then-marks-lt-MEMORY c = record {
-  refusal = sym (cond_true (ltb (length c.args.marks.now) 16384) 7 0 (lt-ltb _ _ c.if-marks-lt-MEMORY.true));
-  outbox = λ bytes. refl;
-  untouched = refl;
-}
-
 pub loop-i-init : goal.loop-i-init
 loop-i-init c =
     let n = c.count_of-n in
     let a = c.args in
     (n.ensures.0, n.ensures.1, search rules, refl, λ bytes. L.msgs_begin a.s bytes a.marks.now (map O.stale_in) n.result)
-
-pub stale_at-requires : goal.stale_at-requires
-stale_at-requires c = let l = c.loop-i.invariant in (omega arith, omega arith)
 
 pub loop-i-preserved : goal.loop-i-preserved
 loop-i-preserved c =
@@ -43,9 +33,6 @@ loop-i-preserved c =
       T.act_length M.stale_marks A.stale_length a.s [] l.marks t.new.marks c.count_of-n.result l.i (omega arith) i.1 (omega arith) t.ensures ∙ i.3,
       λ bytes. T.stale_turn a.s bytes l.marks t.new.marks c.count_of-n.result l.i (omega arith) i.1 (omega arith) t.ensures ∙ i.4 bytes,
     )
-
-pub shape_of-marks : goal.shape_of-marks
-shape_of-marks c = c.loop-i.invariant.3
 
 pub returns : goal.returns
 returns c =

@@ -10,7 +10,7 @@ use Rattle.outbox.specs.Senders as S
 use Rattle.outbox.proofs.Places as L
 use Rattle.outbox.proofs.Sending as W
 use lib.ListN.{length-map}
-use Rattle.out.proofs.Laws.{wrote_as}
+use Rattle.out.proofs.Laws.{writes_as}
 use Rattle.outbox.specs.Bursts.{sent_words}
 use Rattle.outbox.proofs.Bursting as B
 use Rattle.outbox.proofs.taking.fresh_all.Goals as goal
@@ -27,15 +27,9 @@ loop-i-init c =
       refl,
       refl,
       refl,
-      L.msgs_begin a.s.now a.bytes.now a.marks.now (O.fresh a.max a.w.left) n.result,
-      B.passing_as (B.passing_start (O.fresh_out a.max a.w.left (S.msgs a.s.now a.bytes.now a.marks.now n.result 0)) a.out.now a.w.at a.w.left) (ap (λ (k : ℕ). O.fresh_out a.max a.w.left (S.msgs a.s.now a.bytes.now a.marks.now k 0)) (sym z)),
+      L.msgs_begin a.s.now a.bytes.now a.marks.now (O.fresh a.max a.room) n.result,
+      B.passing_as (B.passing_start (O.fresh_out a.max a.room (S.msgs a.s.now a.bytes.now a.marks.now n.result 0)) a.o.now a.room) (ap (λ (k : ℕ). O.fresh_out a.max a.room (S.msgs a.s.now a.bytes.now a.marks.now k 0)) (sym z)),
     )
-
-pub fresh_at-c-requires : goal.fresh_at-c-requires
-fresh_at-c-requires c = let l = c.loop-i.invariant in let p = c.requires in (omega arith, (p.0, (omega arith, p.1.1)))
-
-pub set_cut-requires : goal.set_cut-requires
-set_cut-requires c = let l = c.loop-i in let i = l.invariant in let f = c.fresh_at-c.ensures.cut.1 in let m = W.total_most l.s l.i in (omega arith, omega arith)
 
 pub loop-i-preserved : goal.loop-i-preserved
 loop-i-preserved c =
@@ -51,8 +45,8 @@ loop-i-preserved c =
     let h : l.i < n = omega arith in
     let h8 : l.i < 8 = omega arith in
     let e = t.ensures in
-    let qs = O.cut_up l.v.left a.max (S.cut_of l.s l.i) (S.total_of l.s l.i) false in
-    let ps = map (O.sent_piece_of (S.message_at l.s l.i).seq (S.part a.bytes.now l.i (S.total_of l.s l.i))) (O.cut_up l.v.left a.max (S.cut_of l.s l.i) (S.total_of l.s l.i) false) in (
+    let qs = O.cut_up l.left a.max (S.cut_of l.s l.i) (S.total_of l.s l.i) false in
+    let ps = map (O.sent_piece_of (S.message_at l.s l.i).seq (S.part a.bytes.now l.i (S.total_of l.s l.i))) (O.cut_up l.left a.max (S.cut_of l.s l.i) (S.total_of l.s l.i) false) in (
       i.0,
       i.1,
       i.2,
@@ -60,17 +54,11 @@ loop-i-preserved c =
       ap (λ (x : Sender). x.count) u.ensures.0 ∙ i.4,
       ap (λ (x : Sender). x.next) u.ensures.0 ∙ i.5,
       ap (λ (x : Sender). S.msgs x a.bytes.now m (l.i + 1) 0 ++ O.fresh a.max t.result.left (S.msgs x a.bytes.now m (n - (l.i + 1)) (l.i + 1))) u.ensures.0
-          ∙ B.fresh_turn l.s a.bytes.now l.marks m l.i t.result.cut qs h8 u.ensures.1 p.0 e.marks e.cut.1 a.max l.v.left t.result.left n h i.1 refl e.cut.0 e.left ∙ i.6,
-      B.passing_turn ps i.7 (B.fresh_rest l.s a.bytes.now l.marks m l.i t.result.cut qs h8 u.ensures.1 p.0 e.marks e.cut.1 a.max l.v.left t.result.left n h i.1 refl e.cut.0 e.left
+          ∙ B.fresh_turn l.s a.bytes.now l.marks m l.i t.result.cut qs h8 u.ensures.1 p.0 e.marks e.cut.1 a.max l.left t.result.left n h i.1 refl e.cut.0 e.left ∙ i.6,
+      B.passing_turn ps i.7 (B.fresh_rest l.s a.bytes.now l.marks m l.i t.result.cut qs h8 u.ensures.1 p.0 e.marks e.cut.1 a.max l.left t.result.left n h i.1 refl e.cut.0 e.left
           ∙ ap (λ (x : Sender). ps ++ O.fresh_out a.max t.result.left (S.msgs x a.bytes.now m (n - (l.i + 1)) (l.i + 1))) (sym u.ensures.0)) e.words
-          (e.left ∙ ap (λ (x : ℕ). l.v.left - x) (sym (length-map (O.cut_up l.v.left a.max (S.cut_of l.s l.i) (S.total_of l.s l.i) false) (O.sent_piece_of (S.message_at l.s l.i).seq (S.part a.bytes.now l.i (S.total_of l.s l.i)))))),
+          (e.left ∙ ap (λ (x : ℕ). l.left - x) (sym (length-map (O.cut_up l.left a.max (S.cut_of l.s l.i) (S.total_of l.s l.i) false) (O.sent_piece_of (S.message_at l.s l.i).seq (S.part a.bytes.now l.i (S.total_of l.s l.i)))))),
     )
-
-pub shape_of-marks : goal.shape_of-marks
-shape_of-marks c = c.loop-i.invariant.3
-
-pub shape_of-out : goal.shape_of-out
-shape_of-out c = c.loop-i.invariant.7.same_out
 
 pub returns : goal.returns
 returns c =
@@ -79,10 +67,10 @@ returns c =
     let i = l.invariant in
     let n = c.count_of-n.result in
     let z : n - l.i ≡ 0 = omega arith in
-    let e = ap (λ (k : ℕ). O.fresh_out a.max l.v.left (S.msgs l.s a.bytes.now l.marks k l.i)) z ∙ ap (O.fresh_out a.max l.v.left) (L.msgs_none l.s a.bytes.now l.marks l.i) ∙ B.fresh_out_nil a.max l.v.left in record {
-      msgs = ap (λ (k : ℕ). S.msgs l.s a.bytes.now l.marks k 0) (sym i.0) ∙ L.msgs_end l.s a.bytes.now l.marks (O.fresh a.max l.v.left) n l.i (omega arith) (B.fresh_nil a.max l.v.left) ∙ i.6
-          ∙ ap (λ (k : ℕ). O.fresh a.max a.w.left (S.msgs a.s.now a.bytes.now a.marks.now k 0)) i.0;
-      words = wrote_as (B.passing_words i.7 e) (ap (λ (k : ℕ). sent_words (O.fresh_out a.max a.w.left (S.msgs a.s.now a.bytes.now a.marks.now k 0))) i.0);
-      left = B.passing_left i.7 e ∙ ap (λ (k : ℕ). a.w.left - length (O.fresh_out a.max a.w.left (S.msgs a.s.now a.bytes.now a.marks.now k 0))) i.0;
+    let e = ap (λ (k : ℕ). O.fresh_out a.max l.left (S.msgs l.s a.bytes.now l.marks k l.i)) z ∙ ap (O.fresh_out a.max l.left) (L.msgs_none l.s a.bytes.now l.marks l.i) ∙ B.fresh_out_nil a.max l.left in record {
+      msgs = ap (λ (k : ℕ). S.msgs l.s a.bytes.now l.marks k 0) (sym i.0) ∙ L.msgs_end l.s a.bytes.now l.marks (O.fresh a.max l.left) n l.i (omega arith) (B.fresh_nil a.max l.left) ∙ i.6
+          ∙ ap (λ (k : ℕ). O.fresh a.max a.room (S.msgs a.s.now a.bytes.now a.marks.now k 0)) i.0;
+      words = writes_as (B.passing_words i.7 e) (ap (λ (k : ℕ). sent_words (O.fresh_out a.max a.room (S.msgs a.s.now a.bytes.now a.marks.now k 0))) i.0);
+      left = B.passing_left i.7 e ∙ ap (λ (k : ℕ). a.room - length (O.fresh_out a.max a.room (S.msgs a.s.now a.bytes.now a.marks.now k 0))) i.0;
       numbers = (i.4, i.5);
     }

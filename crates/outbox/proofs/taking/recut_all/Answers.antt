@@ -14,9 +14,6 @@ loop-i-init c =
     let a = c.args in
     (n.ensures.0, n.ensures.1, c.requires.0, refl, λ bytes. L.msgs_begin a.s bytes a.marks.now (map (O.recut_in a.max)) n.result)
 
-pub recut_at-requires : goal.recut_at-requires
-recut_at-requires c = let l = c.loop-i.invariant in (omega arith, (omega arith, c.requires.1))
-
 pub loop-i-preserved : goal.loop-i-preserved
 loop-i-preserved c =
     let a = c.args in
@@ -29,9 +26,6 @@ loop-i-preserved c =
       B.recut_same a.max c.requires.1.0 a.s [] l.marks t.new.marks c.count_of-n.result l.i (omega arith) i.1 (omega arith) t.ensures ∙ i.3,
       λ bytes. B.recut_turn a.max c.requires.1.0 a.s bytes l.marks t.new.marks c.count_of-n.result l.i (omega arith) i.1 (omega arith) t.ensures ∙ i.4 bytes,
     )
-
-pub shape_of-marks : goal.shape_of-marks
-shape_of-marks c = c.loop-i.invariant.3
 
 pub returns : goal.returns
 returns c =

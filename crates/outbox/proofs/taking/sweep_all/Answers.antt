@@ -8,7 +8,7 @@ use Rattle.outbox.specs.Outbox as O
 use Rattle.outbox.specs.Senders as S
 use Rattle.outbox.proofs.Places as L
 use lib.ListN.{length-map}
-use Rattle.out.proofs.Laws.{wrote_as}
+use Rattle.out.proofs.Laws.{writes_as}
 use Rattle.outbox.specs.Bursts.{sent_words, pass_pieces}
 use Rattle.outbox.proofs.Bursting as B
 use Rattle.outbox.proofs.taking.sweep_all.Goals as goal
@@ -23,12 +23,9 @@ loop-i-init c =
       n.ensures.1,
       p.1.0,
       refl,
-      L.msgs_begin a.s a.bytes.now a.marks.now (O.sweep (eqb a.mark 2) a.w.left) n.result,
-      B.passing_as (B.passing_start (O.sweep_out (eqb a.mark 2) a.w.left (S.msgs a.s a.bytes.now a.marks.now n.result 0)) a.out.now a.w.at a.w.left) (ap (λ (k : ℕ). O.sweep_out (eqb a.mark 2) a.w.left (S.msgs a.s a.bytes.now a.marks.now k 0)) (sym z)),
+      L.msgs_begin a.s a.bytes.now a.marks.now (O.sweep (eqb a.mark 2) a.room) n.result,
+      B.passing_as (B.passing_start (O.sweep_out (eqb a.mark 2) a.room (S.msgs a.s a.bytes.now a.marks.now n.result 0)) a.o.now a.room) (ap (λ (k : ℕ). O.sweep_out (eqb a.mark 2) a.room (S.msgs a.s a.bytes.now a.marks.now k 0)) (sym z)),
     )
-
-pub sweep_at-v-requires : goal.sweep_at-v-requires
-sweep_at-v-requires c = let l = c.loop-i.invariant in let p = c.requires in (omega arith, (p.0, (omega arith, p.1.1)))
 
 pub loop-i-preserved : goal.loop-i-preserved
 loop-i-preserved c =
@@ -36,26 +33,20 @@ loop-i-preserved c =
     let p = c.requires in
     let l = c.loop-i in
     let i = l.invariant in
-    let t = c.sweep_at-v in
+    let t = c.sweep_at-left in
     let n = c.count_of-n.result in
     let m = t.new.marks in
     let h : l.i < n = omega arith in
     let r : 16384 ≤ length l.marks = omega arith in
-    let ps = map (O.sent_piece_of (S.message_at a.s l.i).seq (S.part a.bytes.now l.i (S.total_of a.s l.i))) (pass_pieces a.mark l.v.left (S.part l.marks l.i (S.cut_of a.s l.i))) in (
+    let ps = map (O.sent_piece_of (S.message_at a.s l.i).seq (S.part a.bytes.now l.i (S.total_of a.s l.i))) (pass_pieces a.mark l.left (S.part l.marks l.i (S.cut_of a.s l.i))) in (
       i.0,
       i.1,
       i.2,
-      B.sweep_same a.mark p.1.1 a.s [] l.marks m n l.i l.v.left t.result.left h i.1 r t.ensures.left t.ensures.marks ∙ i.3,
-      B.sweep_turn a.mark p.1.1 a.s a.bytes.now l.marks m n l.i l.v.left t.result.left h i.1 r t.ensures.left t.ensures.marks ∙ i.4,
-      B.passing_turn ps i.5 (B.sweep_rest a.mark p.1.1 a.s a.bytes.now l.marks m n l.i l.v.left t.result.left h i.1 r t.ensures.left t.ensures.marks) t.ensures.words
-          (t.ensures.left ∙ ap (λ (x : ℕ). l.v.left - x) (sym (length-map (pass_pieces a.mark l.v.left (S.part l.marks l.i (S.cut_of a.s l.i))) (O.sent_piece_of (S.message_at a.s l.i).seq (S.part a.bytes.now l.i (S.total_of a.s l.i)))))),
+      B.sweep_same a.mark p.1.1 a.s [] l.marks m n l.i l.left t.result h i.1 r t.ensures.left t.ensures.marks ∙ i.3,
+      B.sweep_turn a.mark p.1.1 a.s a.bytes.now l.marks m n l.i l.left t.result h i.1 r t.ensures.left t.ensures.marks ∙ i.4,
+      B.passing_turn ps i.5 (B.sweep_rest a.mark p.1.1 a.s a.bytes.now l.marks m n l.i l.left t.result h i.1 r t.ensures.left t.ensures.marks) t.ensures.words
+          (t.ensures.left ∙ ap (λ (x : ℕ). l.left - x) (sym (length-map (pass_pieces a.mark l.left (S.part l.marks l.i (S.cut_of a.s l.i))) (O.sent_piece_of (S.message_at a.s l.i).seq (S.part a.bytes.now l.i (S.total_of a.s l.i)))))),
     )
-
-pub shape_of-marks : goal.shape_of-marks
-shape_of-marks c = c.loop-i.invariant.3
-
-pub shape_of-out : goal.shape_of-out
-shape_of-out c = c.loop-i.invariant.5.same_out
 
 pub returns : goal.returns
 returns c =
@@ -64,9 +55,9 @@ returns c =
     let i = l.invariant in
     let n = c.count_of-n.result in
     let z : n - l.i ≡ 0 = omega arith in
-    let e = ap (λ (k : ℕ). O.sweep_out (eqb a.mark 2) l.v.left (S.msgs a.s a.bytes.now l.marks k l.i)) z ∙ ap (O.sweep_out (eqb a.mark 2) l.v.left) (L.msgs_none a.s a.bytes.now l.marks l.i) ∙ B.out_nil (eqb a.mark 2) l.v.left in record {
-      msgs = ap (λ (k : ℕ). S.msgs a.s a.bytes.now l.marks k 0) (sym i.0) ∙ L.msgs_end a.s a.bytes.now l.marks (O.sweep (eqb a.mark 2) l.v.left) n l.i (omega arith) (B.sweep_nil (eqb a.mark 2) l.v.left) ∙ i.4
-          ∙ ap (λ (k : ℕ). O.sweep (eqb a.mark 2) a.w.left (S.msgs a.s a.bytes.now a.marks.now k 0)) i.0;
-      words = wrote_as (B.passing_words i.5 e) (ap (λ (k : ℕ). sent_words (O.sweep_out (eqb a.mark 2) a.w.left (S.msgs a.s a.bytes.now a.marks.now k 0))) i.0);
-      left = B.passing_left i.5 e ∙ ap (λ (k : ℕ). a.w.left - length (O.sweep_out (eqb a.mark 2) a.w.left (S.msgs a.s a.bytes.now a.marks.now k 0))) i.0;
+    let e = ap (λ (k : ℕ). O.sweep_out (eqb a.mark 2) l.left (S.msgs a.s a.bytes.now l.marks k l.i)) z ∙ ap (O.sweep_out (eqb a.mark 2) l.left) (L.msgs_none a.s a.bytes.now l.marks l.i) ∙ B.out_nil (eqb a.mark 2) l.left in record {
+      msgs = ap (λ (k : ℕ). S.msgs a.s a.bytes.now l.marks k 0) (sym i.0) ∙ L.msgs_end a.s a.bytes.now l.marks (O.sweep (eqb a.mark 2) l.left) n l.i (omega arith) (B.sweep_nil (eqb a.mark 2) l.left) ∙ i.4
+          ∙ ap (λ (k : ℕ). O.sweep (eqb a.mark 2) a.room (S.msgs a.s a.bytes.now a.marks.now k 0)) i.0;
+      words = writes_as (B.passing_words i.5 e) (ap (λ (k : ℕ). sent_words (O.sweep_out (eqb a.mark 2) a.room (S.msgs a.s a.bytes.now a.marks.now k 0))) i.0);
+      left = B.passing_left i.5 e ∙ ap (λ (k : ℕ). a.room - length (O.sweep_out (eqb a.mark 2) a.room (S.msgs a.s a.bytes.now a.marks.now k 0))) i.0;
     }

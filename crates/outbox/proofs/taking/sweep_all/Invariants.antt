@@ -10,4 +10,4 @@ use Rattle.outbox.proofs.Bursting as B
 use Rattle.outbox.proofs.taking.sweep_all.Given as goal
 
 abbrev pub invariant-loop-i : goal.invariant-loop-i
-invariant-loop-i l = (l.n ≡ S.count_of l.s) × (l.n ≤ 8) × (16384 ≤ length l.initial.marks) × (length l.marks ≡ length l.initial.marks) × (S.msgs l.s l.bytes l.marks l.i 0 ++ O.sweep (eqb l.mark 2) l.v.left (S.msgs l.s l.bytes l.marks (l.n - l.i) l.i) ≡ O.sweep (eqb l.mark 2) l.initial.v.left (S.msgs l.s l.bytes l.initial.marks l.n 0)) × B.Passing (O.sweep_out (eqb l.mark 2) l.initial.v.left (S.msgs l.s l.bytes l.initial.marks l.n 0)) l.initial.out l.initial.v.at l.initial.v.left l.out l.v.at l.v.left (O.sweep_out (eqb l.mark 2) l.v.left (S.msgs l.s l.bytes l.marks (l.n - l.i) l.i))
+invariant-loop-i l = (l.n ≡ S.count_of l.s) × (l.n ≤ 8) × (16384 ≤ length l.initial.marks) × (length l.marks ≡ length l.initial.marks) × (S.msgs l.s l.bytes l.marks l.i 0 ++ O.sweep (eqb l.mark 2) l.left (S.msgs l.s l.bytes l.marks (l.n - l.i) l.i) ≡ O.sweep (eqb l.mark 2) l.initial.left (S.msgs l.s l.bytes l.initial.marks l.n 0)) × B.Passing (O.sweep_out (eqb l.mark 2) l.initial.left (S.msgs l.s l.bytes l.initial.marks l.n 0)) l.initial.o l.initial.left l.o l.left (O.sweep_out (eqb l.mark 2) l.left (S.msgs l.s l.bytes l.marks (l.n - l.i) l.i))

@@ -1,11 +1,8 @@
 -- Assumes nothing.
 use Rattle.bits.proofs.Loops.{fold_turn, fold_end}
-use mathlib.Core.Path.{refl, sym, ◌∙◌, ap}
+use mathlib.Core.Path.{sym, ◌∙◌, ap}
 use Rattle.roster.specs.Relays.{picked_slot, best_step}
 use Rattle.roster.proofs.relay.best.Goals as goal
-
-pub loop-i-init : goal.loop-i-init
-loop-i-init g c = refl
 
 pub loop-i-preserved : goal.loop-i-preserved
 loop-i-preserved g c =

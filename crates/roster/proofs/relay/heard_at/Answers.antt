@@ -13,4 +13,4 @@ returns-then-a-ge62 c = rw (lt-ltb _ _ c.if-r-ge62.false, le-ltb _ _ c.if-a-ge62
 
 pub returns : goal.returns
 unfolding heard_at
-returns c = rw (lt-ltb _ _ c.if-r-ge62.false, lt-ltb _ _ c.if-a-ge62.false)
+returns c = rw (lt-ltb _ _ c.if-r-ge62.false, lt-ltb _ _ c.if-a-ge62.false, c.from.ensures, c.from-2.ensures)

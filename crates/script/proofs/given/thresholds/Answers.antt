@@ -1,6 +1,6 @@
 use Rattle.std.proofs.Common.{refl, ◌∙◌, arith}
 use Rattle.std.proofs.Math.ListN.{length-set}
-use Rattle.script.proofs.Numbers.{read_next, read_all}
+use Rattle.script.proofs.Numbers.{read_next}
 use Rattle.script.specs.Settings.{f32s_at}
 use Rattle.script.proofs.given.thresholds.Goals as goal
 
@@ -16,6 +16,3 @@ loop-i-preserved c =
       length-set t i c.at.result ∙ c.loop-i.invariant.0,
       read_next p 88 i t c.at.result (omega arith) c.at.ensures c.loop-i.invariant.1,
     )
-
-pub returns : goal.returns
-returns c = read_all c.args.p.now 88 17 c.loop-i.i c.loop-i.t (omega arith) (omega arith) c.loop-i.invariant.0 c.loop-i.invariant.1

@@ -9,4 +9,4 @@ returns-then-at-gt251 c = u32_none c.args.p.now c.args.at c.if-at-gt251.true
 pub returns : goal.returns
 returns c =
     let a = c.args in
-    omega (arith, u32_some a.p.now a.at c.if-at-gt251.false, c.wide-4.ensures.0, c.wide-3.ensures.0, c.wide-2.ensures.0, c.wide.ensures.0)
+    omega (arith, u32_some a.p.now a.at c.if-at-gt251.false, c.from_le_bytes.ensures)

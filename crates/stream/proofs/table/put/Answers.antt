@@ -6,4 +6,4 @@ pub returns : goal.returns
 returns c =
     let j = c.join_in-after in
     let p = c.requires in
-    put_is _ _ _ _ _ p.c_bound.1 p.piece_len_bound.0 p.piece_len_bound.1 _ _ _ j.ensures.cell j.ensures.bytes c.landed_at-landed.ensures
+    put_is _ _ _ _ _ p.c_bound.1 c.args.piece.in_frame p.end_bound _ _ _ j.ensures.cell j.ensures.bytes c.landed_at-landed.ensures

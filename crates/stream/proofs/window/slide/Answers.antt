@@ -1,11 +1,8 @@
-use mathlib.Core.Path.{refl, sym, ◌∙◌}
+use mathlib.Core.Path.{sym, ◌∙◌}
 use native.Mathlib.Omega.{arith}
 use borrow.Author.Tests.{eq-eqb, ne_eqb}
 use Rattle.stream.proofs.Marks.{mark_lowest, slide_turn, slide_stop, slide_end}
 use Rattle.stream.proofs.window.slide.Goals as goal
-
-pub loop-init : goal.loop-init
-loop-init c = refl
 
 pub returns-then-not-on : goal.returns-then-not-on
 returns-then-not-on c =

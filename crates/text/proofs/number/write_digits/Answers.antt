@@ -1,10 +1,10 @@
 use native.Mathlib.Omega.{arith}
 use mathlib.Core.Path.{◌≡◌, refl, sym, ap, subst, ◌∙◌}
-use mathlib.Core.List.{List, [], ◌∷◌, ◌++◌, append-nil}
+use mathlib.Core.List.{List, [], ◌∷◌, ◌++◌}
 use Prim.Native.Nat.{ℕ, zero, suc, ◌-◌, ◌/◌, ◌%◌, ◌≤◌, ◌<◌}
 use lib.ListN.{length, take, drop, set, length-set}
-use lib.Seq.{slice, slice_empty, length-take-le, take-set-lt, drop-set-lt, append_snoc}
-use native.Mathlib.Nat.{le_refl, le_of_suc-le-suc, not-suc-le-zero}
+use lib.Seq.{slice, length-take-le, take-set-lt, drop-set-lt, append_snoc}
+use native.Mathlib.Nat.{le_of_suc-le-suc, not-suc-le-zero}
 use native.Mathlib.Numerals.{sub-one}
 use Rattle.text.specs.Digits.{digit_code, last_digits}
 use Rattle.text.proofs.number.write_digits.Goals as goal
@@ -28,12 +28,6 @@ digits_step b (suc j) k rest g out some h room e =
     ∙ ap (λ (l : List ℕ). todo ++ l) (drop_set (take k out) j g within)
     ∙ ap (λ (x : ℕ). todo ++ x ∷ done) e
     ∙ sym (append_snoc todo (digit_code (rest % b)) done)
-
-pub loop-i-init : goal.loop-i-init
-loop-i-init c =
-    let a = c.args in
-    let all = last_digits a.base a.k a.n in
-    (refl, le_refl a.k, ap (λ (l : List ℕ). all ++ l) (slice_empty a.k a.out.now) ∙ append-nil all, refl)
 
 pub loop-i-preserved : goal.loop-i-preserved
 loop-i-preserved c =

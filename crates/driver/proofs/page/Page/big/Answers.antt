@@ -2,4 +2,4 @@ use Rattle.driver.proofs.Lines.{wrote_on}
 use Rattle.driver.proofs.page.Page.big.Goals as goal
 
 pub returns : goal.returns
-returns c = wrote_on _ c.put_big-self.ensures
+returns c = wrote_on _ c.big.ensures

@@ -11,7 +11,7 @@ pub loop-x-preserved : goal.loop-x-preserved
 loop-x-preserved c =
     let m = c.args.m.now in
     let i = c.loop-x.x-index in
-    ap (λ (q : Page). written q (byte_pairs (drop (i + 1) m))) c.big.ensures
+    ap (λ (q : Page). written q (byte_pairs (drop (i + 1) m))) (rw c.from.ensures at c.big.ensures)
     ∙ sym (pairs_turn _ m i (omega arith))
     ∙ c.loop-x.invariant
 

@@ -1,8 +1,0 @@
--- Assumes nothing.
-use Rattle.frames.proofs.control.noted_if.Goals as goal
-
-pub returns-then-yes : goal.returns-then-yes
-returns-then-yes c = rw c.if-yes.true c.noted.ensures
-
-pub returns : goal.returns
-returns c = rw c.if-yes.false

@@ -1,9 +1,0 @@
--- Assumes nothing.
-use Rattle.roster.proofs.relay.is_source.Goals as goal
-
-pub returns-then-not-has : goal.returns-then-not-has
-returns-then-not-has c = rw (← c.has.ensures, c.if-not-has.true)
-
-pub returns : goal.returns
-returns c =
-    rw (← c.has.ensures, c.if-not-has.false, c.relayer_for.ensures)

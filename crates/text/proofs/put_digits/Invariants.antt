@@ -1,8 +1,0 @@
--- The invariant: the last k digits are still to be written.
-
-use Rattle.text.specs.Digits.{digits_of}
-use Rattle.out.proofs.Laws.{Still}
-use Rattle.text.proofs.put_digits.Given as goal
-
-abbrev pub invariant-loop-k : goal.invariant-loop-k
-invariant-loop-k l = Still l.initial.t l.at (digits_of l.small l.v l.digits) l.t l.e (digits_of l.small l.v l.k)

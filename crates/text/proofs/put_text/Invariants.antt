@@ -1,7 +1,0 @@
--- The invariant: the bytes of s from the next on are still to be written.
-use lib.ListN.{drop}
-use Rattle.out.proofs.Laws.{Still}
-use Rattle.text.proofs.put_text.Given as goal
-
-abbrev pub invariant-loop-b : goal.invariant-loop-b
-invariant-loop-b l = Still l.initial.t l.at l.s l.t l.e (drop l.b-index l.s)
