@@ -20,7 +20,7 @@ fn ack_row<const N: usize>(rows: &mut ArrayVec<u8, N>, m: Member, i: u8)
     ensures { rows.new.items ≡ rows.old.items ++ i ∷ pack_call m.call }
 {
     rows.push(i);
-    for b in wire::calls::pack_call(m.call) {
+    for &b in &wire::calls::pack_call(m.call) {
         rows.push(b);
     }
 }

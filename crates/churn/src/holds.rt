@@ -64,8 +64,10 @@ fn is_blank(m: Member) -> bool {
         && no_links(m)
         && no_messages(m)
         && m.via == 63
-        && m.caps.is_none()
-        && m.version.is_none()
+        && !m.hascaps
+        && m.caps == 0
+        && !m.hasversion
+        && m.version == 0
         && m.burst == 0
         && m.missed == 0
         && m.tried == 0

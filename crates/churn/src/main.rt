@@ -15,8 +15,7 @@ use std::io::Write;
 use tell::Tally;
 
 // The calls of the day, one after the other.
-fn day(port: &mut Port) -> Result<Tally, AllocError> {
-    let mut tally = Tally::default();
+fn day(port: &mut Port, tally: &mut Tally) -> Result<(), AllocError> {
     let mut chance = Chance(20261116);
     for i in 0..20000 {
         let drawn = chance.draw();
@@ -25,14 +24,16 @@ fn day(port: &mut Port) -> Result<Tally, AllocError> {
         tally.hold(port.station.used);
         tally.judge(i, holds::check(port.station, act::freed(drawn, answer)));
     }
-    Ok(tally)
+    Ok(())
 }
 
+// Where memory runs out, what was gathered by then is written all the same.
 fn main(rt: HostRuntime) -> Result<(), AllocError> {
     let mut port = Port::new(rt.alloc())?;
-    let tally = day(&mut port)?;
-    let text = format!(in rt.alloc(); "{tally}")?;
+    let mut tally = Tally::default();
+    let ended = day(&mut port, &mut tally);
     // What cannot be written is dropped.
+    let text = format!(in rt.alloc(); "{tally}")?;
     let _ = rt.stdout().write_all(text.as_bytes());
-    Ok(())
+    ended
 }

@@ -82,8 +82,8 @@ fn put_member(page: &mut Page, m: &Member, i: usize) {
     field(page, u64::from(m.up.next), 8);
     field(page, u64::from(window::bitmap(m.up)), 2);
     field(page, u64::from(m.burst), 2);
-    known(page, m.caps.map(u64::from), 2);
-    known(page, m.version.map(u64::from), 2);
+    known(page, m.hascaps.then_some(u64::from(m.caps)), 2);
+    known(page, m.hasversion.then_some(u64::from(m.version)), 2);
 }
 
 // The total posted, the first byte kept, the number reported.

@@ -1,8 +1,11 @@
 // What the programs `tape` (document 01, Words), `drive` and `panel` share: words in, the station's entry points, lines out.
 #![tactic(auto)]
 
-ghost use Rattle.std.specs.Prelude.{◌≡◌};
-ghost use Rattle.script.specs.Actions.{closed};
+ghost use Rattle.std.specs.Prelude.{◌≡◌, []};
+ghost use Rattle.script.specs.Actions.{closed, opened, rest_of};
+ghost use Rattle.station.specs.Entries.{answered, close_of};
+ghost use Rattle.driver.specs.Commands.{settled_by};
+ghost use Rattle.driver.specs.Kept.{kept};
 ghost use Rattle.driver.specs.Lines.{answer_lines, heard_by, lines_on};
 
 use memory::{Memory, Words};
@@ -85,36 +88,53 @@ impl Session {
         u
     }
 
-    // The closing, and the filling of a queue, which run seldom.
+    // The closing, which changes the round alone: no station is copied back.
+    fn close(&mut self, u: &mut Station, w: u32)
+        ensures { u.new ≡ (answered (close_of u.old (rest_of w)) 0).station }
+    {
+        let r = station::close(*u, action::rest_of(w));
+        u.round = r.station.round;
+        self.page.answer(&self.memory.out, r.answer);
+    }
+
+    // The filling of a queue, which runs seldom.
     #[inline(never)]
-    fn seldom(&mut self, u: &mut Station, a: Action, w: u32) {
-        let r = if a == Action::Close {
-            station::close(*u, action::rest_of(w))
-        } else {
-            command::fill(u, w, &mut self.memory.queue)
-        };
+    fn fill(&mut self, u: &mut Station, w: u32) {
+        let r = command::fill(u, w, &mut self.memory.queue);
         *u = r.station;
         self.page.answer(&self.memory.out, r.answer);
+    }
+
+    // What only shows something of the station.
+    fn shown(&mut self, u: &Station, a: Action, w: u32) {
+        match a {
+            Action::Read => command::read(u, self.control, w, &self.memory.store, &mut self.page),
+            Action::Ask => panel::asked(u, w, self.control.now, &mut self.page),
+            _ => dump::roster(u, &mut self.page),
+        }
     }
 
     // What leaves the station as it is, and what runs seldom.
     fn aside(&mut self, u: &mut Station, a: Action, w: u32) {
         match a {
+            _ if action::is_shown(a) => self.shown(u, a, w),
             Action::Push => self.memory.words.push(w),
-            Action::Open(command) => {
-                self.memory.words.clear();
-                self.control = action::opened(self.control, command);
-            }
+            Action::Open(command) => self.open(command),
             Action::Time => self.control = action::timed(self.control, w),
             Action::Level => self.control = action::leveled(self.control, w),
-            Action::Read => {
-                command::read(u, self.control, w, &self.memory.store, &mut self.page)
-            }
-            Action::Roster => dump::roster(u, &mut self.page),
-            Action::Ask => panel::asked(u, w, self.control.now, &mut self.page),
-            Action::Close | Action::Fill => self.seldom(u, a, w),
+            Action::Close => self.close(u, w),
+            Action::Fill => self.fill(u, w),
             _ => self.page.word(3),
         }
+    }
+
+    // A command whose words follow: none of them is kept yet.
+    fn open(&mut self, command: Command)
+        ensures control { self.new.control ≡ opened self.old.control command }
+        ensures words { kept self.new.memory.words ≡ [] }
+    {
+        self.memory.words.clear();
+        self.control = action::opened(self.control, command);
     }
 
     fn received(&mut self, mask: u64, a: Result<usize, Refusal>)
@@ -163,8 +183,17 @@ impl Session {
             command::start(u, m)
         };
         *u = r.station;
-        self.page.answer(&m.out, r.answer);
-        self.control = command::settled(self.control, m.words.as_slice(), r.answer);
+        self.settled(r.answer);
+    }
+
+    // What an admission or a start answers.
+    fn settled(&mut self, a: Result<usize, Refusal>)
+        ensures page { self.new.page ≡ lines_on self.old.page (answer_lines self.old.memory.out a) }
+        ensures control { self.new.control ≡ closed (settled_by self.old.control (kept self.old.memory.words) a) }
+    {
+        let m = &self.memory;
+        self.page.answer(&m.out, a);
+        self.control = command::settled(self.control, m.words.as_slice(), a);
     }
 
     // Standard input to its end, at most 2^64 - 1 parts of 65,536 bytes. A last word that was cut short is malformed.

@@ -86,8 +86,8 @@ fn put_boat(page: &mut Page, e: &Entry, now: f64) -> fmt::Result {
     write!(page, ", level cap {}", e.cap)?;
     put_clock(page, e.lastheard, now)?;
     write!(page, ", missed {}, bytes in {}", e.missed, e.bytesin)?;
-    put_known(page, "capability", e.caps)?;
-    put_known(page, "version", e.version)
+    put_known(page, "capability", e.hascaps.then_some(e.caps))?;
+    put_known(page, "version", e.hasversion.then_some(e.version))
 }
 
 // The boat in a slot.

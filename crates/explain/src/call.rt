@@ -1,4 +1,5 @@
 // A call, and a character of one.
+use super::parts::write_ascii;
 use std::fmt;
 
 // Seven characters, padded right with blanks.
@@ -18,20 +19,16 @@ impl Call {
 // Its blanks at the end left out.
 impl fmt::Display for Call {
     fn fmt<W: fmt::Write>(&self, f: &mut fmt::Formatter<W>) -> fmt::Result {
-        for b in &self.0 {
-            if *b == b' ' {
-                return Ok(());
-            }
-            f.write_char(visible(*b))?;
-        }
-        Ok(())
+        let shown = self.0.map(visible);
+        let end = self.0.iter().position(|b| *b == b' ').unwrap_or(7);
+        write_ascii(f, &shown[..end])
     }
 }
 
 // A character, a dot for one that no line can show.
-pub fn visible(b: u8) -> char {
+pub fn visible(b: u8) -> u8 {
     match b {
-        b' '..=b'~' => char::from(b),
-        _ => '.',
+        b' '..=b'~' => b,
+        _ => b'.',
     }
 }

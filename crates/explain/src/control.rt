@@ -127,7 +127,7 @@ impl Control<'_> {
         let call = Call::unpack([*a, *b, *c, *d, *e]);
         write!(f, "beacon of \"{call}\", net ")?;
         for character in name {
-            f.write_char(visible(*character))?;
+            f.write_char(char::from(visible(*character)))?;
         }
         let open = if *open == 0 { "closed" } else { "open" };
         write!(f, ", {open}, check-in slots {slots}")?;

@@ -15,36 +15,58 @@ mod roster;
 mod word;
 
 use lines::Explainer;
-use std::alloc::Global;
-use std::io::{self, BufRead, BufReader, BufWriter, Write};
+use std::alloc::{AllocError, Global};
+use std::io::{self, BufRead, BufReader, Write};
 
-// The whole input, line by line; what can't be written is dropped. A last line needs no line end: without one nothing is said of a frame that it leaves open.
-fn explain_all(alloc: Global, from: &mut impl BufRead, to: &mut impl Write) -> io::Result<()> {
+// A line is read in parts of so many bytes, more than a word's.
+const PART: usize = 8192;
+
+// So many bytes are gathered, and what a part adds.
+const ENOUGH: usize = 57344;
+
+// Writes what is gathered; what can't be written is dropped.
+fn flush(said: &mut Vec<u8>, to: &mut impl Write) {
+    let _ = to.write_all(said);
+    said.clear();
+}
+
+// The whole input, part by part. A last line needs no line end: without one nothing is said of a frame that it leaves open.
+fn explain_all(
+    alloc: Global,
+    from: &mut impl BufRead,
+    to: &mut impl Write,
+    said: &mut Vec<u8>,
+) -> Result<(), AllocError> {
     let mut explainer = Explainer::new(alloc);
-    let mut line = Vec::new(alloc);
-    let mut said = Vec::new(alloc);
+    let mut part = Vec::new(alloc);
     for _ in 0..u64::MAX {
-        said.clear();
-        if !text::read_line(from, &mut line)? {
-            explainer.cut(&mut said)?;
-            let _ = to.write_all(&said);
+        if !text::read_part(from, &mut part, PART)? {
+            return explainer.end(said);
+        }
+        let whole = part.strip_suffix(b"\n");
+        let is_last = whole.is_none() && part.len() < PART;
+        explainer.part(whole.unwrap_or(&part), said)?;
+        if whole.is_some() || is_last {
+            explainer.line_end(said)?;
+        }
+        if is_last {
             break;
         }
-        let whole = line.strip_suffix(b"\n");
-        explainer.line(whole.unwrap_or(&line), &mut said)?;
-        let _ = to.write_all(&said);
-        if whole.is_none() {
-            break;
+        if ENOUGH <= said.len() {
+            flush(said, to);
         }
     }
     Ok(())
 }
 
+// Where memory runs short, what was gathered is written before that is answered.
 fn main(rt: HostRuntime) -> io::Result<()> {
     let alloc = rt.alloc();
     let mut from = BufReader::new(alloc, rt.reader())?;
-    let mut to = BufWriter::new(alloc, io::writer(&rt))?;
-    explain_all(alloc, &mut from, &mut to)?;
-    let _ = to.flush();
+    let mut to = rt.stdout();
+    let mut said = Vec::new(alloc);
+    let explained = explain_all(alloc, &mut from, &mut to, &mut said);
+    flush(&mut said, &mut to);
+    explained?;
     Ok(())
 }

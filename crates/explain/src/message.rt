@@ -1,38 +1,59 @@
 // A line `R ` and a message's bytes in hexadecimal digits: the bytes as text, one that no line can show as a backslash and its digits.
-use std::io::{self, Write};
+use std::alloc::AllocError;
 
-// A byte, its digits behind a backslash where it is no character, or is one that would be taken for an end.
-fn byte(b: u8, said: &mut Vec<u8>) -> io::Result<()> {
+// A byte from its digits, which stand behind a backslash where it is no character, or is one that would be taken for an end.
+fn pair(high: u8, low: u8, said: &mut Vec<u8>) -> Result<(), AllocError> {
+    let b = (text::hex_value(&[high, low]).unwrap_or(0) % 256) as u8;
     match b {
-        b'"' | b'\\' => write!(said, "\\{b:02X}"),
-        b' '..=b'~' => said.push(b).map_err(io::Error::from),
-        _ => write!(said, "\\{b:02X}"),
-    }
-}
-
-// Two digits are a byte; one that is left over stands for itself.
-fn pair(digits: &[u8], said: &mut Vec<u8>) -> io::Result<()> {
-    match digits {
-        [digit] => said.push(digit.to_ascii_uppercase())?,
-        _ => byte((text::hex_value(digits).unwrap_or(0) % 256) as u8, said)?,
+        b' '..=b'~' if b != b'"' && b != b'\\' => said.push(b)?,
+        _ => said.extend_from_slice(&[b'\\', high.to_ascii_uppercase(), low.to_ascii_uppercase()])?,
     }
     Ok(())
 }
 
-// What stands behind the blank. A message may have no byte; what is no digit ends it, and passes; a line where it would stand first is no message.
-pub fn explain(line: &[u8], said: &mut Vec<u8>) -> io::Result<()> {
-    let end = line.iter().position(|b| !b.is_ascii_hexdigit());
-    if end == Some(0) {
-        said.extend_from_slice(b"R ")?;
-        said.extend_from_slice(line)?;
-        return Ok(());
+// A message that is being read: the first digit of a byte whose second is still to come.
+#[derive(Clone, Copy)]
+pub struct Message {
+    first: Option<u8>,
+}
+
+impl Message {
+    // A message may have no byte; a line where what is no digit stands behind the blank is no message.
+    pub fn begins(behind: &[u8]) -> bool {
+        behind.first().is_none_or(|b| b.is_ascii_hexdigit())
     }
-    let (digits, rest) = line.split_at(end.unwrap_or(line.len()));
-    said.extend_from_slice(b"message: \"")?;
-    for two in digits.chunks(2) {
-        pair(two, said)?;
+
+    pub fn begin(said: &mut Vec<u8>) -> Result<Message, AllocError> {
+        said.extend_from_slice(b"message: \"")?;
+        Ok(Message { first: None })
     }
-    said.push(b'"')?;
-    said.extend_from_slice(rest)?;
-    Ok(())
+
+    fn digit(&mut self, digit: u8, said: &mut Vec<u8>) -> Result<(), AllocError> {
+        match self.first.take() {
+            Some(first) => pair(first, digit, said),
+            None => {
+                self.first = Some(digit);
+                Ok(())
+            }
+        }
+    }
+
+    // The digits that a part begins with. Answers what stands behind them: what is no digit ends the message, and passes.
+    pub fn part<'a>(&mut self, part: &'a [u8], said: &mut Vec<u8>) -> Result<&'a [u8], AllocError> {
+        let end = part.iter().position(|b| !b.is_ascii_hexdigit());
+        let (digits, rest) = part.split_at(end.unwrap_or(part.len()));
+        for digit in digits {
+            self.digit(*digit, said)?;
+        }
+        Ok(rest)
+    }
+
+    // A digit that is left over stands for itself.
+    pub fn end(self, said: &mut Vec<u8>) -> Result<(), AllocError> {
+        if let Some(digit) = self.first {
+            said.push(digit.to_ascii_uppercase())?;
+        }
+        said.push(b'"')?;
+        Ok(())
+    }
 }

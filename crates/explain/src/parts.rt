@@ -1,5 +1,13 @@
 // Small parts of a line.
-use std::fmt;
+use std::{array, fmt, str};
+
+// ASCII characters at once: a call for each takes longer than all else in a line.
+pub fn write_ascii<W: fmt::Write>(f: &mut fmt::Formatter<W>, text: &[u8]) -> fmt::Result {
+    match str::from_utf8(text) {
+        Ok(text) => f.write_str(text),
+        Err(_) => Err(fmt::Error),
+    }
+}
 
 // A level field: decibels plus 24 in the low six bits, 63 for nothing measured: a code on the air.
 #[derive(Clone, Copy)]
@@ -22,10 +30,8 @@ pub struct Marks(pub u8);
 
 impl fmt::Display for Marks {
     fn fmt<W: fmt::Write>(&self, f: &mut fmt::Formatter<W>) -> fmt::Result {
-        for k in 0..8u32 {
-            f.write_char(if self.0 >> k & 1 == 1 { 'x' } else { '.' })?;
-        }
-        Ok(())
+        let marks: [u8; 8] = array::from_fn(|k| if self.0 >> k & 1 == 1 { b'x' } else { b'.' });
+        write_ascii(f, &marks)
     }
 }
 

@@ -64,9 +64,9 @@ checkin_frame a len p s =
 
 -- ---- C_REPORT
 
--- a leaf's report, through the relay that was polled
+-- a leaf's report, through the relay that was polled; 255 stands for nobody
 abbrev pub forwarded_by : Air → Bool → Member → Bool
-forwarded_by a here m = here && not (eqb m.via 63) && is_slot a.polled m.via
+forwarded_by a here m = here && not (eqb m.via 63) && not (eqb m.via 255) && is_slot a.polled m.via
 
 abbrev pub is_forwarded : Air → Station → ℕ → Bool
 is_forwarded a s slot = forwarded_by a (is_member s.used slot) (member_at s slot)

@@ -20,11 +20,11 @@ use roster::Member;
 
 // ---- report
 
-// A leaf's report, through the relay that was polled.
+// A leaf's report, through the relay that was polled; 255 stands for nobody.
 pub fn is_forwarded(m: Member, here: bool, a: Air) -> bool
     ensures { result ≡ forwarded_by a here m }
 {
-    here & (m.via != wire::ALL) & a.polled.is_some_and(|slot| slot == m.via)
+    here & (m.via != wire::ALL) & (m.via != 255) & a.polled.is_some_and(|slot| slot == m.via)
 }
 
 // What it tells of the reply, where it is no forwarded one.

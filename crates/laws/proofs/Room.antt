@@ -39,6 +39,7 @@ use Rattle.promise.proofs.WalkCalls.{all}
 use Rattle.promise.proofs.WalkWords.{Events, most_in}
 use Rattle.promise.proofs.Spoken.{Sends, Spoken, rx_spoken}
 use Rattle.promise.proofs.Short.{short_admit, short_next}
+use Rattle.dues.proofs.Cases.{refusal_said}
 use Rattle.laws.specs.Room.{Fits, AllFit, AllNumbered}
 
 -- ---- a reception: 127 events at most of each frame, and two words of reply
@@ -175,4 +176,5 @@ all_numbered =
       freeing = λ s cell. number_unless (cell_refusal s.count s.landed cell) s _ [] _ _ (known_cell s.count s.landed cell);
       signing = λ s slot. number_unless (sign_off_refusal s.used slot) s _ [] _ _ (known_sign_off s.used slot);
       asking = λ s slot. number_again (sign_off_refusal s.used slot) _ (known_sign_off s.used slot);
+      charging = refusal_said;
     }

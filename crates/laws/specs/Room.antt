@@ -10,6 +10,7 @@ use Rattle.station.specs.Refusals.{refusal_of}
 use Rattle.station.specs.Entries.{Outcome, answer_of, words_in, admit_of, receive_of, next_of, start_refusal, start_of, post_refusal, post_of, check1, sent_of, close_refusal, close_of, cell_refusal, free_of}
 use Rattle.station.specs.SignOff.{sign_off_refusal, sign_off_of}
 use Rattle.station.specs.Worst.{worst_of, refusal_in}
+use Rattle.dues.specs.Dues.{dues_refusal, dues_of}
 
 -- a call that was lent an output of `room` words: its words are 8,192 at most and have room; it answers how many they are, or its refusal, and by its
 -- cases that is document 01's number and the count; and the output has them all at its beginning, and behind them what it had
@@ -27,7 +28,7 @@ pub record AllFit : Type 0 where
   pub reception : (s : Station) (words : List ℕ) (snr now : Float) (store : List ℕ) (room : ℕ) → Fits (receive_of s words snr now store room) room
   pub decision : (s : Station) (now : Float) (queue : List ℕ) (room : ℕ) → Fits (next_of s now queue room) room
 
--- the other calls, with any arguments: the number that each answers is document 01's, 0 for none
+-- the other calls, with any arguments: the number that each answers is document 01's, 0 for none (that of a reading stands in the contract of `read`)
 pub record AllNumbered : Type 0 where
   pub start : (s : Station) (g : Given) (store : List ℕ) → number_in (answer_of (start_of s g store) 0) ≡ start_refusal g (length store)
   pub posting : (s : Station) (slot : ℕ) (message queue : List ℕ)
@@ -37,3 +38,4 @@ pub record AllNumbered : Type 0 where
   pub freeing : (s : Station) (cell : ℕ) → number_in (answer_of (free_of s cell) 0) ≡ cell_refusal s.count s.landed cell
   pub signing : (s : Station) (slot : ℕ) → number_in (answer_of (sign_off_of s slot) 0) ≡ sign_off_refusal s.used slot
   pub asking : (s : Station) (slot : ℕ) → refusal_in (worst_of s slot) ≡ sign_off_refusal s.used slot
+  pub charging : (s : Station) (figures : List ℕ) → number_in (dues_of s figures) ≡ dues_refusal figures

@@ -20,14 +20,19 @@ fn refusals(trial: &mut Trial) -> Result<(), AllocError> {
     refused::level(trial)
 }
 
+fn cases(trial: &mut Trial) -> Result<(), AllocError> {
+    refusals(trial)?;
+    count::numbers(trial)?;
+    count::claims(trial)?;
+    count::counters(trial)?;
+    slip::ties(trial)
+}
+
+// Where memory runs out, what was gathered by then is written all the same.
 fn main(rt: HostRuntime) -> Result<(), AllocError> {
     let mut trial = Trial::new(rt.alloc())?;
-    refusals(&mut trial)?;
-    count::numbers(&mut trial)?;
-    count::claims(&mut trial)?;
-    count::counters(&mut trial)?;
-    slip::ties(&mut trial)?;
+    let ended = cases(&mut trial);
     // What cannot be written is dropped.
     let _ = rt.stdout().write_all(trial.text.as_bytes());
-    Ok(())
+    ended
 }

@@ -1,7 +1,7 @@
 // `Outbox`: its numbers are a struct; the messages' bytes and their marks lie in two memories that the caller lends. Message i has the
 // 2,048 bytes from 2,048 i on of each. The messages stand in the order of posting, and those behind one that leaves move down. C lends
 // both memories anew at each call, so they are no fields of the struct.
-ghost use Rattle.std.specs.Prelude.{◌≡◌, List, ℕ, ◌+◌, ◌-◌, ◌*◌, ◌≤◌, ◌<◌, length, OnErr};
+ghost use Rattle.std.specs.Prelude.{◌≡◌, List, ℕ, ◌+◌, ◌-◌, ◌*◌, ◌≤◌, ◌<◌, length, get_or, OnErr};
 ghost use Rattle.std.proofs.Math.Seq.{paste};
 ghost use Rattle.refusal.specs.Numbers.{number_in};
 ghost use Rattle.inbox.specs.Messages.{framed};
@@ -117,14 +117,27 @@ fn add(s: &mut Sender, n: usize)
     s.next = bits::one_more(s.next);
 }
 
-// A message's length in two bytes, lowest first, and its bytes.
+// A message's length in two bytes, lowest first, and its bytes, one by one: a copy of all at once would need `memmove` from the host, since the compiler can't
+// know that the two slices lie apart.
 fn put_message(bytes: &mut [u8], at: usize, body: &[u8])
     requires { (length body.now ≤ 2046) × (at + 2048 ≤ length bytes.old) }
     ensures { bytes.new ≡ paste bytes.old at (framed body.now) (length (framed body.now)) }
 {
-    let n = body.len();
-    bytes[at..at + 2].copy_from_slice(&(n as u16).to_le_bytes());
-    bytes[at + 2..at + 2 + n].copy_from_slice(body);
+    for k in 0..2 + body.len() {
+        bytes[at + k] = framed_at(body, k);
+    }
+}
+
+// Byte k of it.
+fn framed_at(body: &[u8], k: usize) -> u8
+    requires { k < 2 + length body.now }
+    ensures { result ≡ get_or (framed body.now) k 0 }
+{
+    match k {
+        0 => (body.len() % 256) as u8,
+        1 => (body.len() / 256 % 256) as u8,
+        _ => body[k - 2],
+    }
 }
 
 // Whether there are bytes never sent yet.

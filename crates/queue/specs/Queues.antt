@@ -1,6 +1,6 @@
 -- Request U1 of document 02, the directed queue: the numbers of one boat (`dir`, `dir_delivered`, `dir_sent_round` of ncs.rs; `send_to` of net.rs), and where the
 -- bytes of its stream stand in the lent queue, 2,048 for each of the 62 slots.
-use Rattle.std.specs.Prelude.{ℕ, zero, suc, ◌+◌, ◌*◌, ◌%◌, Bool, false, not, cond, ◌&&◌, List, [], ◌∷◌, eqb, ltb, get_or, set, Option, Some, None}
+use Rattle.std.specs.Prelude.{ℕ, zero, suc, ◌+◌, ◌*◌, ◌%◌, Bool, true, false, not, cond, ◌&&◌, List, [], ◌∷◌, eqb, ltb, get_or, set}
 use Rattle.queue.specs.declared.Queue.{Queue}
 
 abbrev pub least_of : ℕ → ℕ → ℕ
@@ -11,7 +11,7 @@ most_of a b = cond (ltb a b) b a
 
 -- nothing was posted
 abbrev pub empty_queue : Queue
-empty_queue = record { posted = 0; kept = 0; reported = 0; sent = None }
+empty_queue = record { posted = 0; kept = 0; reported = 0; round = 0; sent = false }
 
 -- ---- sending: in `direct_burst` of ncs.rs
 
@@ -19,23 +19,18 @@ empty_queue = record { posted = 0; kept = 0; reported = 0; sent = None }
 abbrev pub first_of : Queue → ℕ
 first_of q = most_of q.reported q.kept
 
--- whether this round is the one in which it was last sent to
-abbrev pub is_round : Option ℕ → ℕ → Bool
-is_round None round = false
-is_round (Some last) round = eqb last round
-
 -- something is to be sent, and `dir_sent_round` is not this round
 unfoldable pub is_due : Queue → ℕ → Bool
-is_due q round = not (is_round q.sent round) && ltb (first_of q) q.posted
+is_due q round = not (q.sent && eqb q.round round) && ltb (first_of q) q.posted
 
 abbrev pub sent_in : Queue → ℕ → Queue
-sent_in q round = record { posted = q.posted; kept = q.kept; reported = q.reported; sent = Some round }
+sent_in q round = record { posted = q.posted; kept = q.kept; reported = q.reported; round = round; sent = true }
 
 -- ---- the report: 'Reported bytes give their space back for good; a report above the total posted by then counts as that total for space only'
 
 abbrev pub reported_to : Queue → ℕ → Queue
 reported_to q n =
-    record { posted = q.posted; kept = most_of q.kept (least_of n q.posted); reported = most_of q.reported n; sent = q.sent }
+    record { posted = q.posted; kept = most_of q.kept (least_of n q.posted); reported = most_of q.reported n; round = q.round; sent = q.sent }
 
 -- ---- posting: `send_to` of net.rs, with 24 when kept plus new bytes pass 2,048, then 25 when the total posted would pass 16,777,215
 
@@ -45,7 +40,7 @@ space_refusal q n =
     cond (ltb 2046 n) 24 (cond (ltb (q.kept + 2048) (q.posted + n + 2)) 24 (cond (ltb 16777215 (q.posted + n + 2)) 25 0))
 
 abbrev pub posted_to : Queue → ℕ → Queue
-posted_to q n = record { posted = q.posted + n; kept = q.kept; reported = q.reported; sent = q.sent }
+posted_to q n = record { posted = q.posted + n; kept = q.kept; reported = q.reported; round = q.round; sent = q.sent }
 
 -- ---- bytes
 

@@ -9,14 +9,15 @@ ghost use Rattle.queue.specs.Queues.{empty_queue, first_of, is_due, sent_in, rep
 
 use refusal::Refusal;
 
-// posted: the bytes posted in all, kept: the first of them that the queue keeps, reported: the highest number that the boat reported. sent: the
-// round in which it was last sent to.
+// posted: the bytes posted in all, kept: the first of them that the queue keeps, reported: the highest number that the boat reported. round: the
+// round in which it was last sent to, where `sent`: a flag and no Option, since the block for C has the round there, every value of which comes back.
 #[derive(Clone, Copy)]
 pub struct Queue {
     pub posted: u32,
     pub kept: u32,
     pub reported: u32,
-    pub sent: Option<u32>,
+    pub round: u32,
+    pub sent: bool,
 }
 
 // Nothing was posted.
@@ -27,7 +28,8 @@ pub fn empty() -> Queue
         posted: 0,
         kept: 0,
         reported: 0,
-        sent: None,
+        round: 0,
+        sent: false,
     }
 }
 
@@ -45,14 +47,15 @@ pub fn first(q: Queue) -> u32
 pub fn is_due(q: Queue, round: u32) -> bool
     ensures { result ≡ is_due q round }
 {
-    (q.sent != Some(round)) & (first(q) < q.posted)
+    !(q.sent & (q.round == round)) & (first(q) < q.posted)
 }
 
 pub fn sent_in(q: Queue, round: u32) -> Queue
     ensures { result ≡ sent_in q round }
 {
     let mut k = q;
-    k.sent = Some(round);
+    k.round = round;
+    k.sent = true;
     k
 }
 

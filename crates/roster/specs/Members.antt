@@ -1,5 +1,5 @@
 -- `Member` of ncs.rs: what the control station knows of a boat, and what each occasion changes of it.
-use Rattle.std.specs.Prelude.{ℕ, ◌+◌, ◌-◌, Bool, true, not, cond, ◌&&◌, ◌||◌, List, [], eqb, ltb, leb, Float, Option, Some, None, is_some, unwrap_or, option_map}
+use Rattle.std.specs.Prelude.{ℕ, ◌+◌, ◌-◌, Bool, true, false, not, cond, ◌&&◌, ◌||◌, List, [], eqb, ltb, leb, Float, Option, Some, None, is_some}
 use Rattle.bits.specs.Stop.{stop}
 use Rattle.level.specs.declared.Level.{Level}
 use Rattle.level.specs.declared.Level.TheVariants.{Unheard, Decibels}
@@ -12,45 +12,45 @@ use Rattle.roster.specs.declared.Member.{Member}
 -- What an element past an array's end is taken for: 0, false, [] and the first variant, in each field
 abbrev pub no_member : Member
 no_member =
-    record { call = []; via = 0; caps = None; version = None; burst = 0; toldbits = 0; markbits = 0; missed = 0; toldnext = 0; marknext = 0; bytesin = 0; snrup = Unheard; snrdown = Unheard; direct = Unheard; lastheard = None; up = fresh_of; tried = 0 }
+    record { call = []; via = 0; hascaps = false; caps = 0; hasversion = false; version = 0; burst = 0; toldbits = 0; markbits = 0; missed = 0; toldnext = 0; marknext = 0; bytesin = 0; snrup = Unheard; snrdown = Unheard; direct = Unheard; lastheard = None; up = fresh_of; tried = 0 }
 
 -- ---- one group of fields written
 
 abbrev pub with_links : Member → Level → Level → Level → Option Float → Member
 with_links m snrup snrdown direct lastheard =
-    record { call = m.call; via = m.via; caps = m.caps; version = m.version; burst = m.burst; toldbits = m.toldbits; markbits = m.markbits; missed = m.missed; toldnext = m.toldnext; marknext = m.marknext; bytesin = m.bytesin; snrup = snrup; snrdown = snrdown; direct = direct; lastheard = lastheard; up = m.up; tried = m.tried }
+    record { call = m.call; via = m.via; hascaps = m.hascaps; caps = m.caps; hasversion = m.hasversion; version = m.version; burst = m.burst; toldbits = m.toldbits; markbits = m.markbits; missed = m.missed; toldnext = m.toldnext; marknext = m.marknext; bytesin = m.bytesin; snrup = snrup; snrdown = snrdown; direct = direct; lastheard = lastheard; up = m.up; tried = m.tried }
 
 abbrev pub with_via : Member → ℕ → Member
 with_via m via =
-    record { call = m.call; via = via; caps = m.caps; version = m.version; burst = m.burst; toldbits = m.toldbits; markbits = m.markbits; missed = m.missed; toldnext = m.toldnext; marknext = m.marknext; bytesin = m.bytesin; snrup = m.snrup; snrdown = m.snrdown; direct = m.direct; lastheard = m.lastheard; up = m.up; tried = m.tried }
+    record { call = m.call; via = via; hascaps = m.hascaps; caps = m.caps; hasversion = m.hasversion; version = m.version; burst = m.burst; toldbits = m.toldbits; markbits = m.markbits; missed = m.missed; toldnext = m.toldnext; marknext = m.marknext; bytesin = m.bytesin; snrup = m.snrup; snrdown = m.snrdown; direct = m.direct; lastheard = m.lastheard; up = m.up; tried = m.tried }
 
 abbrev pub with_missed : Member → ℕ → Member
 with_missed m n =
-    record { call = m.call; via = m.via; caps = m.caps; version = m.version; burst = m.burst; toldbits = m.toldbits; markbits = m.markbits; missed = n; toldnext = m.toldnext; marknext = m.marknext; bytesin = m.bytesin; snrup = m.snrup; snrdown = m.snrdown; direct = m.direct; lastheard = m.lastheard; up = m.up; tried = m.tried }
+    record { call = m.call; via = m.via; hascaps = m.hascaps; caps = m.caps; hasversion = m.hasversion; version = m.version; burst = m.burst; toldbits = m.toldbits; markbits = m.markbits; missed = n; toldnext = m.toldnext; marknext = m.marknext; bytesin = m.bytesin; snrup = m.snrup; snrdown = m.snrdown; direct = m.direct; lastheard = m.lastheard; up = m.up; tried = m.tried }
 
 abbrev pub with_burst : Member → ℕ → Member
 with_burst m n =
-    record { call = m.call; via = m.via; caps = m.caps; version = m.version; burst = n; toldbits = m.toldbits; markbits = m.markbits; missed = m.missed; toldnext = m.toldnext; marknext = m.marknext; bytesin = m.bytesin; snrup = m.snrup; snrdown = m.snrdown; direct = m.direct; lastheard = m.lastheard; up = m.up; tried = m.tried }
+    record { call = m.call; via = m.via; hascaps = m.hascaps; caps = m.caps; hasversion = m.hasversion; version = m.version; burst = n; toldbits = m.toldbits; markbits = m.markbits; missed = m.missed; toldnext = m.toldnext; marknext = m.marknext; bytesin = m.bytesin; snrup = m.snrup; snrdown = m.snrdown; direct = m.direct; lastheard = m.lastheard; up = m.up; tried = m.tried }
 
 abbrev pub with_mark : Member → ℕ → ℕ → ℕ → Member
 with_mark m next marks tried =
-    record { call = m.call; via = m.via; caps = m.caps; version = m.version; burst = m.burst; toldbits = m.toldbits; markbits = marks; missed = m.missed; toldnext = m.toldnext; marknext = next; bytesin = m.bytesin; snrup = m.snrup; snrdown = m.snrdown; direct = m.direct; lastheard = m.lastheard; up = m.up; tried = tried }
+    record { call = m.call; via = m.via; hascaps = m.hascaps; caps = m.caps; hasversion = m.hasversion; version = m.version; burst = m.burst; toldbits = m.toldbits; markbits = marks; missed = m.missed; toldnext = m.toldnext; marknext = next; bytesin = m.bytesin; snrup = m.snrup; snrdown = m.snrdown; direct = m.direct; lastheard = m.lastheard; up = m.up; tried = tried }
 
 abbrev pub with_told_at : Member → ℕ → ℕ → Member
 with_told_at m next marks =
-    record { call = m.call; via = m.via; caps = m.caps; version = m.version; burst = m.burst; toldbits = marks; markbits = m.markbits; missed = m.missed; toldnext = next; marknext = m.marknext; bytesin = m.bytesin; snrup = m.snrup; snrdown = m.snrdown; direct = m.direct; lastheard = m.lastheard; up = m.up; tried = m.tried }
+    record { call = m.call; via = m.via; hascaps = m.hascaps; caps = m.caps; hasversion = m.hasversion; version = m.version; burst = m.burst; toldbits = marks; markbits = m.markbits; missed = m.missed; toldnext = next; marknext = m.marknext; bytesin = m.bytesin; snrup = m.snrup; snrdown = m.snrdown; direct = m.direct; lastheard = m.lastheard; up = m.up; tried = m.tried }
 
 abbrev pub with_up : Member → Window → ℕ → Member
 with_up m w bytes =
-    record { call = m.call; via = m.via; caps = m.caps; version = m.version; burst = m.burst; toldbits = m.toldbits; markbits = m.markbits; missed = m.missed; toldnext = m.toldnext; marknext = m.marknext; bytesin = bytes; snrup = m.snrup; snrdown = m.snrdown; direct = m.direct; lastheard = m.lastheard; up = w; tried = m.tried }
+    record { call = m.call; via = m.via; hascaps = m.hascaps; caps = m.caps; hasversion = m.hasversion; version = m.version; burst = m.burst; toldbits = m.toldbits; markbits = m.markbits; missed = m.missed; toldnext = m.toldnext; marknext = m.marknext; bytesin = bytes; snrup = m.snrup; snrdown = m.snrdown; direct = m.direct; lastheard = m.lastheard; up = w; tried = m.tried }
 
 abbrev pub known_caps : Member → ℕ → Member
 known_caps m caps =
-    record { call = m.call; via = m.via; caps = Some caps; version = m.version; burst = m.burst; toldbits = m.toldbits; markbits = m.markbits; missed = m.missed; toldnext = m.toldnext; marknext = m.marknext; bytesin = m.bytesin; snrup = m.snrup; snrdown = m.snrdown; direct = m.direct; lastheard = m.lastheard; up = m.up; tried = m.tried }
+    record { call = m.call; via = m.via; hascaps = true; caps = caps; hasversion = m.hasversion; version = m.version; burst = m.burst; toldbits = m.toldbits; markbits = m.markbits; missed = m.missed; toldnext = m.toldnext; marknext = m.marknext; bytesin = m.bytesin; snrup = m.snrup; snrdown = m.snrdown; direct = m.direct; lastheard = m.lastheard; up = m.up; tried = m.tried }
 
 abbrev pub known_version : Member → ℕ → Member
 known_version m version =
-    record { call = m.call; via = m.via; caps = m.caps; version = Some version; burst = m.burst; toldbits = m.toldbits; markbits = m.markbits; missed = m.missed; toldnext = m.toldnext; marknext = m.marknext; bytesin = m.bytesin; snrup = m.snrup; snrdown = m.snrdown; direct = m.direct; lastheard = m.lastheard; up = m.up; tried = m.tried }
+    record { call = m.call; via = m.via; hascaps = m.hascaps; caps = m.caps; hasversion = true; version = version; burst = m.burst; toldbits = m.toldbits; markbits = m.markbits; missed = m.missed; toldnext = m.toldnext; marknext = m.marknext; bytesin = m.bytesin; snrup = m.snrup; snrdown = m.snrdown; direct = m.direct; lastheard = m.lastheard; up = m.up; tried = m.tried }
 
 -- ---- occasions
 
@@ -60,7 +60,7 @@ heard_by via now = cond (eqb via 63) (Some now) None
 
 abbrev pub new_member : List ℕ → ℕ → Float → Member
 new_member call via now =
-    record { call = call; via = via; caps = None; version = None; burst = 0; toldbits = 0; markbits = 0; missed = 0; toldnext = 0; marknext = 0; bytesin = 0; snrup = Unheard; snrdown = Unheard; direct = Unheard; lastheard = heard_by via now; up = fresh_of; tried = 0 }
+    record { call = call; via = via; hascaps = false; caps = 0; hasversion = false; version = 0; burst = 0; toldbits = 0; markbits = 0; missed = 0; toldnext = 0; marknext = 0; bytesin = 0; snrup = Unheard; snrdown = Unheard; direct = Unheard; lastheard = heard_by via now; up = fresh_of; tried = 0 }
 
 abbrev pub with_heard : Member → Float → Member
 with_heard m now = with_links m m.snrup m.snrdown m.direct (Some now)
@@ -118,7 +118,7 @@ is_news m = not (eqb m.up.next m.toldnext) || not (eqb (bitmap_of m.up) m.toldbi
 
 -- unknown counts as willing
 abbrev pub is_willing : Member → Bool
-is_willing m = unwrap_or (option_map relays m.caps) true
+is_willing m = not m.hascaps || relays m.caps
 
 -- `m.snr_down.or(m.snr_up)`
 abbrev pub down_or_up : Member → Level

@@ -11,15 +11,18 @@ use stream::window::Window;
 
 pub mod relay;
 
-// `via` is the relay's slot, 63 for none: a number and no Option, since the block for C has a number there, in which every value comes back.
+// `via` is the relay's slot, 63 for none; a flag says whether caps and version are known. Numbers and no Options, since the block for C has numbers there, in
+// which every value comes back.
 // `up` says which of its messages are whole;
 // told and mark are (next, bitmap) as last sent in a received list and as when its relayers were last tried.
 #[derive(Clone, Copy)]
 pub struct Member {
     pub call: [u8; 7],
     pub via: u8,
-    pub caps: Option<u8>,
-    pub version: Option<u8>,
+    pub hascaps: bool,
+    pub caps: u8,
+    pub hasversion: bool,
+    pub version: u8,
     pub burst: u8,
     pub toldbits: u8,
     pub markbits: u8,
@@ -75,8 +78,10 @@ pub fn new_member(call: [u8; 7], via: u8, now: f64) -> Member
     Member {
         call: call,
         via: via,
-        caps: None,
-        version: None,
+        hascaps: false,
+        caps: 0,
+        hasversion: false,
+        version: 0,
         burst: 0,
         toldbits: 0,
         markbits: 0,
@@ -123,7 +128,8 @@ pub fn with_caps(m: Member, caps: Option<u8>) -> Member
         return m;
     };
     let mut k = m;
-    k.caps = Some(wire::caps_of(byte));
+    k.hascaps = true;
+    k.caps = wire::caps_of(byte);
     k
 }
 
@@ -134,7 +140,8 @@ pub fn with_version(m: Member, version: Option<u8>) -> Member
         return m;
     };
     let mut k = m;
-    k.version = Some(byte);
+    k.hasversion = true;
+    k.version = byte;
     k
 }
 
@@ -213,7 +220,7 @@ pub fn is_news(m: Member) -> bool
 pub fn is_willing(m: Member) -> bool
     ensures { result ≡ is_willing m }
 {
-    m.caps.is_none_or(|caps| wire::relays(caps))
+    !m.hascaps | wire::relays(m.caps)
 }
 
 // The level at which it is reached: as it hears us, or as we hear it.

@@ -4,25 +4,41 @@ use std::alloc::{AllocError, AllocFailed};
 use std::fmt;
 
 #[derive(Debug, Drop)]
-pub enum Answer {
+pub enum Answer<'a> {
     Done,
-    Words(Vec<u32>),
+    Words(&'a [u32]),
     Pending(usize),
     HasNew(bool),
 }
 
-// A line for each word, as eight hexadecimal digits.
-impl fmt::Display for Answer {
+const DIGITS: [u8; 16] = *b"0123456789ABCDEF";
+
+// A line of eight hexadecimal digits, the lowest of the number. (With `{:08X}` it takes half as long again, and a script may print little else.)
+fn write_line<W: fmt::Write>(f: &mut fmt::Formatter<W>, number: u64) -> fmt::Result {
+    let mut line = [b'\n'; 9];
+    let mut rest = number;
+    for k in (0..8).rev() {
+        line[k] = DIGITS[(rest % 16) as usize];
+        rest /= 16;
+    }
+    f.write_str(std::str::from_utf8(&line).unwrap_or(""))
+}
+
+// A line for each word.
+impl fmt::Display for Answer<'_> {
     fn fmt<W: fmt::Write>(&self, f: &mut fmt::Formatter<W>) -> fmt::Result {
         match self {
             Answer::Done => Ok(()),
             Answer::Words(words) => {
-                for word in words {
-                    writeln!(f, "{word:08X}")?;
+                for word in words.iter() {
+                    write_line(f, u64::from(*word))?;
                 }
                 Ok(())
             }
-            Answer::Pending(bytes) => writeln!(f, "P {bytes:08X}"),
+            Answer::Pending(bytes) => {
+                f.write_str("P ")?;
+                write_line(f, *bytes as u64)
+            }
             Answer::HasNew(new) => writeln!(f, "N {}", u8::from(*new)),
         }
     }
@@ -37,13 +53,13 @@ pub enum Error {
     OutOfMemory,
 }
 
-// The number of a refusal.
+// The line of a refusal's number.
 impl fmt::Display for Error {
     fn fmt<W: fmt::Write>(&self, f: &mut fmt::Formatter<W>) -> fmt::Result {
         match self {
-            Error::Malformed => write!(f, "{:08X}", 3),
-            Error::Refused(refusal) => write!(f, "{:08X}", u8::from(*refusal)),
-            Error::OutOfMemory => write!(f, "out of memory"),
+            Error::Malformed => f.write_str("00000003\n"),
+            Error::Refused(refusal) => write_line(f, u64::from(u8::from(*refusal))),
+            Error::OutOfMemory => writeln!(f, "out of memory"),
         }
     }
 }
@@ -62,6 +78,13 @@ impl From<AllocError> for Error {
 
 impl<T: Drop> From<AllocFailed<T>> for Error {
     fn from(_e: AllocFailed<T>) -> Error {
+        Error::OutOfMemory
+    }
+}
+
+// Nothing else than memory fails where an answer is printed.
+impl From<fmt::Error> for Error {
+    fn from(_e: fmt::Error) -> Error {
         Error::OutOfMemory
     }
 }

@@ -2,7 +2,6 @@
 ghost use Rattle.std.specs.Prelude.{◌≤◌, IfOk};
 
 use crate::answer::Error;
-use std::alloc::Global;
 use words::Item;
 
 // A body has no more bytes than this.
@@ -22,9 +21,9 @@ fn payload_len(item: Item) -> Result<usize, Error>
     }
 }
 
-// One frame or more, their payloads joined.
-pub fn joined(alloc: Global, words: &[u32]) -> Result<Vec<u8>, Error> {
-    let mut body = Vec::new(alloc);
+// One frame or more: their payloads joined, in place of what `body` held.
+pub fn joined(words: &[u32], body: &mut Vec<u8>) -> Result<(), Error> {
+    body.clear();
     if words.is_empty() {
         return Err(Error::Malformed);
     }
@@ -39,25 +38,22 @@ pub fn joined(alloc: Global, words: &[u32]) -> Result<Vec<u8>, Error> {
         let size = 2 + words::words_for(len);
         rest = &rest[size.min(rest.len())..];
     }
-    Ok(body)
+    Ok(())
 }
 
-// One frame: the numbers in its payload, each lowest byte first.
-pub fn numbers(alloc: Global, words: &[u32]) -> Result<Vec<u32>, Error> {
+// One frame: the numbers in its payload, each lowest byte first, in place of what `numbers` held.
+pub fn numbers(words: &[u32], numbers: &mut Vec<u32>) -> Result<(), Error> {
     let item = words::item_at(words);
     let len = payload_len(item)?;
     if words::size_of(item) != words.len() {
         return Err(Error::Malformed);
     }
     let payload = words::payload(words, 0, len);
-    let (numbers, rest) = payload[..len].as_chunks::<4>();
+    let (each, rest) = payload[..len].as_chunks::<4>();
     if !rest.is_empty() {
         return Err(Error::Malformed);
     }
-    Ok(
-        numbers
-            .iter()
-            .map(|number| u32::from_le_bytes(*number))
-            .collect(alloc)?,
-    )
+    numbers.clear();
+    numbers.extend(each.iter().map(|number| u32::from_le_bytes(*number)))?;
+    Ok(())
 }

@@ -1,7 +1,8 @@
 // The answers, gathered before they are written to standard output. What cannot be written is dropped.
 use crate::answer::{Answer, Error};
 use std::alloc::Global;
-use std::io::{Stdout, Write};
+use std::fmt::{self, Write};
+use std::io::{self, Stdout};
 
 // So many bytes are gathered, and an answer's more.
 const ENOUGH: usize = 57344;
@@ -21,11 +22,11 @@ impl Output {
     }
 
     // An answer, or the number of a refusal.
-    pub fn tell(&mut self, answered: Result<Answer, Error>) -> Result<(), Error> {
+    pub fn tell(&mut self, answered: Result<Answer<'_>, Error>) -> Result<(), Error> {
         match answered {
-            Ok(answer) => write!(self.text, "{answer}")?,
+            Ok(answer) => write!(self, "{answer}")?,
             Err(Error::OutOfMemory) => return Err(Error::OutOfMemory),
-            Err(refusal) => writeln!(self.text, "{refusal}")?,
+            Err(refusal) => write!(self, "{refusal}")?,
         }
         if ENOUGH <= self.text.len() {
             self.flush();
@@ -34,7 +35,14 @@ impl Output {
     }
 
     pub fn flush(&mut self) {
-        let _ = self.to.write_all(self.text.as_bytes());
+        let _ = io::Write::write_all(&mut self.to, self.text.as_bytes());
         self.text.clear();
+    }
+}
+
+impl fmt::Write for Output {
+    fn write_str(&mut self, s: &str) -> fmt::Result {
+        self.text.push_str(s)?;
+        Ok(())
     }
 }

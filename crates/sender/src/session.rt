@@ -6,10 +6,11 @@ use outbox::sender::Sender;
 use outbox::{leave, sender, taking};
 use std::alloc::{AllocError, Global};
 
-// No command has more words.
+// No command has more words, and no answer.
 const MOST: usize = 8192;
 
-// The sending end with its two memories, the command whose words are being read, and those words, one too many at most.
+// The sending end with its two memories, the command whose words are being read, and those words, one too many at most. What they say and what `take`
+// answers lies in the three vectors behind them until the next such command.
 #[derive(Drop)]
 pub struct Session {
     sender: Sender,
@@ -17,6 +18,9 @@ pub struct Session {
     marks: Vec<u8>,
     open: Option<Open>,
     words: Vec<u32>,
+    body: Vec<u8>,
+    numbers: Vec<u32>,
+    taken: Vec<u32>,
 }
 
 impl Session {
@@ -28,6 +32,9 @@ impl Session {
             marks: vec![in alloc; 205u8; sender::MEMORY]?,
             open: None,
             words: Vec::new(alloc),
+            body: Vec::new(alloc),
+            numbers: Vec::new(alloc),
+            taken: vec![in alloc; 0u32; MOST]?,
         })
     }
 
@@ -37,32 +44,31 @@ impl Session {
     }
 
     // Runs the open command.
-    pub fn finish(&mut self, alloc: Global) -> Result<Answer, Error> {
+    pub fn finish(&mut self) -> Result<Answer<'_>, Error> {
         let Some(open) = self.open.take() else {
             return Ok(Answer::Done);
         };
-        let words = std::mem::replace(&mut self.words, Vec::new(alloc));
-        if MOST < words.len() {
+        if MOST < self.words.len() {
             return Err(Error::Malformed);
         }
         match open {
-            Open::Post => self.post(argument::joined(alloc, &words)?.as_slice()),
-            Open::Ack => self.ack(argument::numbers(alloc, &words)?.as_slice()),
-            Open::Held => self.held(argument::numbers(alloc, &words)?.as_slice()),
+            Open::Post => self.post(),
+            Open::Ack => self.ack(),
+            Open::Held => self.held(),
         }
     }
 
     // One word.
-    pub fn word(&mut self, alloc: Global, word: u32) -> Result<Answer, Error> {
+    pub fn word(&mut self, word: u32) -> Result<Answer<'_>, Error> {
         match command::kind(word) {
-            7 => self.run(alloc, Command::try_from(word)?),
+            7 => self.run(Command::try_from(word)?),
             14 | 15 => Err(Error::Malformed),
             _ => self.push(word),
         }
     }
 
     // Keeps a word of the open command.
-    fn push(&mut self, word: u32) -> Result<Answer, Error> {
+    fn push(&mut self, word: u32) -> Result<Answer<'_>, Error> {
         if self.open.is_none() {
             return Err(Error::Malformed);
         }
@@ -72,13 +78,14 @@ impl Session {
         Ok(Answer::Done)
     }
 
-    fn run(&mut self, alloc: Global, command: Command) -> Result<Answer, Error> {
+    fn run(&mut self, command: Command) -> Result<Answer<'_>, Error> {
         match command {
             Command::Open(open) => {
                 self.open = Some(open);
+                self.words.clear();
                 Ok(Answer::Done)
             }
-            Command::Take { max, room } => self.take(alloc, max, room),
+            Command::Take { max, room } => self.take(max, room),
             Command::Stale => {
                 sender::stale(self.sender, &mut self.marks)?;
                 Ok(Answer::Done)
@@ -88,13 +95,15 @@ impl Session {
         }
     }
 
-    fn post(&mut self, body: &[u8]) -> Result<Answer, Error> {
-        sender::post(&mut self.sender, &mut self.bytes, body)?;
+    fn post(&mut self) -> Result<Answer<'_>, Error> {
+        argument::joined(&self.words, &mut self.body)?;
+        sender::post(&mut self.sender, &mut self.bytes, &self.body)?;
         Ok(Answer::Done)
     }
 
-    fn ack(&mut self, numbers: &[u32]) -> Result<Answer, Error> {
-        let [seq, off] = numbers else {
+    fn ack(&mut self) -> Result<Answer<'_>, Error> {
+        argument::numbers(&self.words, &mut self.numbers)?;
+        let [seq, off] = self.numbers.as_slice() else {
             return Err(Error::Malformed);
         };
         leave::ack(
@@ -107,8 +116,9 @@ impl Session {
         Ok(Answer::Done)
     }
 
-    fn held(&mut self, numbers: &[u32]) -> Result<Answer, Error> {
-        let Some((next, also)) = numbers.split_first() else {
+    fn held(&mut self) -> Result<Answer<'_>, Error> {
+        argument::numbers(&self.words, &mut self.numbers)?;
+        let Some((next, also)) = self.numbers.split_first() else {
             return Err(Error::Malformed);
         };
         leave::held(
@@ -121,17 +131,15 @@ impl Session {
         Ok(Answer::Done)
     }
 
-    fn take(&mut self, alloc: Global, max: usize, room: usize) -> Result<Answer, Error> {
-        let mut words = vec![in alloc; 0u32; MOST]?;
+    fn take(&mut self, max: usize, room: usize) -> Result<Answer<'_>, Error> {
         let n = taking::take(
             &mut self.sender,
             &self.bytes,
             &mut self.marks,
             max,
             room,
-            &mut words,
+            &mut self.taken,
         )?;
-        words.truncate(n);
-        Ok(Answer::Words(words))
+        Ok(Answer::Words(&self.taken[..n.min(self.taken.len())]))
     }
 }

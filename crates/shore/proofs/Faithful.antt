@@ -1,6 +1,5 @@
 -- The theorem `faithful`: reading back what was written is the identity, for every station. Assumes nothing.
-use Rattle.std.specs.Prelude.{ℕ, Option, Some, None, Float, is_some, unwrap_or}
-use Rattle.std.specs.Bool.{then_some}
+use Rattle.std.specs.Prelude.{Option, Some, None, Float}
 use mathlib.Core.Path.{◌≡◌, refl, ap}
 use mathlib.Core.Bool.{Bool, true, false}
 use mathlib.Core.List.{List, [], ◌∷◌, map}
@@ -21,10 +20,6 @@ use Rattle.shore.specs.Blocks.{flag_of, is_set, reading_of, level_of, time_of, c
 flag_back : (b : Bool) → is_set (flag_of b) ≡ b
 flag_back true = refl
 flag_back false = refl
-
-known_back : (x : Option ℕ) → then_some (is_set (flag_of (is_some x))) (unwrap_or x 0) ≡ x
-known_back None = refl
-known_back (Some n) = refl
 
 pub level_back : (x : Level) → level_of (reading_of x) ≡ x
 level_back Unheard = refl
@@ -51,8 +46,8 @@ round_back r = rw (flag_back r.closed, flag_back r.traffic, flag_back r.rxdirty,
 member_back : (m : Member) → member_of (boat_of m) ≡ m
 member_back m =
     rw (
-      known_back m.caps,
-      known_back m.version,
+      flag_back m.hascaps,
+      flag_back m.hasversion,
       level_back m.snrup,
       level_back m.snrdown,
       level_back m.direct,
@@ -60,7 +55,7 @@ member_back m =
     )
 
 queue_back : (q : Queue) → queue_of (line_of q) ≡ q
-queue_back q = rw (known_back q.sent)
+queue_back q = rw (flag_back q.sent)
 
 map_back : {A B : Type 0} (f : A → B) (g : B → A) → ((x : A) → g (f x) ≡ x) → (xs : List A) → map g (map f xs) ≡ xs
 map_back f g e [] = refl

@@ -1,7 +1,6 @@
 -- The station as a host holds it: every part of `Block` in numbers and arrays, and the station that a block says. No float is converted: its bits stay as they are.
 use mir.Val.{bool_byte}
-use Rattle.std.specs.Prelude.{ℕ, ◌≡◌, Bool, not, cond, List, map, eqb, Float, Option, Some, None, is_some, unwrap_or}
-use Rattle.std.specs.Bool.{then_some}
+use Rattle.std.specs.Prelude.{ℕ, ◌≡◌, Bool, not, cond, List, map, eqb, Float, Option, Some, None}
 use Rattle.std.specs.Float.Ieee.{of_bits}
 use Rattle.std.specs.Float.{binary32, binary64}
 use Rattle.level.specs.declared.Level.{Level}
@@ -73,7 +72,7 @@ turn_of w = cond (eqb w.turn 0) Idle (cond (eqb w.turn 1) Sending (Waiting (repl
 abbrev pub wait_of : Await → Wait
 wait_of w = record { turn = turn_of w; deadline = clock_of w.deadline }
 
--- ---- the other parts, field by field; of a value that is not there the flag is 0, and the number beside it
+-- ---- the other parts, field by field
 
 abbrev pub setup_of : Settings → Setup
 setup_of g =
@@ -93,19 +92,19 @@ round_of r =
 
 abbrev pub boat_of : Member → Boat
 boat_of m =
-    record { call = m.call; via = m.via; hascaps = flag_of (is_some m.caps); caps = unwrap_or m.caps 0; hasversion = flag_of (is_some m.version); version = unwrap_or m.version 0; burst = m.burst; toldbits = m.toldbits; markbits = m.markbits; missed = m.missed; toldnext = m.toldnext; marknext = m.marknext; bytesin = m.bytesin; snrup = reading_of m.snrup; snrdown = reading_of m.snrdown; direct = reading_of m.direct; lastheard = time_of m.lastheard; up = m.up; tried = m.tried }
+    record { call = m.call; via = m.via; hascaps = flag_of m.hascaps; caps = m.caps; hasversion = flag_of m.hasversion; version = m.version; burst = m.burst; toldbits = m.toldbits; markbits = m.markbits; missed = m.missed; toldnext = m.toldnext; marknext = m.marknext; bytesin = m.bytesin; snrup = reading_of m.snrup; snrdown = reading_of m.snrdown; direct = reading_of m.direct; lastheard = time_of m.lastheard; up = m.up; tried = m.tried }
 
 abbrev pub member_of : Boat → Member
 member_of m =
-    record { call = m.call; via = m.via; caps = then_some (is_set m.hascaps) m.caps; version = then_some (is_set m.hasversion) m.version; burst = m.burst; toldbits = m.toldbits; markbits = m.markbits; missed = m.missed; toldnext = m.toldnext; marknext = m.marknext; bytesin = m.bytesin; snrup = level_of m.snrup; snrdown = level_of m.snrdown; direct = level_of m.direct; lastheard = clock_of m.lastheard; up = m.up; tried = m.tried }
+    record { call = m.call; via = m.via; hascaps = is_set m.hascaps; caps = m.caps; hasversion = is_set m.hasversion; version = m.version; burst = m.burst; toldbits = m.toldbits; markbits = m.markbits; missed = m.missed; toldnext = m.toldnext; marknext = m.marknext; bytesin = m.bytesin; snrup = level_of m.snrup; snrdown = level_of m.snrdown; direct = level_of m.direct; lastheard = clock_of m.lastheard; up = m.up; tried = m.tried }
 
 abbrev pub line_of : Queue → Line
 line_of q =
-    record { posted = q.posted; kept = q.kept; reported = q.reported; round = unwrap_or q.sent 0; sent = flag_of (is_some q.sent) }
+    record { posted = q.posted; kept = q.kept; reported = q.reported; round = q.round; sent = flag_of q.sent }
 
 abbrev pub queue_of : Line → Queue
 queue_of q =
-    record { posted = q.posted; kept = q.kept; reported = q.reported; sent = then_some (is_set q.sent) q.round }
+    record { posted = q.posted; kept = q.kept; reported = q.reported; round = q.round; sent = is_set q.sent }
 
 -- ---- the station
 

@@ -1,5 +1,5 @@
 -- What a host gives at the start, and what each exported call gives back: the entry point's own answer, with the station as a block.
-use Rattle.std.specs.Prelude.{ℕ, ◌≡◌, Bool, List, replicate, Result, Ok, Err, is_some, unwrap_or}
+use Rattle.std.specs.Prelude.{ℕ, ◌≡◌, Bool, List, replicate, Result, Ok, Err}
 use Rattle.refusal.specs.declared.Refusal.{Refusal}
 use Rattle.refusal.specs.Numbers.{number_of, number_in}
 use Rattle.level.specs.declared.Level.{Level}
@@ -13,6 +13,7 @@ use Rattle.logs.specs.Turns as turns
 use Rattle.station.specs.declared.Answered.{Answered}
 use Rattle.station.specs.declared.Heard.{Heard}
 use Rattle.station.specs.declared.show.Entry.{Entry}
+use Rattle.station.specs.Refusals.{refusal_of}
 use Rattle.station.specs.Entries.{Outcome, words_in, answered, unless}
 use Rattle.shore.specs.declared.answer.Plan.{Plan}
 use Rattle.shore.specs.declared.answer.Done.{Done}
@@ -42,7 +43,7 @@ poorest_of (Err r) = record { level = reading_of Unheard; refusal = number_of r 
 
 abbrev pub shown_of : Entry → Shown
 shown_of e =
-    record { lastheard = time_of e.lastheard; snrup = reading_of e.snrup; snrdown = reading_of e.snrdown; cap = e.cap; missed = e.missed; bytesin = e.bytesin; here = flag_of e.here; call = e.call; via = e.via; hascaps = flag_of (is_some e.caps); caps = unwrap_or e.caps 0; hasversion = flag_of (is_some e.version); version = unwrap_or e.version 0 }
+    record { lastheard = time_of e.lastheard; snrup = reading_of e.snrup; snrdown = reading_of e.snrdown; cap = e.cap; missed = e.missed; bytesin = e.bytesin; here = flag_of e.here; call = e.call; via = e.via; hascaps = flag_of e.hascaps; caps = e.caps; hasversion = flag_of e.hasversion; version = e.version }
 
 -- a boat's messages landed, and the bytes posted to it
 abbrev pub counts_of : Station → ℕ → Counts
@@ -56,8 +57,11 @@ month_of (Err r) = record { takings = 0; charges = replicate 62 0; credits = rep
 abbrev pub checked_of : Result Bool Refusal → Checked
 checked_of v = record { refusal = number_in v; accepted = flag_of (turns.is_accepted v) }
 
--- The block of a station is read back as that block, and so a refused call gives back the very block that it was given: r is the call's refusal, o what it
--- would have done. (A block that no call gave may come back in the form that calls give: a flag of 7 as 1.)
-abbrev pub RefusedKeeps : Type 0
-RefusedKeeps = (s : Station) (r : Refusal) (room : ℕ) (lent : List ℕ) (o : Outcome)
-    → told (answered (unless (number_of r) (station_of (block_of s)) lent o) room) ≡ record { block = block_of s; words = 0; mask = 0; refusal = number_of r }
+-- The block of a station is read back as that block, and so a refused call gives back the very block that it was given: n is the number of the call's refusal,
+-- o what it would have done. (A block that no call gave may come back in the form that calls give: a flag of 7 as 1.)
+pub record RefusedKeeps : Type 0 where
+  pub every : (s : Station) (n room : ℕ) (lent : List ℕ) (o : Outcome) → (n ≡ 0 → ⊥)
+      → told (answered (unless n (station_of (block_of s)) lent o) room) ≡ record { block = block_of s; words = 0; mask = 0; refusal = number_of (refusal_of n) }
+  -- of each number of document 01 it is that number that C reads
+  pub each : (s : Station) (r : Refusal) (room : ℕ) (lent : List ℕ) (o : Outcome)
+      → told (answered (unless (number_of r) (station_of (block_of s)) lent o) room) ≡ record { block = block_of s; words = 0; mask = 0; refusal = number_of r }

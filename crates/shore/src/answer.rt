@@ -187,10 +187,10 @@ pub fn shown_of(e: Entry) -> Shown
         here: u8::from(e.here),
         call: call,
         via: e.via,
-        hascaps: u8::from(e.caps.is_some()),
-        caps: e.caps.unwrap_or(0),
-        hasversion: u8::from(e.version.is_some()),
-        version: e.version.unwrap_or(0),
+        hascaps: u8::from(e.hascaps),
+        caps: e.caps,
+        hasversion: u8::from(e.hasversion),
+        version: e.version,
     }
 }
 

@@ -1,4 +1,5 @@
-// From the station to the block. An array is in a variable before it is part of a literal, as the check asks.
+// From the station to the block. An array is in a variable before it is part of a literal, as the check asks, and before it is lent: a part of a parameter that
+// is lent keeps the whole parameter in memory.
 ghost use Rattle.std.specs.Prelude.{◌≡◌, map};
 ghost use Rattle.shore.specs.Blocks.{reading_of, time_of, await_made, await_by, setup_of, course_of, boat_of, line_of, block_of};
 
@@ -129,10 +130,10 @@ fn boat_of(m: Member) -> Boat
     Boat {
         call,
         via: m.via,
-        hascaps: u8::from(m.caps.is_some()),
-        caps: m.caps.unwrap_or(0),
-        hasversion: u8::from(m.version.is_some()),
-        version: m.version.unwrap_or(0),
+        hascaps: u8::from(m.hascaps),
+        caps: m.caps,
+        hasversion: u8::from(m.hasversion),
+        version: m.version,
         burst: m.burst,
         toldbits: m.toldbits,
         markbits: m.markbits,
@@ -156,8 +157,8 @@ fn line_of(q: Queue) -> Line
         posted: q.posted,
         kept: q.kept,
         reported: q.reported,
-        round: q.sent.unwrap_or(0),
-        sent: u8::from(q.sent.is_some()),
+        round: q.round,
+        sent: u8::from(q.sent),
     }
 }
 
@@ -180,8 +181,10 @@ pub fn block_of(s: Station) -> Block
     let hears = s.hears;
     let owners = s.owners;
     let cells = s.cells;
-    let members = each(&s.members, boat_of);
-    let queues = each(&s.queues, line_of);
+    let boats = s.members;
+    let lines = s.queues;
+    let members = each(&boats, boat_of);
+    let queues = each(&lines, line_of);
     Block {
         settings: setup_of(s.settings),
         wait: await_of(s.wait),

@@ -116,8 +116,10 @@ fn member_of(m: Boat) -> Member
     Member {
         call,
         via: m.via,
-        caps: (m.hascaps != 0).then_some(m.caps),
-        version: (m.hasversion != 0).then_some(m.version),
+        hascaps: m.hascaps != 0,
+        caps: m.caps,
+        hasversion: m.hasversion != 0,
+        version: m.version,
         burst: m.burst,
         toldbits: m.toldbits,
         markbits: m.markbits,
@@ -141,7 +143,8 @@ fn queue_of(q: Line) -> Queue
         posted: q.posted,
         kept: q.kept,
         reported: q.reported,
-        sent: (q.sent != 0).then_some(q.round),
+        round: q.round,
+        sent: q.sent != 0,
     }
 }
 
@@ -152,8 +155,10 @@ pub fn station_of(s: Block) -> Station
     let hears = s.hears;
     let owners = s.owners;
     let cells = s.cells;
-    let members = each(&s.members, member_of);
-    let queues = each(&s.queues, queue_of);
+    let boats = s.members;
+    let lines = s.queues;
+    let members = each(&boats, member_of);
+    let queues = each(&lines, queue_of);
     Station {
         settings: settings_of(s.settings),
         wait: wait_of(s.wait),

@@ -12,7 +12,7 @@ use Rattle.station.specs.declared.show.Entry.{Entry}
 -- `here` is false where the slot has no member
 unfoldable pub entry_of : Station → ℕ → Entry
 entry_of s slot =
-    record { here = is_member s.used slot; call = (member_at s slot).call; via = (member_at s slot).via; snrup = (member_at s slot).snrup; snrdown = (member_at s slot).snrdown; cap = cap_for s.settings (member_at s slot); lastheard = (member_at s slot).lastheard; missed = (member_at s slot).missed; bytesin = (member_at s slot).bytesin; caps = (member_at s slot).caps; version = (member_at s slot).version }
+    record { here = is_member s.used slot; call = (member_at s slot).call; via = (member_at s slot).via; snrup = (member_at s slot).snrup; snrdown = (member_at s slot).snrdown; cap = cap_for s.settings (member_at s slot); lastheard = (member_at s slot).lastheard; missed = (member_at s slot).missed; bytesin = (member_at s slot).bytesin; hascaps = (member_at s slot).hascaps; caps = (member_at s slot).caps; hasversion = (member_at s slot).hasversion; version = (member_at s slot).version }
 
 -- the level at which the boat in slot r hears the one in slot a
 unfoldable pub hears_of : Station → ℕ → ℕ → Level

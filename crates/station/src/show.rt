@@ -18,8 +18,10 @@ pub struct Entry {
     pub lastheard: Option<f64>,
     pub missed: u32,
     pub bytesin: u32,
-    pub caps: Option<u8>,
-    pub version: Option<u8>,
+    pub hascaps: bool,
+    pub caps: u8,
+    pub hasversion: bool,
+    pub version: u8,
 }
 
 // The boat in a slot; `here` is false where there is none, and the rest is then no boat's.
@@ -42,7 +44,9 @@ pub fn roster_entry(s: Station, slot: u8) -> Entry
         lastheard: lastheard,
         missed: m.missed,
         bytesin: m.bytesin,
+        hascaps: m.hascaps,
         caps: m.caps,
+        hasversion: m.hasversion,
         version: m.version,
     }
 }
@@ -51,7 +55,8 @@ pub fn roster_entry(s: Station, slot: u8) -> Entry
 pub fn hears(s: Station, r: u8, a: u8) -> Level
     ensures { result ≡ hears_of s r a }
 {
-    let q = roster::relay::heard_at(&s.hears, r, a);
+    let fields = s.hears;
+    let q = roster::relay::heard_at(&fields, r, a);
     if net::is_member(s.used, r) & net::is_member(s.used, a) & (q < wire::UNHEARD) {
         return wire::snr_from_q(q);
     }

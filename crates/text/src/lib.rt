@@ -8,7 +8,7 @@ ghost use Rattle.text.specs.Digits.{glyph, digit_of, digits_of, Decimal};
 mod input;
 mod number;
 
-pub use input::{read_full, read_line};
+pub use input::{read_full, read_line, read_part};
 pub use number::{decimal, hex_value, hex_word};
 use std::io::{Stdout, Write};
 

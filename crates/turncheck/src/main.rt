@@ -9,44 +9,74 @@ mod turns;
 mod verdict;
 
 use log::Log;
-use std::alloc::Global;
-use std::io::{self, BufRead, BufReader, BufWriter, Write};
+use std::alloc::{AllocError, Global};
+use std::io::{self, BufRead, BufReader, Write};
 use verdict::Outcome;
 
-// The line on a log. What can't be written is dropped.
-fn tell(log: &Log, to: &mut impl Write) {
-    let _ = writeln!(to, "{}", Outcome::of(log));
+// A line is read in parts of so many bytes, more than a word's.
+const PART: usize = 8192;
+
+// So many bytes are gathered, and a line more.
+const ENOUGH: usize = 57344;
+
+// Writes what is gathered; what can't be written is dropped.
+fn flush(said: &mut String, to: &mut impl Write) {
+    let _ = to.write_all(said.as_bytes());
+    said.clear();
 }
 
-// Every log of the input: an empty line behind words ends one, and so does the input's end. An input without any is one empty log.
-fn check_logs(alloc: Global, from: &mut impl BufRead, to: &mut impl Write) -> io::Result<()> {
+// The line on a log.
+fn tell(log: &Log, said: &mut String) -> Result<(), AllocError> {
+    writeln!(said, "{}", Outcome::of(log))
+}
+
+// Every log of the input: an empty line behind words ends one, and so does the input's end. An input without any is one empty log. Of a line only the first part
+// counts: what is longer is no word.
+fn check_logs(
+    alloc: Global,
+    from: &mut impl BufRead,
+    to: &mut impl Write,
+    said: &mut String,
+) -> Result<(), AllocError> {
     let mut log = Log::new(alloc);
-    let mut line = Vec::new(alloc);
+    let mut part = Vec::new(alloc);
+    let mut begins = true;
     let mut told = false;
     for _ in 0..u64::MAX {
-        if !text::read_line(from, &mut line)? {
+        if !text::read_part(from, &mut part, PART)? {
             break;
         }
-        let digits = line.strip_suffix(b"\n").unwrap_or(&line);
-        if !digits.is_empty() {
+        let whole = part.strip_suffix(b"\n");
+        let digits = whole.unwrap_or(&part);
+        if begins && !digits.is_empty() {
             log.push(text::hex_word(digits))?;
-        } else if !log.is_empty() {
-            tell(&log, to);
+        } else if begins && !log.is_empty() {
+            tell(&log, said)?;
             log.clear();
             told = true;
         }
+        begins = whole.is_some();
+        if !begins && part.len() < PART {
+            break;
+        }
+        if ENOUGH <= said.len() {
+            flush(said, to);
+        }
     }
     if !told || !log.is_empty() {
-        tell(&log, to);
+        tell(&log, said)?;
     }
     Ok(())
 }
 
+// Where memory runs short, what was gathered is written before that is answered.
 fn main(rt: HostRuntime) -> io::Result<()> {
     let alloc = rt.alloc();
     let mut from = BufReader::new(alloc, rt.reader())?;
-    let mut to = BufWriter::new(alloc, io::writer(&rt))?;
-    check_logs(alloc, &mut from, &mut to)?;
-    let _ = to.flush();
+    let mut to = rt.stdout();
+    let mut said = String::new(alloc);
+    let checked = check_logs(alloc, &mut from, &mut to, &mut said);
+    flush(&mut said, &mut to);
+    checked?;
     Ok(())
 }

@@ -19,7 +19,7 @@ pub fn number_of(call: [u8; 7]) -> u64
     ensures { result ≡ packed call }
 {
     let mut v = 0;
-    for c in call {
+    for &c in &call {
         v = v * 38 + digit_of(c);
     }
     v
