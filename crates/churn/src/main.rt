@@ -27,7 +27,7 @@ fn day(port: &mut Port, tally: &mut Tally) -> Result<(), AllocError> {
     Ok(())
 }
 
-// Where memory runs out, what was gathered by then is written all the same.
+// Where memory runs out, what was counted by then is written all the same, if its text still finds room.
 fn main(rt: HostRuntime) -> Result<(), AllocError> {
     let mut port = Port::new(rt.alloc())?;
     let mut tally = Tally::default();
