@@ -4,7 +4,6 @@ use crate::chance::{Call, Drawn};
 use net::Station;
 use refusal::Refusal;
 use station::Answered;
-use std::alloc::{AllocError, Global};
 
 // Seconds: a call every 4.32 of them.
 pub fn time(i: u32) -> f64 {
@@ -20,38 +19,36 @@ fn level(x: u32) -> f32 {
 #[derive(Drop)]
 pub struct Port {
     pub station: Station,
-    pub out: Vec<u32>,
-    store: Vec<u8>,
-    alloc: Global,
+    pub out: [u32; 8192],
+    store: [u8; 64000],
 }
 
 impl Port {
     // At a first start.
-    pub fn new(alloc: Global) -> Result<Port, AllocError> {
-        let store = vec![in alloc; 0u8; 64000]?;
+    pub fn new() -> Port {
+        let store = [0u8; 64000];
         let r = station::start(preset::blank(), preset::tape_settings(), &store);
-        Ok(Port {
+        Port {
             station: r.station,
-            out: vec![in alloc; 0u32; 8192]?,
+            out: [0; 8192],
             store,
-            alloc,
-        })
+        }
     }
 
-    pub fn call(&mut self, d: Drawn, now: f64) -> Result<Result<usize, Refusal>, AllocError> {
+    pub fn call(&mut self, d: Drawn, now: f64) -> Result<usize, Refusal> {
         let s = self.station;
         let r = match d.call {
             Call::SignOff => station::sign_off(s, (d.a % 64) as u8),
             Call::Admit => self.admitted(d, now),
-            Call::NewBoat => self.heard(&burst::new_boat(self.alloc, d)?, d, now),
-            Call::Idle => self.heard(&burst::idle(self.alloc, s, d)?, d, now),
-            Call::Reply => self.heard(&burst::reply(self.alloc, s, d)?, d, now),
+            Call::NewBoat => self.heard(&burst::new_boat(d), d, now),
+            Call::Idle => self.heard(&burst::idle(s, d), d, now),
+            Call::Reply => self.heard(&burst::reply(s, d), d, now),
             Call::Decide => self.decided(now),
             Call::Sent => station::sent(s, now),
             Call::Empty => self.emptied((d.a % 10) as usize),
         };
         self.station = r.station;
-        Ok(r.answer)
+        r.answer
     }
 
     // A direct admission: two in three without a relay.

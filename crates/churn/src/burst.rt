@@ -1,26 +1,17 @@
 // Bursts of boats: words of a head and its frames.
 use crate::chance::Drawn;
+use arrayvec::ArrayVec;
 use net::Station;
 use out::Output;
-use std::alloc::{AllocError, Global};
 
-// A frame behind the words.
-fn put_frame(
-    words: &mut Vec<u32>,
-    flags: u8,
-    field: u32,
-    payload: &[u8],
-) -> Result<(), AllocError> {
-    // Words 10 and 11, and 85 words 12 at most.
-    let mut frame = [0u32; 87];
-    let mut o = Output {
-        words: &mut frame,
-        at: 0,
-    };
-    o.frame(flags, field, payload, payload.len());
-    let n = o.at;
-    words.extend(frame.iter().copied().take(n))?;
-    Ok(())
+// The words of a burst: none here has as many as there is room for.
+pub type Burst = ArrayVec<u32, 64>;
+
+// The first n words.
+fn burst_of(words: [u32; 64], n: usize) -> Burst {
+    let mut burst = Burst::from(words);
+    burst.truncate(n);
+    burst
 }
 
 fn low(x: u32) -> u8 {
@@ -45,20 +36,20 @@ fn speaker(s: Station, d: Drawn) -> u8 {
     }
 }
 
-fn checkin(words: &mut Vec<u32>, x: u32, y: u32) -> Result<(), AllocError> {
+fn checkin(out: &mut Output, x: u32, y: u32) {
     let [a, b, c, d, e] = call_of(x);
     let report = [2, a, b, c, d, e, field_of(y), low(y % 32), 2, 1];
-    put_frame(words, 0xbf, 0, &report)
+    out.frame(0xbf, 0, &report, report.len());
 }
 
-fn overheard(words: &mut Vec<u32>, slot: u8, x: u32, y: u32) -> Result<(), AllocError> {
+fn overheard(out: &mut Output, slot: u8, x: u32, y: u32) {
     let [a, b, c, d, e] = call_of(x);
     let report = [4, a, b, c, d, e, field_of(y), 4, 2];
-    put_frame(words, 0x80 + slot % 64, 0, &report)
+    out.frame(0x80 + slot % 64, 0, &report, report.len());
 }
 
 // The boat hears us, and three others.
-fn report(words: &mut Vec<u32>, slot: u8, x: u32, y: u32) -> Result<(), AllocError> {
+fn report(out: &mut Output, slot: u8, x: u32, y: u32) {
     let report = [
         3,
         slot,
@@ -79,57 +70,69 @@ fn report(words: &mut Vec<u32>, slot: u8, x: u32, y: u32) -> Result<(), AllocErr
         low(x / 64 % 62),
         field_of(y / 64),
     ];
-    put_frame(words, 0x80 + slot % 64, 0, &report)
+    out.frame(0x80 + slot % 64, 0, &report, report.len());
 }
 
-fn kids(words: &mut Vec<u32>, slot: u8, x: u32, y: u32) -> Result<(), AllocError> {
+fn kids(out: &mut Output, slot: u8, x: u32, y: u32) {
     let report = [10, low(x % 62), low(y % 63 + 128), low(y % 62), low(x % 60)];
-    put_frame(words, 0x80 + slot % 64, 0, &report)
+    out.frame(0x80 + slot % 64, 0, &report, report.len());
 }
 
 // Of the boat's next message, or the one after it: all of it, its first bytes, or a later part.
-fn piece(words: &mut Vec<u32>, s: Station, slot: u8, x: u32) -> Result<(), AllocError> {
+fn piece(out: &mut Output, s: Station, slot: u8, x: u32) {
     let next = net::member_at(s, slot).up.next;
     let field = (next % 256 + x % 2) % 256 * 65536;
     let mut message = [7u8; 40];
     message[0] = 38;
     message[1] = 0;
     match x / 2 % 4 {
-        0 => put_frame(words, slot % 64, field + 20, &message[20..]),
-        1 => put_frame(words, slot % 64, field, &message[..20]),
-        _ => put_frame(words, slot % 64, field, &message),
+        0 => out.frame(slot % 64, field + 20, &message[20..], 20),
+        1 => out.frame(slot % 64, field, &message[..20], 20),
+        _ => out.frame(slot % 64, field, &message, 40),
     }
 }
 
 // A boat's burst: its report, pieces, and what it heard of others.
-pub fn reply(alloc: Global, s: Station, d: Drawn) -> Result<Vec<u32>, AllocError> {
+pub fn reply(s: Station, d: Drawn) -> Burst {
     let slot = speaker(s, d);
     let burst = u32::from(net::member_at(s, slot).burst);
-    let mut words = vec![in alloc; 0x8060_0000 + burst % 4 * 131072]?;
-    report(&mut words, slot, d.a, d.b)?;
-    piece(&mut words, s, slot, d.b)?;
-    piece(&mut words, s, slot, d.a / 8)?;
+    let mut words = [0u32; 64];
+    let mut out = Output {
+        words: &mut words,
+        at: 0,
+    };
+    out.word(0x8060_0000 + burst % 4 * 131072);
+    report(&mut out, slot, d.a, d.b);
+    piece(&mut out, s, slot, d.b);
+    piece(&mut out, s, slot, d.a / 8);
     match d.a % 3 {
-        0 => overheard(&mut words, slot, d.b / 16, d.a / 4)?,
-        1 => kids(&mut words, slot, d.b, d.a / 2)?,
+        0 => overheard(&mut out, slot, d.b / 16, d.a / 4),
+        1 => kids(&mut out, slot, d.b, d.a / 2),
         _ => {}
     }
-    Ok(words)
+    let n = out.at;
+    burst_of(words, n)
 }
 
 // A check-in; now and then two.
-pub fn new_boat(alloc: Global, d: Drawn) -> Result<Vec<u32>, AllocError> {
-    let mut words = vec![in alloc; 0x8010_0000]?;
-    checkin(&mut words, d.a, d.b)?;
+pub fn new_boat(d: Drawn) -> Burst {
+    let mut words = [0u32; 64];
+    let mut out = Output {
+        words: &mut words,
+        at: 0,
+    };
+    out.word(0x8010_0000);
+    checkin(&mut out, d.a, d.b);
     if d.b % 4 == 0 {
-        checkin(&mut words, d.b / 4, d.a)?;
+        checkin(&mut out, d.b / 4, d.a);
     }
-    Ok(words)
+    let n = out.at;
+    burst_of(words, n)
 }
 
 // A burst with no frames: nothing to send.
-pub fn idle(alloc: Global, s: Station, d: Drawn) -> Result<Vec<u32>, AllocError> {
+pub fn idle(s: Station, d: Drawn) -> [u32; 1] {
     let slot = u32::from(speaker(s, d) % 64);
     let level = u32::from(field_of(d.b) % 64);
-    Ok(vec![in alloc; 0x87c8_0000 + slot + level * 64]?)
+    [0x87c8_0000 + slot + level * 64]
 }

@@ -9,31 +9,30 @@ mod holds;
 mod tell;
 
 use act::Port;
+use arrayvec::ArrayString;
 use chance::Chance;
-use std::alloc::AllocError;
-use std::io::Write;
+use std::fmt::Write;
+use std::io;
 use tell::Tally;
 
 // The calls of the day, one after the other.
-fn day(port: &mut Port, tally: &mut Tally) -> Result<(), AllocError> {
+fn day() -> Tally {
+    let mut port = Port::new();
+    let mut tally = Tally::default();
     let mut chance = Chance(20261116);
     for i in 0..20000 {
         let drawn = chance.draw();
-        let answer = port.call(drawn, act::time(i))?;
+        let answer = port.call(drawn, act::time(i));
         tally.count(drawn.call, answer, &port.out);
         tally.hold(port.station.used);
         tally.judge(i, holds::check(port.station, act::freed(drawn, answer)));
     }
-    Ok(())
+    tally
 }
 
-// Where memory runs out, what was counted by then is written all the same, if its text still finds room.
-fn main(rt: HostRuntime) -> Result<(), AllocError> {
-    let mut port = Port::new(rt.alloc())?;
-    let mut tally = Tally::default();
-    let ended = day(&mut port, &mut tally);
-    // What cannot be written is dropped.
-    let text = format!(in rt.alloc(); "{tally}")?;
-    let _ = rt.stdout().write_all(text.as_bytes());
-    ended
+// The text has room for any tally. What cannot be written is dropped.
+fn main(rt: HostRuntime) {
+    let mut text = ArrayString::<1024>::new();
+    let _ = write!(text, "{}", day());
+    let _ = io::Write::write_all(&mut rt.stdout(), text.as_str().as_bytes());
 }

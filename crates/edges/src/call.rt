@@ -1,6 +1,6 @@
 // Calls and their numbers.
-use std::alloc::AllocError;
-use std::fmt;
+use crate::page::Page;
+use std::fmt::{self, Write};
 
 // The seven characters of a call.
 #[derive(Clone, Copy, Debug, PartialEq, Eq)]
@@ -15,17 +15,17 @@ impl fmt::Display for Call {
     }
 }
 
-fn packed(text: &mut String, call: [u8; 7]) -> Result<(), AllocError> {
+fn packed(text: &mut Page, call: [u8; 7]) -> fmt::Result {
     let number = wire::calls::number_of(call);
     writeln!(text, "  \"{}\" is {number}", Call(call))
 }
 
-fn read(text: &mut String, number: u64) -> Result<(), AllocError> {
+fn read(text: &mut Page, number: u64) -> fmt::Result {
     let call = Call(wire::calls::unpack_number(number));
     writeln!(text, "  {number} reads \"{call}\"")
 }
 
-pub fn p_calls(text: &mut String) -> Result<(), AllocError> {
+pub fn p_calls(text: &mut Page) -> fmt::Result {
     writeln!(text, "Calls: document 01, P calls")?;
     packed(text, *b"       ")?;
     packed(text, *b"0      ")?;

@@ -3,28 +3,26 @@
 
 mod call;
 mod number;
+mod page;
 mod serial;
 mod short;
 
-use std::alloc::AllocError;
-use std::io::Write;
+use page::Page;
+use std::fmt;
 
-fn examples(text: &mut String) -> Result<(), AllocError> {
-    number::p_numbers(text)?;
-    number::ends(text)?;
-    call::p_calls(text)?;
-    short::calls(text)?;
-    serial::two_bits(text)?;
-    serial::eight_bits(text)?;
-    serial::pairs(text)?;
-    serial::sums(text)
+fn examples(page: &mut Page) -> fmt::Result {
+    number::p_numbers(page)?;
+    number::ends(page)?;
+    call::p_calls(page)?;
+    short::calls(page)?;
+    serial::two_bits(page)?;
+    serial::eight_bits(page)?;
+    serial::pairs(page)?;
+    serial::sums(page)
 }
 
-// Where memory runs out, what was gathered by then is written all the same.
-fn main(rt: HostRuntime) -> Result<(), AllocError> {
-    let mut text = String::new(rt.alloc());
-    let ended = examples(&mut text);
-    // What cannot be written is dropped.
-    let _ = rt.stdout().write_all(text.as_bytes());
-    ended
+fn main(rt: HostRuntime) {
+    let mut page = Page::new(rt.stdout());
+    let _ = examples(&mut page);
+    page.flush();
 }

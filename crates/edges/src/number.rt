@@ -1,6 +1,6 @@
 // Message numbers made whole near the lowest number not handed over.
-use std::alloc::AllocError;
-use std::fmt;
+use crate::page::Page;
+use std::fmt::{self, Write};
 
 // The number that `on_air` stands for near `next`.
 #[derive(Clone, Copy, Debug, PartialEq, Eq)]
@@ -18,12 +18,12 @@ impl fmt::Display for Widened {
     }
 }
 
-fn line(text: &mut String, next: u32, on_air: u8) -> Result<(), AllocError> {
+fn line(text: &mut Page, next: u32, on_air: u8) -> fmt::Result {
     let number = Widened { on_air, next };
     writeln!(text, "  next {next}, on air {on_air}: {number}")
 }
 
-pub fn p_numbers(text: &mut String) -> Result<(), AllocError> {
+pub fn p_numbers(text: &mut Page) -> fmt::Result {
     writeln!(text, "Message numbers: document 01, P numbers")?;
     line(text, 200, 10)?;
     line(text, 300, 171)?;
@@ -31,7 +31,7 @@ pub fn p_numbers(text: &mut String) -> Result<(), AllocError> {
     line(text, 0, 128)
 }
 
-pub fn ends(text: &mut String) -> Result<(), AllocError> {
+pub fn ends(text: &mut Page) -> fmt::Result {
     writeln!(
         text,
         "Message numbers: distance 127, 128 and 255, and the highest next"

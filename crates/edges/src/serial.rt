@@ -3,9 +3,9 @@ ghost use Rattle.std.specs.Prelude.{◌≡◌, ◌+◌, ◌*◌, ◌%◌, ◌<�
 ghost use Rattle.wire.specs.Numbers.{serial_lt};
 
 use crate::number::Widened;
-use std::alloc::AllocError;
+use crate::page::Page;
 use std::cmp::Ordering;
-use std::fmt;
+use std::fmt::{self, Write};
 
 // a is less than b.
 fn is_less(half: u8, a: u8, b: u8) -> bool
@@ -60,7 +60,7 @@ impl fmt::Display for Compared {
     }
 }
 
-pub fn two_bits(text: &mut String) -> Result<(), AllocError> {
+pub fn two_bits(text: &mut Page) -> fmt::Result {
     writeln!(text, "Order: RFC 1982, section 5.1, SERIAL_BITS 2")?;
     for (a, b) in [
         (1, 0),
@@ -79,14 +79,14 @@ pub fn two_bits(text: &mut String) -> Result<(), AllocError> {
 }
 
 // a against b, and what the station makes of a while it waits for a number whose eight bits are b.
-fn eight(text: &mut String, a: u8, b: u8) -> Result<(), AllocError> {
+fn eight(text: &mut Page, a: u8, b: u8) -> fmt::Result {
     let next = 256 + u32::from(b);
     let compared = Compared { half: 128, a, b };
     let number = Widened { on_air: a, next };
     writeln!(text, "  {compared}; on air {a}, next {next}: {number}")
 }
 
-pub fn eight_bits(text: &mut String) -> Result<(), AllocError> {
+pub fn eight_bits(text: &mut Page) -> fmt::Result {
     writeln!(
         text,
         "Order: RFC 1982, section 5.2, SERIAL_BITS 8, and message numbers"
@@ -110,7 +110,7 @@ pub fn eight_bits(text: &mut String) -> Result<(), AllocError> {
 }
 
 // The 128 pairs at distance 128, of which neither is less.
-pub fn pairs(text: &mut String) -> Result<(), AllocError> {
+pub fn pairs(text: &mut Page) -> fmt::Result {
     writeln!(
         text,
         "The same, the pairs 0 and 128 to 127 and 255, which it leaves undefined"
@@ -122,14 +122,14 @@ pub fn pairs(text: &mut String) -> Result<(), AllocError> {
     Ok(())
 }
 
-fn added(text: &mut String, half: u8, a: u8, n: u8) -> Result<(), AllocError>
+fn added(text: &mut Page, half: u8, a: u8, n: u8) -> fmt::Result
     requires { 0 < half }
 {
     let sum = sum(half, a, n);
     writeln!(text, "  {a} + {n} = {sum}")
 }
 
-pub fn sums(text: &mut String) -> Result<(), AllocError> {
+pub fn sums(text: &mut Page) -> fmt::Result {
     writeln!(text, "Sums: RFC 1982, section 5.1, SERIAL_BITS 2")?;
     for a in 0..4 {
         added(text, 2, a, 1)?;
@@ -142,7 +142,7 @@ pub fn sums(text: &mut String) -> Result<(), AllocError> {
 }
 
 // a + n, and then + n once more, each against a.
-fn added_twice(text: &mut String, a: u8, n: u8) -> Result<(), AllocError> {
+fn added_twice(text: &mut Page, a: u8, n: u8) -> fmt::Result {
     let b = (sum(128, a, n) % 256) as u8;
     let c = (sum(128, b, n) % 256) as u8;
     let once = Compared {

@@ -14,59 +14,57 @@ mod parts;
 mod roster;
 mod word;
 
+use arrayvec::ArrayVec;
 use lines::Explainer;
-use std::alloc::{AllocError, Global};
-use std::io::{self, BufRead, BufReader, Write};
+use std::io::{Stdout, Write};
 
-// A line is read in parts of so many bytes, more than a word's.
-const PART: usize = 8192;
+// What is read is taken in parts of so many bytes.
+const PART: usize = 4096;
 
-// So many bytes are gathered, and what a part adds.
-const ENOUGH: usize = 57344;
+// So many bytes are gathered, and what a part of a line adds has room behind them: its bytes, three for each two of them in a message, and one line that is made.
+const ENOUGH: usize = 24576;
+
+// What is gathered.
+pub type Said = ArrayVec<u8, 45056>;
 
 // Writes what is gathered; what can't be written is dropped.
-fn flush(said: &mut Vec<u8>, to: &mut impl Write) {
+fn flush(said: &mut Said, mut to: Stdout) {
     let _ = to.write_all(said);
     said.clear();
 }
 
-// The whole input, part by part. A last line needs no line end: without one nothing is said of a frame that it leaves open.
-fn explain_all(
-    alloc: Global,
-    from: &mut impl BufRead,
-    to: &mut impl Write,
-    said: &mut Vec<u8>,
-) -> Result<(), AllocError> {
-    let mut explainer = Explainer::new(alloc);
-    let mut part = Vec::new(alloc);
-    for _ in 0..u64::MAX {
-        if !text::read_part(from, &mut part, PART)? {
-            return explainer.end(said);
-        }
-        let whole = part.strip_suffix(b"\n");
-        let is_last = whole.is_none() && part.len() < PART;
-        explainer.part(whole.unwrap_or(&part), said)?;
-        if whole.is_some() || is_last {
-            explainer.line_end(said)?;
-        }
-        if is_last {
-            break;
-        }
+// The lines of a part, of which the last may go on in the next.
+fn feed(explainer: &mut Explainer, part: &[u8], said: &mut Said, to: Stdout) {
+    for line in part.split_inclusive(|b| *b == b'\n') {
         if ENOUGH <= said.len() {
             flush(said, to);
         }
+        let whole = line.strip_suffix(b"\n");
+        explainer.part(whole.unwrap_or(line), said);
+        if whole.is_some() {
+            explainer.line_end(said);
+        }
     }
-    Ok(())
 }
 
-// Where memory runs short, what was gathered is written before that is answered.
-fn main(rt: HostRuntime) -> io::Result<()> {
-    let alloc = rt.alloc();
-    let mut from = BufReader::new(alloc, rt.reader())?;
-    let mut to = rt.stdout();
-    let mut said = Vec::new(alloc);
-    let explained = explain_all(alloc, &mut from, &mut to, &mut said);
-    flush(&mut said, &mut to);
-    explained?;
-    Ok(())
+fn feed_all(explainer: &mut Explainer, read: &[u8], said: &mut Said, to: Stdout) {
+    for part in read.chunks(PART) {
+        feed(explainer, part, said, to);
+    }
+}
+
+// Standard input to its end, at most 2^64 - 1 times 65,536 bytes. A last line needs no line end: without one nothing is said of a frame that it leaves open.
+fn main(rt: HostRuntime) {
+    let mut explainer = Explainer::new();
+    let mut said = Said::new();
+    let mut read = [0u8; 65536];
+    for _ in 0..u64::MAX {
+        let n = text::read_full(rt.stdin(), &mut read);
+        feed_all(&mut explainer, &read[..n], &mut said, rt.stdout());
+        if n < read.len() {
+            break;
+        }
+    }
+    explainer.end(&mut said);
+    flush(&mut said, rt.stdout());
 }

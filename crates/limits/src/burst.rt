@@ -1,7 +1,7 @@
 // Stations and bursts for the cases.
+use arrayvec::ArrayVec;
 use net::Station;
 use out::Output;
-use std::alloc::{AllocError, Global};
 
 // A station of `tape`'s settings over the whole store.
 pub fn fresh(store: &[u8]) -> Station {
@@ -27,18 +27,17 @@ pub fn turned(s: Station, time: f64, out: &mut [u32]) -> Station {
 // Word 8: code 0, burst 0.
 pub const HEAD: u32 = 0x8000_0000;
 
-// A burst of one frame from the boat in slot 0, a piece of its message with this number at offset 0.
-pub fn piece(alloc: Global, number: u32, payload: &[u8]) -> Result<Vec<u32>, AllocError> {
-    // Words 10 and 11, and 85 words 12 at most.
-    let mut frame = [0u32; 87];
-    let field = number % 256 * 65536;
+// A burst of one frame from the boat in slot 0, a piece of its message with this number at offset 0: words 8, 10 and 11, and 85 words 12 at most.
+pub fn piece(number: u32, payload: &[u8]) -> ArrayVec<u32, 88> {
+    let mut words = [0u32; 88];
     let mut o = Output {
-        words: &mut frame,
+        words: &mut words,
         at: 0,
     };
-    o.frame(0, field, payload, payload.len());
+    o.word(HEAD);
+    o.frame(0, number % 256 * 65536, payload, payload.len());
     let n = o.at;
-    let mut burst = vec![in alloc; HEAD]?;
-    burst.extend(frame.iter().copied().take(n))?;
-    Ok(burst)
+    let mut burst = ArrayVec::from(words);
+    burst.truncate(n);
+    burst
 }

@@ -3,7 +3,7 @@ use crate::burst;
 use crate::trial::Trial;
 use net::Station;
 use station::Heard;
-use std::alloc::AllocError;
+use std::fmt;
 
 // The boat in slot 0 has handed over every number below next.
 fn at_number(mut s: Station, next: u32) -> Station {
@@ -12,16 +12,16 @@ fn at_number(mut s: Station, next: u32) -> Station {
 }
 
 // A piece of the boat's next message is received.
-fn piece(trial: &mut Trial, s: Station, next: u32, payload: &[u8]) -> Result<Heard, AllocError> {
-    let burst = burst::piece(*trial.text.allocator(), next, payload)?;
-    Ok(station::receive(
+fn piece(trial: &mut Trial, s: Station, next: u32, payload: &[u8]) -> Heard {
+    let burst = burst::piece(next, payload);
+    station::receive(
         at_number(s, next),
         &burst,
         0.0,
         1.0,
         &mut trial.store,
         &mut trial.out,
-    ))
+    )
 }
 
 fn with_boat(trial: &mut Trial) -> Station {
@@ -29,10 +29,10 @@ fn with_boat(trial: &mut Trial) -> Station {
 }
 
 // Three bytes of which the first two say a length of 1.
-pub fn numbers(trial: &mut Trial) -> Result<(), AllocError> {
+pub fn numbers(trial: &mut Trial) -> fmt::Result {
     let s = with_boat(trial);
     for next in [4294967039, 4294967040] {
-        let r = piece(trial, s, next, &[1, 0, 7])?;
+        let r = piece(trial, s, next, &[1, 0, 7]);
         trial.number("message of number", u64::from(next))?;
         trial.number("  pieces not kept, as a mask", r.mask)?;
         let lowest = r.station.members[0].up.next;
@@ -42,9 +42,9 @@ pub fn numbers(trial: &mut Trial) -> Result<(), AllocError> {
 }
 
 // A length of 2,047 shown with the first number that is too high: the number limit comes first, and nothing is barred (request U4).
-pub fn claims(trial: &mut Trial) -> Result<(), AllocError> {
+pub fn claims(trial: &mut Trial) -> fmt::Result {
     let s = with_boat(trial);
-    let r = piece(trial, s, 4294967040, &[255, 7])?;
+    let r = piece(trial, s, 4294967040, &[255, 7]);
     trial.number("a length of 2,047 there: not kept, as a mask", r.mask)?;
     let barred = r.station.members[0].up.barlow;
     trial.number("  barred from there on, as a mask", barred)
@@ -65,7 +65,7 @@ fn at_the_end(mut s: Station) -> Station {
 }
 
 // The list of members is sent, then the boat is polled, then its time is over.
-pub fn counters(trial: &mut Trial) -> Result<(), AllocError> {
+pub fn counters(trial: &mut Trial) -> fmt::Result {
     let mut s = at_the_end(with_boat(trial));
     for time in [200.0, 300.0, 400.0] {
         s = burst::turned(s, time, &mut trial.out);

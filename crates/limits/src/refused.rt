@@ -1,9 +1,9 @@
 // Refusals that no script reaches: 7 with a store below a cell, 4, 7 after the start and for the directed queue, 1 and 2 with a NaN.
 use crate::burst;
 use crate::trial::Trial;
-use std::alloc::AllocError;
+use std::fmt;
 
-pub fn short(trial: &mut Trial) -> Result<(), AllocError> {
+pub fn short(trial: &mut Trial) -> fmt::Result {
     let g = preset::tape_settings();
     let r = station::start(preset::blank(), g, &[0u8; 6399]);
     trial.answer("start over 6,399 bytes", r.answer)?;
@@ -11,7 +11,7 @@ pub fn short(trial: &mut Trial) -> Result<(), AllocError> {
     trial.answer("start over 6,400 bytes", r.answer)
 }
 
-pub fn output(trial: &mut Trial) -> Result<(), AllocError> {
+pub fn output(trial: &mut Trial) -> fmt::Result {
     let s = burst::fresh(&trial.store);
     let mut less = [0u32; 8191];
     let queue = [0u8; 126976];
@@ -23,7 +23,7 @@ pub fn output(trial: &mut Trial) -> Result<(), AllocError> {
     trial.answer("direct admission, output of 8,191 words", r.answer)
 }
 
-pub fn store(trial: &mut Trial) -> Result<(), AllocError> {
+pub fn store(trial: &mut Trial) -> fmt::Result {
     let mut two = [0u8; 12800];
     let mut less = [0u8; 12799];
     let s = burst::fresh(&two);
@@ -39,7 +39,7 @@ pub fn store(trial: &mut Trial) -> Result<(), AllocError> {
     )
 }
 
-pub fn queue(trial: &mut Trial) -> Result<(), AllocError> {
+pub fn queue(trial: &mut Trial) -> fmt::Result {
     let s = burst::fresh(&trial.store);
     let mut less = [0u8; 126975];
     let mut queue = [0u8; 126976];
@@ -51,7 +51,7 @@ pub fn queue(trial: &mut Trial) -> Result<(), AllocError> {
     trial.answer("posting to nobody, queue of 126,976 bytes", r.answer)
 }
 
-pub fn clock(trial: &mut Trial) -> Result<(), AllocError> {
+pub fn clock(trial: &mut Trial) -> fmt::Result {
     let s = burst::fresh(&trial.store);
     let queue = [0u8; 126976];
     let r = station::next(s, f64::NAN, &queue, &mut trial.out);
@@ -62,7 +62,7 @@ pub fn clock(trial: &mut Trial) -> Result<(), AllocError> {
     trial.answer("direct admission, clock NaN", r.answer)
 }
 
-pub fn level(trial: &mut Trial) -> Result<(), AllocError> {
+pub fn level(trial: &mut Trial) -> fmt::Result {
     let s = burst::fresh(&trial.store);
     let burst = [burst::HEAD];
     let r = station::receive(s, &burst, f32::NAN, 1.0, &mut trial.store, &mut trial.out);

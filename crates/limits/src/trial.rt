@@ -1,30 +1,30 @@
 // What the cases are tried with, and the lines that tell what came of them.
+use arrayvec::ArrayString;
 use refusal::Refusal;
-use std::alloc::{AllocError, Global};
-use std::fmt;
+use std::fmt::{self, Write};
 
-// The store and the output that the station is lent.
+// The store and the output that the station is lent, and the text of all lines.
 #[derive(Drop)]
 pub struct Trial {
-    pub store: Vec<u8>,
-    pub out: Vec<u32>,
-    pub text: String,
+    pub store: [u8; 64000],
+    pub out: [u32; 8192],
+    pub text: ArrayString<2048>,
 }
 
 impl Trial {
-    pub fn new(alloc: Global) -> Result<Trial, AllocError> {
-        Ok(Trial {
-            store: vec![in alloc; 0u8; 64000]?,
-            out: vec![in alloc; 0u32; 8192]?,
-            text: String::new(alloc),
-        })
+    pub fn new() -> Trial {
+        Trial {
+            store: [0; 64000],
+            out: [0; 8192],
+            text: ArrayString::new(),
+        }
     }
 
-    pub fn number(&mut self, what: &str, number: u64) -> Result<(), AllocError> {
+    pub fn number(&mut self, what: &str, number: u64) -> fmt::Result {
         writeln!(self.text, "{what}: {number}")
     }
 
-    pub fn answer(&mut self, what: &str, answer: Result<usize, Refusal>) -> Result<(), AllocError> {
+    pub fn answer(&mut self, what: &str, answer: Result<usize, Refusal>) -> fmt::Result {
         writeln!(self.text, "{what}: {}", Told(answer))
     }
 }

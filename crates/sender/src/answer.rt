@@ -1,6 +1,6 @@
 // What a command answers, and why it has no answer.
+use arrayvec::CapacityError;
 use refusal::Refusal;
-use std::alloc::{AllocError, AllocFailed};
 use std::fmt;
 
 #[derive(Debug, Drop)]
@@ -50,7 +50,6 @@ pub enum Error {
     Malformed,
     // The sending end refused.
     Refused(Refusal),
-    OutOfMemory,
 }
 
 // The line of a refusal's number.
@@ -59,7 +58,6 @@ impl fmt::Display for Error {
         match self {
             Error::Malformed => f.write_str("00000003\n"),
             Error::Refused(refusal) => write_line(f, u64::from(u8::from(*refusal))),
-            Error::OutOfMemory => writeln!(f, "out of memory"),
         }
     }
 }
@@ -70,21 +68,9 @@ impl From<Refusal> for Error {
     }
 }
 
-impl From<AllocError> for Error {
-    fn from(_e: AllocError) -> Error {
-        Error::OutOfMemory
-    }
-}
-
-impl<T: Drop> From<AllocFailed<T>> for Error {
-    fn from(_e: AllocFailed<T>) -> Error {
-        Error::OutOfMemory
-    }
-}
-
-// Nothing else than memory fails where an answer is printed.
-impl From<fmt::Error> for Error {
-    fn from(_e: fmt::Error) -> Error {
-        Error::OutOfMemory
+// What a command has no room for is malformed.
+impl<T: Drop> From<CapacityError<T>> for Error {
+    fn from(_e: CapacityError<T>) -> Error {
+        Error::Malformed
     }
 }

@@ -2,10 +2,14 @@
 ghost use Rattle.std.specs.Prelude.{◌≤◌, IfOk};
 
 use crate::answer::Error;
+use arrayvec::ArrayVec;
 use words::Item;
 
-// A body has no more bytes than this.
-const MOST: usize = 2300;
+// The bytes of a body: one with more is malformed.
+pub type Body = ArrayVec<u8, 2300>;
+
+// The numbers in a frame: no payload has more.
+pub type Numbers = ArrayVec<u32, 63>;
 
 // How long the payload of a frame with flags and field 0 is.
 fn payload_len(item: Item) -> Result<usize, Error>
@@ -22,7 +26,7 @@ fn payload_len(item: Item) -> Result<usize, Error>
 }
 
 // One frame or more: their payloads joined, in place of what `body` held.
-pub fn joined(words: &[u32], body: &mut Vec<u8>) -> Result<(), Error> {
+pub fn joined(words: &[u32], body: &mut Body) -> Result<(), Error> {
     body.clear();
     if words.is_empty() {
         return Err(Error::Malformed);
@@ -31,10 +35,7 @@ pub fn joined(words: &[u32], body: &mut Vec<u8>) -> Result<(), Error> {
     // A while: a step is as long as its frame.
     while !rest.is_empty() {
         let len = payload_len(words::item_at(rest))?;
-        body.extend_from_slice(&words::payload(rest, 0, len)[..len])?;
-        if MOST < body.len() {
-            return Err(Error::Malformed);
-        }
+        body.try_extend_from_slice(&words::payload(rest, 0, len)[..len])?;
         let size = 2 + words::words_for(len);
         rest = &rest[size.min(rest.len())..];
     }
@@ -42,7 +43,7 @@ pub fn joined(words: &[u32], body: &mut Vec<u8>) -> Result<(), Error> {
 }
 
 // One frame: the numbers in its payload, each lowest byte first, in place of what `numbers` held.
-pub fn numbers(words: &[u32], numbers: &mut Vec<u32>) -> Result<(), Error> {
+pub fn numbers(words: &[u32], numbers: &mut Numbers) -> Result<(), Error> {
     let item = words::item_at(words);
     let len = payload_len(item)?;
     if words::size_of(item) != words.len() {
@@ -54,6 +55,8 @@ pub fn numbers(words: &[u32], numbers: &mut Vec<u32>) -> Result<(), Error> {
         return Err(Error::Malformed);
     }
     numbers.clear();
-    numbers.extend(each.iter().map(|number| u32::from_le_bytes(*number)))?;
+    for number in each {
+        numbers.try_push(u32::from_le_bytes(*number))?;
+    }
     Ok(())
 }

@@ -11,44 +11,41 @@ mod output;
 mod session;
 
 use answer::Error;
+use arrayvec::ArrayString;
 use output::Output;
 use session::Session;
 
 // The words of a part of the input; fewer than four bytes at its end are a word that was cut short.
-fn feed(session: &mut Session, part: &[u8], output: &mut Output) -> Result<(), Error> {
+fn feed(session: &mut Session, part: &[u8], output: &mut Output) {
     let (words, _cut) = part.as_chunks::<4>();
     for bytes in words {
         let word = u32::from_be_bytes(*bytes);
         if Session::is_end(word) {
-            output.tell(session.finish())?;
+            output.tell(session.finish());
         }
-        output.tell(session.word(word))?;
+        output.tell(session.word(word));
     }
-    Ok(())
 }
 
 // Standard input to its end, at most 2^64 - 1 parts of 65,536 bytes.
-fn run(rt: &HostRuntime, output: &mut Output) -> Result<(), Error> {
-    let mut session = Session::new(rt.alloc())?;
+fn main(rt: HostRuntime) {
+    let mut words = [0u32; session::MOST + 1];
+    let mut session = Session::new(&mut words);
+    let mut output = Output {
+        to: rt.stdout(),
+        text: ArrayString::new(),
+    };
     let mut part = [0u8; 65536];
     for _ in 0..u64::MAX {
         let n = text::read_full(rt.stdin(), &mut part);
-        feed(&mut session, &part[..n], output)?;
+        feed(&mut session, &part[..n], &mut output);
         if n < part.len() {
-            output.tell(session.finish())?;
+            output.tell(session.finish());
             if n % 4 != 0 {
-                output.tell(Err(Error::Malformed))?;
+                output.tell(Err(Error::Malformed));
             }
             break;
         }
     }
-    Ok(())
-}
-
-// Where memory runs out, what was gathered by then is written all the same.
-fn main(rt: HostRuntime) -> Result<(), Error> {
-    let mut output = Output::new(rt.alloc(), rt.stdout());
-    let ended = run(&rt, &mut output);
     output.flush();
-    ended
 }

@@ -1,41 +1,46 @@
 // The sending end, and what the commands ask of it.
 use crate::answer::{Answer, Error};
+use crate::argument::{Body, Numbers};
 use crate::command::{Command, Open};
 use crate::{argument, command};
+use out::Output;
 use outbox::sender::Sender;
 use outbox::{leave, sender, taking};
-use std::alloc::{AllocError, Global};
 
 // No command has more words, and no answer.
-const MOST: usize = 8192;
+pub const MOST: usize = 8192;
 
-// The sending end with its two memories, the command whose words are being read, and those words, one too many at most. What they say and what `take`
-// answers lies in the three vectors behind them until the next such command.
+// The sending end with its two memories, the command whose words are being read, and those words, one too many at most, in memory that is lent; the body or
+// the numbers that the last such command said, and the words that the last `take` answered.
 #[derive(Drop)]
-pub struct Session {
+pub struct Session<'a> {
     sender: Sender,
-    bytes: Vec<u8>,
-    marks: Vec<u8>,
+    bytes: [u8; sender::MEMORY],
+    marks: [u8; sender::MEMORY],
     open: Option<Open>,
-    words: Vec<u32>,
-    body: Vec<u8>,
-    numbers: Vec<u32>,
-    taken: Vec<u32>,
+    words: Output<'a>,
+    body: Body,
+    numbers: Numbers,
+    taken: [u32; MOST],
 }
 
-impl Session {
+fn written<'a>(words: &'a Output<'_>) -> &'a [u32] {
+    &words.words[..words.at.min(words.words.len())]
+}
+
+impl<'a> Session<'a> {
     // The memories hold any bytes at first.
-    pub fn new(alloc: Global) -> Result<Session, AllocError> {
-        Ok(Session {
+    pub fn new(words: &'a mut [u32; MOST + 1]) -> Session<'a> {
+        Session {
             sender: sender::new(),
-            bytes: vec![in alloc; 171u8; sender::MEMORY]?,
-            marks: vec![in alloc; 205u8; sender::MEMORY]?,
+            bytes: [171; sender::MEMORY],
+            marks: [205; sender::MEMORY],
             open: None,
-            words: Vec::new(alloc),
-            body: Vec::new(alloc),
-            numbers: Vec::new(alloc),
-            taken: vec![in alloc; 0u32; MOST]?,
-        })
+            words: Output { words, at: 0 },
+            body: Body::new(),
+            numbers: Numbers::new(),
+            taken: [0; MOST],
+        }
     }
 
     // The words of the open command end where this word stands.
@@ -48,7 +53,7 @@ impl Session {
         let Some(open) = self.open.take() else {
             return Ok(Answer::Done);
         };
-        if MOST < self.words.len() {
+        if MOST < self.words.at {
             return Err(Error::Malformed);
         }
         match open {
@@ -72,9 +77,7 @@ impl Session {
         if self.open.is_none() {
             return Err(Error::Malformed);
         }
-        if self.words.len() <= MOST {
-            self.words.push(word)?;
-        }
+        self.words.word(word);
         Ok(Answer::Done)
     }
 
@@ -82,7 +85,7 @@ impl Session {
         match command {
             Command::Open(open) => {
                 self.open = Some(open);
-                self.words.clear();
+                self.words.at = 0;
                 Ok(Answer::Done)
             }
             Command::Take { max, room } => self.take(max, room),
@@ -96,13 +99,13 @@ impl Session {
     }
 
     fn post(&mut self) -> Result<Answer<'_>, Error> {
-        argument::joined(&self.words, &mut self.body)?;
+        argument::joined(written(&self.words), &mut self.body)?;
         sender::post(&mut self.sender, &mut self.bytes, &self.body)?;
         Ok(Answer::Done)
     }
 
     fn ack(&mut self) -> Result<Answer<'_>, Error> {
-        argument::numbers(&self.words, &mut self.numbers)?;
+        argument::numbers(written(&self.words), &mut self.numbers)?;
         let [seq, off] = self.numbers.as_slice() else {
             return Err(Error::Malformed);
         };
@@ -117,7 +120,7 @@ impl Session {
     }
 
     fn held(&mut self) -> Result<Answer<'_>, Error> {
-        argument::numbers(&self.words, &mut self.numbers)?;
+        argument::numbers(written(&self.words), &mut self.numbers)?;
         let Some((next, also)) = self.numbers.split_first() else {
             return Err(Error::Malformed);
         };

@@ -1,5 +1,5 @@
 -- What a host gives at the start, and what each exported call gives back: the entry point's own answer, with the station as a block.
-use Rattle.std.specs.Prelude.{ℕ, ◌≡◌, Bool, List, replicate, Result, Ok, Err}
+use Rattle.std.specs.Prelude.{ℕ, ◌≡◌, Bool, cond, eqb, List, length, replicate, Float, Result, Ok, Err}
 use Rattle.refusal.specs.declared.Refusal.{Refusal}
 use Rattle.refusal.specs.Numbers.{number_of, number_in}
 use Rattle.level.specs.declared.Level.{Level}
@@ -8,13 +8,15 @@ use Rattle.config.specs.declared.Given.{Given}
 use Rattle.stream.specs.Window.{bitmap_of}
 use Rattle.net.specs.declared.Station.{Station}
 use Rattle.net.specs.State.{member_at, queue_at}
+use Rattle.out.specs.Encode.{after}
 use Rattle.dues.specs.declared.Bill.{Bill}
 use Rattle.logs.specs.Turns as turns
 use Rattle.station.specs.declared.Answered.{Answered}
 use Rattle.station.specs.declared.Heard.{Heard}
 use Rattle.station.specs.declared.show.Entry.{Entry}
 use Rattle.station.specs.Refusals.{refusal_of}
-use Rattle.station.specs.Entries.{Outcome, words_in, answered, unless}
+use Rattle.station.specs.Entries.{Outcome, words_in, answered, heard_of, unless, start_of, admit_of, receive_of, next_of, post_of, sent_of, close_of, free_of}
+use Rattle.station.specs.SignOff.{sign_off_of}
 use Rattle.shore.specs.declared.answer.Plan.{Plan}
 use Rattle.shore.specs.declared.answer.Done.{Done}
 use Rattle.shore.specs.declared.answer.Poorest.{Poorest}
@@ -57,11 +59,34 @@ month_of (Err r) = record { takings = 0; charges = replicate 62 0; credits = rep
 abbrev pub checked_of : Result Bool Refusal → Checked
 checked_of v = record { refusal = number_in v; accepted = flag_of (turns.is_accepted v) }
 
+-- What a call gives back, by what it does: its own refusal's number, whichever that is, and how many words only where it is not refused; the mask is a
+-- reception's alone. `AllGivenBack` says that each exported call gives back just this.
+abbrev pub given_back : Outcome → ℕ → ℕ → Done
+given_back o room mask =
+    record { block = block_of o.station; words = cond (eqb o.refusal 0) (after room 0 (length o.words)) 0; mask = mask; refusal = o.refusal }
+
 -- The block of a station is read back as that block, and so a refused call gives back the very block that it was given: n is the number of the call's refusal,
 -- o what it would have done. (A block that no call gave may come back in the form that calls give: a flag of 7 as 1.)
 pub record RefusedKeeps : Type 0 where
   pub every : (s : Station) (n room : ℕ) (lent : List ℕ) (o : Outcome) → (n ≡ 0 → ⊥)
+      → given_back (unless n (station_of (block_of s)) lent o) room 0 ≡ record { block = block_of s; words = 0; mask = 0; refusal = n }
+  -- told by the code's `Refusal`, the number is that of the refusal which n stands for
+  pub told_as : (s : Station) (n room : ℕ) (lent : List ℕ) (o : Outcome) → (n ≡ 0 → ⊥)
       → told (answered (unless n (station_of (block_of s)) lent o) room) ≡ record { block = block_of s; words = 0; mask = 0; refusal = number_of (refusal_of n) }
-  -- of each number of document 01 it is that number that C reads
+  -- so of each number of document 01 it is that number
   pub each : (s : Station) (r : Refusal) (room : ℕ) (lent : List ℕ) (o : Outcome)
       → told (answered (unless (number_of r) (station_of (block_of s)) lent o) room) ≡ record { block = block_of s; words = 0; mask = 0; refusal = number_of r }
+
+-- What the contract of each exported call that gives back a block says of it, with any arguments, is what `given_back` says.
+pub record AllGivenBack : Type 0 where
+  pub start : (s : Station) (g : Given) (store : List ℕ) → told (answered (start_of s g store) 0) ≡ given_back (start_of s g store) 0 0
+  pub admission : (s : Station) (packed : List ℕ) (relay : ℕ) (now : Float) (room : ℕ)
+      → told (answered (admit_of s packed relay now room) room) ≡ given_back (admit_of s packed relay now room) room 0
+  pub reception : (s : Station) (words : List ℕ) (snr now : Float) (store : List ℕ) (room : ℕ)
+      → told_heard (heard_of (receive_of s words snr now store room) room) ≡ given_back (receive_of s words snr now store room) room (receive_of s words snr now store room).mask
+  pub decision : (s : Station) (now : Float) (queue : List ℕ) (room : ℕ) → told (answered (next_of s now queue room) room) ≡ given_back (next_of s now queue room) room 0
+  pub sending : (s : Station) (now : Float) → told (answered (sent_of s now) 0) ≡ given_back (sent_of s now) 0 0
+  pub closing : (s : Station) (count : ℕ) → told (answered (close_of s count) 0) ≡ given_back (close_of s count) 0 0
+  pub freeing : (s : Station) (cell : ℕ) → told (answered (free_of s cell) 0) ≡ given_back (free_of s cell) 0 0
+  pub posting : (s : Station) (slot : ℕ) (message queue : List ℕ) → told (answered (post_of s slot message queue) 0) ≡ given_back (post_of s slot message queue) 0 0
+  pub signing : (s : Station) (slot : ℕ) → told (answered (sign_off_of s slot) 0) ≡ given_back (sign_off_of s slot) 0 0

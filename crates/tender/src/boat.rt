@@ -1,16 +1,15 @@
 // The boat set: the sending end, its bursts, and the acknowledgements that it takes.
-use crate::channel::Frames;
+use crate::channel::{Burst, Frames};
 use crate::message;
 use outbox::sender::Sender;
 use outbox::{leave, sender, taking};
-use std::alloc::{AllocError, Global};
 
 // A sending end with its two memories.
 #[derive(Drop)]
 pub struct Boat {
     sender: Sender,
-    bytes: Vec<u8>,
-    marks: Vec<u8>,
+    bytes: [u8; sender::MEMORY],
+    marks: [u8; sender::MEMORY],
 }
 
 // Word 8 of a burst with this number, and more to come.
@@ -20,16 +19,16 @@ fn head(id: u32) -> u32 {
 
 impl Boat {
     // Eight messages posted; a ninth would be refused.
-    pub fn new(alloc: Global) -> Result<Boat, AllocError> {
+    pub fn new() -> Boat {
         let mut boat = Boat {
             sender: sender::new(),
-            bytes: vec![in alloc; 0u8; sender::MEMORY]?,
-            marks: vec![in alloc; 0u8; sender::MEMORY]?,
+            bytes: [0; sender::MEMORY],
+            marks: [0; sender::MEMORY],
         };
         for k in 0..8 {
-            boat.post(message::bytes(alloc, k)?.as_slice());
+            boat.post(&message::bytes(k));
         }
-        Ok(boat)
+        boat
     }
 
     fn post(&mut self, message: &[u8]) {
@@ -42,13 +41,7 @@ impl Boat {
     }
 
     // A burst of up to `room` pieces of at most `max` bytes, as the boat in slot 0 sends them: its flags are those of the pieces, 0.
-    pub fn burst(
-        &mut self,
-        alloc: Global,
-        id: u32,
-        max: usize,
-        room: usize,
-    ) -> Result<Vec<u32>, AllocError> {
+    pub fn burst(&mut self, id: u32, max: usize, room: usize) -> Burst {
         let mut out = [0u32; 8192];
         let n = taking::take(
             &mut self.sender,
@@ -59,9 +52,10 @@ impl Boat {
             &mut out,
         )
         .unwrap_or(0);
-        let mut burst = vec![in alloc; head(id)]?;
-        burst.extend(out.iter().copied().take(n))?;
-        Ok(burst)
+        let mut burst = Burst::new();
+        let _ = burst.try_push(head(id));
+        let _ = burst.try_extend_from_slice(&out[..n.min(out.len())]);
+        burst
     }
 
     // The burst got no answer.

@@ -2,7 +2,10 @@
 ghost use Rattle.std.specs.Prelude.{length};
 ghost use Rattle.std.specs.Iterator.{at_most};
 
-use std::alloc::{AllocError, Global};
+use arrayvec::ArrayVec;
+
+// A burst: a head, and nine pieces of 87 words at most. What would have no room is dropped.
+pub type Burst = ArrayVec<u32, 784>;
 
 #[derive(Clone, Copy, Debug)]
 pub struct Dice(pub u64);
@@ -42,23 +45,23 @@ impl<'a> Iterator for Frames<'a> {
 // A burst as it arrives, and how many of its frames are lost ones.
 #[derive(Drop)]
 pub struct Arrived {
-    pub words: Vec<u32>,
+    pub words: Burst,
     pub lost: usize,
 }
 
 // The burst as it arrives: each frame is lost one time in four.
-pub fn through(alloc: Global, dice: &mut Dice, burst: &[u32]) -> Result<Arrived, AllocError> {
-    let mut words = Vec::new(alloc);
+pub fn through(dice: &mut Dice, burst: &[u32]) -> Arrived {
+    let mut words = Burst::new();
     let mut lost: usize = 0;
     let (head, frames) = burst.split_at(burst.len().min(1));
-    words.extend_from_slice(head)?;
+    let _ = words.try_extend_from_slice(head);
     for frame in Frames(frames) {
         if dice.one_in(4) {
-            words.push(0xd000_0000)?;
+            let _ = words.try_push(0xd000_0000);
             lost = lost.saturating_add(1);
         } else {
-            words.extend_from_slice(frame)?;
+            let _ = words.try_extend_from_slice(frame);
         }
     }
-    Ok(Arrived { words, lost })
+    Arrived { words, lost }
 }

@@ -10,14 +10,11 @@ mod shore;
 mod tell;
 
 use run::Run;
-use std::alloc::AllocError;
 use std::io::Write;
 
-// Where memory runs out, what was gathered by then is written all the same.
-fn main(rt: HostRuntime) -> Result<(), AllocError> {
-    let mut run = Run::new(rt.alloc())?;
-    let ended = run.whole();
-    // What cannot be written is dropped.
-    let _ = rt.stdout().write_all(run.shore.text.as_bytes());
-    ended
+// What cannot be written is dropped.
+fn main(rt: HostRuntime) {
+    let mut run = Run::new();
+    run.whole();
+    let _ = rt.stdout().write_all(run.shore.text.as_str().as_bytes());
 }

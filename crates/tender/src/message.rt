@@ -1,5 +1,5 @@
 // The eight messages.
-use std::alloc::{AllocError, Global};
+use arrayvec::ArrayVec;
 
 // How many bytes message k has.
 fn size(k: u32) -> usize {
@@ -21,8 +21,12 @@ fn byte(k: u32, i: usize) -> u8 {
     ((a * 37 + i % 65536 * 7 + i % 65536 / 256 + 11) % 256) as u8
 }
 
-pub fn bytes(alloc: Global, k: u32) -> Result<Vec<u8>, AllocError> {
-    (0..size(k)).map(|i| byte(k, i)).collect(alloc)
+pub fn bytes(k: u32) -> ArrayVec<u8, 2046> {
+    let mut bytes = ArrayVec::new();
+    for i in 0..size(k) {
+        let _ = bytes.try_push(byte(k, i));
+    }
+    bytes
 }
 
 // m is message k.

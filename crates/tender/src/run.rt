@@ -1,10 +1,10 @@
 // The run: bursts of the boat, and what becomes of them.
 use crate::boat::Boat;
 use crate::channel;
-use crate::channel::Dice;
+use crate::channel::{Burst, Dice};
 use crate::shore::Shore;
 use crate::tell::Counts;
-use std::alloc::{AllocError, Global};
+use std::fmt::Write;
 use words::Head;
 
 // id: the number of the boat's burst. before: the burst that it sent last. polled: the boat heard that it is to send.
@@ -14,10 +14,9 @@ pub struct Run {
     boat: Boat,
     dice: Dice,
     id: u32,
-    before: Vec<u32>,
+    before: Burst,
     polled: bool,
     counts: Counts,
-    alloc: Global,
 }
 
 // The head is K_ACK or K_POLLACK to slot 0 for the burst with this number.
@@ -29,54 +28,52 @@ fn is_ack(head: Head, id: u32) -> bool {
 }
 
 impl Run {
-    pub fn new(alloc: Global) -> Result<Run, AllocError> {
-        Ok(Run {
-            shore: Shore::new(alloc)?,
-            boat: Boat::new(alloc)?,
+    pub fn new() -> Run {
+        Run {
+            shore: Shore::new(),
+            boat: Boat::new(),
             dice: Dice(20260717),
             id: 0,
-            before: Vec::new(alloc),
+            before: Burst::new(),
             polled: false,
             counts: Counts::default(),
-            alloc,
-        })
+        }
     }
 
     // The dice say how long the pieces of the boat's burst are and how many.
-    fn prepared(&mut self) -> Result<Vec<u32>, AllocError> {
+    fn prepared(&mut self) -> Burst {
         let max = (self.dice.draw() % 216) as usize + 40;
         let room = (self.dice.draw() % 9) as usize + 1;
         self.id = (self.id % 4 + 1) % 4;
         self.counts.bursts = bits::one_more(self.counts.bursts);
         self.shore.wait(2.0);
-        self.boat.burst(self.alloc, self.id, max, room)
+        self.boat.burst(self.id, max, room)
     }
 
     // This burst is lost one time in eight; each of its frames one time in four. The head of the answer to what arrives, which comes once more one time in
     // eight: the boat has heard the first answer.
-    fn arrives(&mut self, burst: &[u32]) -> Result<Option<Head>, AllocError> {
+    fn arrives(&mut self, burst: &[u32]) -> Option<Head> {
         if self.dice.one_in(8) {
             self.counts.gone = bits::one_more(self.counts.gone);
             let _not_again = self.dice.draw();
-            return Ok(None);
+            return None;
         }
-        let arrived = channel::through(self.alloc, &mut self.dice, burst)?;
+        let arrived = channel::through(&mut self.dice, burst);
         self.counts.lost = self.counts.lost.saturating_add(arrived.lost);
-        let head = self.shore.hears(&arrived.words)?;
+        let head = self.shore.hears(&arrived.words);
         if self.dice.one_in(8) && head.is_some() {
             self.counts.twice = bits::one_more(self.counts.twice);
-            let _second = self.shore.hears(&arrived.words)?;
+            let _second = self.shore.hears(&arrived.words);
         }
-        Ok(head)
+        head
     }
 
     // The burst before comes behind it, one time in eight.
-    fn late(&mut self) -> Result<(), AllocError> {
+    fn late(&mut self) {
         if self.dice.one_in(8) && !self.before.is_empty() {
             self.counts.late = bits::one_more(self.counts.late);
-            let _late = self.shore.hears(&self.before)?;
+            let _late = self.shore.hears(&self.before);
         }
-        Ok(())
     }
 
     // The answer is lost one time in eight; the next burst begins with the same throw.
@@ -99,13 +96,12 @@ impl Run {
         }
     }
 
-    fn exchange(&mut self) -> Result<(), AllocError> {
-        let burst = self.prepared()?;
-        let head = self.arrives(&burst)?;
-        self.late()?;
+    fn exchange(&mut self) {
+        let burst = self.prepared();
+        let head = self.arrives(&burst);
+        self.late();
         self.answered(self.heard_back(head), &burst);
         self.before = burst;
-        Ok(())
     }
 
     // All messages have landed, and the sending end holds none.
@@ -113,10 +109,10 @@ impl Run {
         7 < self.shore.landed && self.boat.pending() == 0
     }
 
-    pub fn whole(&mut self) -> Result<(), AllocError> {
+    pub fn whole(&mut self) {
         for _ in 0..3000 {
             if self.polled {
-                self.exchange()?;
+                self.exchange();
             } else {
                 self.polled = self.shore.decides();
             }
@@ -129,6 +125,6 @@ impl Run {
             pending: self.boat.pending(),
             ..self.counts
         };
-        write!(self.shore.text, "{counts}")
+        let _ = write!(self.shore.text, "{counts}");
     }
 }

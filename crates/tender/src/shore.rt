@@ -1,18 +1,19 @@
 // The shore station, and what it answers.
 use crate::message;
 use crate::tell::Landed;
+use arrayvec::ArrayString;
 use net::Station;
-use std::alloc::{AllocError, Global};
+use std::fmt::Write;
 use words::Head;
 
-// The station with its store, the time, how many messages have landed, and the lines on them.
+// The station with its store, the time, how many messages have landed, and the text with the lines on them: what would have no room in it is dropped.
 #[derive(Drop)]
 pub struct Shore {
     station: Station,
-    store: Vec<u8>,
+    store: [u8; 64000],
     now: f64,
     pub landed: usize,
-    pub text: String,
+    pub text: ArrayString<2048>,
 }
 
 // The head among the words, the last if there are more.
@@ -28,19 +29,19 @@ fn is_poll(head: Head) -> bool {
 
 impl Shore {
     // The boat with call `A` is admitted to slot 0.
-    pub fn new(alloc: Global) -> Result<Shore, AllocError> {
-        let store = vec![in alloc; 0u8; 64000]?;
+    pub fn new() -> Shore {
+        let store = [0u8; 64000];
         let mut out = [0u32; 8192];
         let r = station::start(preset::blank(), preset::tape_settings(), &store);
         let call = wire::calls::bytes_of(33120300224);
         let a = station::admit(r.station, call, 63, 0.0, &mut out);
-        Ok(Shore {
+        Shore {
             station: a.station,
             store,
             now: 0.0,
             landed: 0,
-            text: String::new(alloc),
-        })
+            text: ArrayString::new(),
+        }
     }
 
     // Time goes by.
@@ -54,7 +55,7 @@ impl Shore {
     }
 
     // A reception, and the end of the answer's sending: its head.
-    pub fn hears(&mut self, burst: &[u32]) -> Result<Option<Head>, AllocError> {
+    pub fn hears(&mut self, burst: &[u32]) -> Option<Head> {
         let mut out = [0u32; 8192];
         let r = station::receive(
             self.station,
@@ -68,7 +69,7 @@ impl Shore {
         let words = &out[..r.answer.unwrap_or(0).min(out.len())];
         for word in words {
             if word >> 28 == 2 {
-                self.lands(*word)?;
+                self.lands(*word);
             }
         }
         self.now += 1.0;
@@ -76,11 +77,11 @@ impl Shore {
         if head.is_some() {
             self.sent(self.now);
         }
-        Ok(head)
+        head
     }
 
     // Event 2: the message is read and held to what was posted.
-    fn lands(&mut self, word: u32) -> Result<(), AllocError> {
+    fn lands(&mut self, word: u32) {
         let cell = (word / 64 % 128) as usize;
         let number = word / 8192 % 256;
         let answer = station::read(self.station, &self.store, cell);
@@ -91,9 +92,8 @@ impl Shore {
             size: m.len(),
             same: message::is(m, number) && answer.is_ok(),
         };
-        writeln!(self.text, "{landed}")?;
+        let _ = writeln!(self.text, "{landed}");
         self.landed = self.landed.saturating_add(1);
-        Ok(())
     }
 
     // A next decision, and the end of its sending: whether it polls the boat. Nothing is posted, so no byte of the queue is sent.

@@ -8,75 +8,80 @@ mod sendings;
 mod turns;
 mod verdict;
 
+use arrayvec::ArrayString;
 use log::Log;
-use std::alloc::{AllocError, Global};
-use std::io::{self, BufRead, BufReader, Write};
+use std::fmt::Write;
+use std::io::{self, Stdout};
 use verdict::Outcome;
 
-// A line is read in parts of so many bytes, more than a word's.
-const PART: usize = 8192;
+// Standard input is read in parts of so many bytes.
+const PART: usize = 65536;
 
-// So many bytes are gathered, and a line more.
+// So many bytes are gathered, and a line has room behind them.
 const ENOUGH: usize = 57344;
 
-// Writes what is gathered; what can't be written is dropped.
-fn flush(said: &mut String, to: &mut impl Write) {
-    let _ = to.write_all(said.as_bytes());
-    said.clear();
+// The log that is being read, and the lines on those before it, gathered before they are written. What can't be written is dropped.
+#[derive(Drop)]
+struct Checked<'a> {
+    log: Log<'a>,
+    told: bool,
+    text: ArrayString<58368>,
+    to: Stdout,
 }
 
-// The line on a log.
-fn tell(log: &Log, said: &mut String) -> Result<(), AllocError> {
-    writeln!(said, "{}", Outcome::of(log))
+impl Checked<'_> {
+    fn flush(&mut self) {
+        let _ = io::Write::write_all(&mut self.to, self.text.as_str().as_bytes());
+        self.text.clear();
+    }
+
+    // The line on the log; the next one begins.
+    fn tell(&mut self) {
+        if ENOUGH <= self.text.len() {
+            self.flush();
+        }
+        let _ = writeln!(self.text, "{}", Outcome::of(&self.log));
+        self.log.clear();
+        self.told = true;
+    }
+
+    // The lines of a part of the input, of which the last may go on in the next. An empty line behind words ends a log.
+    fn feed(&mut self, part: &[u8]) {
+        for line in part.split_inclusive(|b| *b == b'\n') {
+            let whole = line.strip_suffix(b"\n");
+            self.log.bytes(whole.unwrap_or(line));
+            if whole.is_some() && !self.log.line_end() && !self.log.is_empty() {
+                self.tell();
+            }
+        }
+    }
+
+    // The input's end ends a line and a log. An input without any is one empty log.
+    fn end(&mut self) {
+        let _ = self.log.line_end();
+        if !self.told || !self.log.is_empty() {
+            self.tell();
+        }
+        self.flush();
+    }
 }
 
-// Every log of the input: an empty line behind words ends one, and so does the input's end. An input without any is one empty log. Of a line only the first part
-// counts: what is longer is no word.
-fn check_logs(
-    alloc: Global,
-    from: &mut impl BufRead,
-    to: &mut impl Write,
-    said: &mut String,
-) -> Result<(), AllocError> {
-    let mut log = Log::new(alloc);
-    let mut part = Vec::new(alloc);
-    let mut begins = true;
-    let mut told = false;
+// The whole input, at most 2^64 - 1 parts.
+fn main(rt: HostRuntime) {
+    let mut words = [0u32; log::MOST + 1];
+    let mut checked = Checked {
+        log: Log::new(&mut words),
+        told: false,
+        text: ArrayString::new(),
+        to: rt.stdout(),
+    };
+    let mut part = [0u8; PART];
     for _ in 0..u64::MAX {
-        if !text::read_part(from, &mut part, PART)? {
+        let n = text::read_full(rt.stdin(), &mut part);
+        checked.feed(&part[..n]);
+        if n < part.len() {
             break;
         }
-        let whole = part.strip_suffix(b"\n");
-        let digits = whole.unwrap_or(&part);
-        if begins && !digits.is_empty() {
-            log.push(text::hex_word(digits))?;
-        } else if begins && !log.is_empty() {
-            tell(&log, said)?;
-            log.clear();
-            told = true;
-        }
-        begins = whole.is_some();
-        if !begins && part.len() < PART {
-            break;
-        }
-        if ENOUGH <= said.len() {
-            flush(said, to);
-        }
     }
-    if !told || !log.is_empty() {
-        tell(&log, said)?;
-    }
-    Ok(())
-}
-
-// Where memory runs short, what was gathered is written before that is answered.
-fn main(rt: HostRuntime) -> io::Result<()> {
-    let alloc = rt.alloc();
-    let mut from = BufReader::new(alloc, rt.reader())?;
-    let mut to = rt.stdout();
-    let mut said = String::new(alloc);
-    let checked = check_logs(alloc, &mut from, &mut to, &mut said);
-    flush(&mut said, &mut to);
-    checked?;
-    Ok(())
+    checked.end();
 }
